@@ -1,10 +1,10 @@
--- Newton's steps down to the root of a squared distance.
+-- Newton's iteration down to the root of a squared distance.
 use Rattle.std.proofs.Common.{◌≡◌, ◌⊎◌, inl, inr, ℕ, ◌+◌, ◌*◌, ◌/◌, ◌^◌, ◌<◌, ◌≤◌, pos, unsigned_abs, ap, arith}
 use Rattle.std.proofs.lemmas.Nat.{mul-le, pow-add}
 use Rattle.std.proofs.Math.Nat.{div-mul-le_self, pow-le-pow_right}
 use Rattle.std.proofs.lemmas.Bool.{cases_lt}
 use Rattle.arith.specs.Root.{root_of}
-use Rattle.arith.proofs.RootLemmas.{step_above, some_root, root_gives}
+use Rattle.arith.proofs.RootLemmas.{iterate_above, some_root, root_gives}
 
 -- the power of 2 near the root
 few_digits : (n log : ℕ) → 2 ^ log ≤ n → n ≤ 2000000 → log ≤ 20
@@ -45,10 +45,10 @@ start_is n log most low high =
     let up : 2 ^ log ≤ 2 ^ (k + k) = pow-le-pow_right {n = 2} (omega arith) {i = log} {j = k + k} (omega arith) in
     record { some = omega arith; most = omega arith; often = goes_less n p (2 * p) (omega arith) }
 
--- the guess after it, and a further step from there, which leads up by 1 at most
+-- the guess after it, and a further iterate from there, which leads up by 1 at most
 pub first_near : (n power : ℕ) → 0 < n → IsStart n power → IsNear n ((power + n / power) / 2)
 first_near n power some is =
-    let above = step_above n power is.some in
+    let above = iterate_above n power is.some in
     record {
       above = above;
       some = some_root n ((power + n / power) / 2) some above;
@@ -61,18 +61,18 @@ first_bound n power is = omega (arith, is.most, is.often)
 pub second_near : (n guess : ℕ) → 0 < n → IsNear n guess → guess ≤ 1536 → IsNear n ((guess + n / guess) / 2)
 second_near n guess some near most =
     let often : n / guess < guess + 3 = goes_less n guess (guess + 3) (omega (arith, near.above, near.some)) in
-    let above = step_above n guess near.some in
+    let above = iterate_above n guess near.some in
     record {
       above = above;
       some = some_root n ((guess + n / guess) / 2) some above;
       bound = omega (arith, most, often);
     }
 
--- a step from a guess above the root leads down, and not below the root
+-- an iterate from a guess above the root leads down, and not below the root
 pub next_near : (n guess : ℕ) → 0 < n → IsNear n guess → n < guess * guess → IsNear n ((guess + n / guess) / 2)
 next_near n guess some near over =
     let less = goes_less n guess guess over in
-    let above = step_above n guess near.some in
+    let above = iterate_above n guess near.some in
     record {
       above = above;
       some = some_root n ((guess + n / guess) / 2) some above;

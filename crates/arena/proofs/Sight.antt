@@ -9,7 +9,7 @@ use Rattle.arith.specs.Bearing.{bearing_of}
 use Rattle.arena.specs.Field.{FieldRobot, is_alive, metres_x, metres_y}
 use Rattle.arena.specs.Collisions.{square}
 use Rattle.arena.specs.Scan.{east_to, north_to, in_arc, sees}
-use Rattle.arena.specs.Nearer.{arc_contains, square_of, square_to}
+use Rattle.arena.specs.Nearer.{arc_contains, squared_length, square_to}
 
 either : (b : Bool) → (b || true) ≡ true
 either true = refl
@@ -78,13 +78,13 @@ seen_leads a b degree resolution seen = second (is_alive b) _ (sym (sees_by_way 
 way_length : (a b : ℕ) → unsigned_abs (pos b -ℤ pos a) ≡ abs_diff a b
 way_length a b = omega (arith, ints)
 
-square_by_way : (a b : FieldRobot) → square_to a b ≡ square_of (east_to a b) (north_to a b)
-unfolding square_to square square_of east_to north_to
+square_by_way : (a b : FieldRobot) → square_to a b ≡ squared_length (east_to a b) (north_to a b)
+unfolding square_to square squared_length east_to north_to
 square_by_way a b = rw (way_length (metres_x a) (metres_x b), way_length (metres_y a) (metres_y b)) refl
 
 pub seen_so_far : (a : FieldRobot) (degree resolution : ℕ) (b : FieldRobot) (so_far : ℕ) → is_alive b ≡ true →
     cond (sees a degree resolution b) (min so_far (square_to a b)) so_far ≡
     cond (arc_contains (east_to a b) (north_to a b) degree resolution)
-    (min so_far (square_of (east_to a b) (north_to a b))) so_far
+    (min so_far (squared_length (east_to a b) (north_to a b))) so_far
 seen_so_far a degree resolution b so_far live =
     rw (sees_by_way a b degree resolution, live, square_by_way a b) refl

@@ -18,8 +18,8 @@ arc_contains east north degree resolution =
     (int_eq east (pos 0) && int_eq north (pos 0)) || nat_le (apart (bearing_of east north) degree) resolution
 
 -- its squared length
-unfoldable pub square_of : ℤ → ℤ → ℕ
-square_of east north = unsigned_abs east * unsigned_abs east + unsigned_abs north * unsigned_abs north
+unfoldable pub squared_length : ℤ → ℤ → ℕ
+squared_length east north = unsigned_abs east * unsigned_abs east + unsigned_abs north * unsigned_abs north
 
 -- ranges compare as these do: the squared distance in whole metres
 unfoldable pub square_to : FieldRobot → FieldRobot → ℕ

@@ -5,7 +5,7 @@ ghost use Rattle.arith.specs.Root.{root_of};
 ghost use Rattle.arena.specs.Field.{FieldRobot, Field, robot_at};
 ghost use Rattle.arena.specs.Collisions.{others};
 ghost use Rattle.arena.specs.Scan.{sees, scanned};
-ghost use Rattle.arena.specs.Nearer.{IsAtMetres, IsLeast, IsSquare, arc_contains, range_at, square_of, square_to};
+ghost use Rattle.arena.specs.Nearer.{IsAtMetres, IsLeast, IsSquare, arc_contains, range_at, squared_length, square_to};
 ghost use Rattle.arena.specs.Arena.{robot_of};
 
 use crate::arcs::Arc;
@@ -73,7 +73,7 @@ fn nearer(from: &MetrePoint, arc: &Arc, other: &Robot, so_far: u32) -> u32
 fn shorter(way: &Way, arc: &Arc, so_far: u32) -> u32
     requires so_far { IsSquare so_far }
     ensures value { result ≡ (if arc_contains way.now.east way.now.north arc.now.degree arc.now.resolution
-        then min so_far (square_of way.now.east way.now.north) else so_far) }
+        then min so_far (squared_length way.now.east way.now.north) else so_far) }
     ensures square { IsSquare result }
     ensures seen { arc_contains way.now.east way.now.north arc.now.degree arc.now.resolution ≡ true
         → result ≤ MOST_SQUARE }
@@ -96,9 +96,9 @@ fn range_at(square: u32) -> u16
     whole_root(square.max(1))
 }
 
-/// Returns the whole root of a squared distance, by Newton's steps down from a guess that isn't below it. `arith::root`
-/// is the same number, with one or two divisions more: it begins further above the root, and ends with a step that
-/// leads no further down.
+/// Returns the whole root of a squared distance, by Newton's iteration down from a guess that isn't below it.
+/// `arith::root` is the same number, with one or two divisions more: it begins further above the root, and ends with an
+/// iterate that leads no further down.
 fn whole_root(square: u32) -> u16
     requires some { 0 < square }
     requires most { square ≤ MOST_SQUARE }
@@ -106,13 +106,13 @@ fn whole_root(square: u32) -> u16
 {
     let mut guess = near_root(square);
     while square < guess * guess {
-        guess = newton_step(square, guess);
+        guess = newton_iterate(square, guess);
     }
     guess as u16
 }
 
-/// Returns a guess that isn't below the root of a squared distance, and hardly above it: two steps from a power of 2
-/// near the root.
+/// Returns a guess that isn't below the root of a squared distance, and hardly above it: the second
+/// iterate from a power of 2 near the root.
 fn near_root(square: u32) -> u32
     requires some { 0 < square }
     requires most { square ≤ MOST_SQUARE }
@@ -120,11 +120,11 @@ fn near_root(square: u32) -> u32
     ensures bound { result ≤ 2000 }
 {
     let power = 1 << ((square.ilog2() + 1) / 2);
-    newton_step(square, newton_step(square, power))
+    newton_iterate(square, newton_iterate(square, power))
 }
 
 /// Returns the mean of a guess and of a square divided by it, which is at least the root.
-fn newton_step(square: u32, guess: u32) -> u32
+fn newton_iterate(square: u32, guess: u32) -> u32
     requires some { 0 < guess }
     requires square { square ≤ MOST_SQUARE }
     requires guess { guess ≤ 2000 }

@@ -3,7 +3,7 @@
 ghost use Rattle.std.specs.Prelude.{◌≡◌, ◌≤◌, true, false, pos, unsigned_abs};
 ghost use Rattle.arena.specs.Field.{FieldRobot};
 ghost use Rattle.arena.specs.Scan.{east_to, north_to};
-ghost use Rattle.arena.specs.Nearer.{IsAtMetres, square_of};
+ghost use Rattle.arena.specs.Nearer.{IsAtMetres, squared_length};
 ghost use Rattle.arena.specs.Arena.{robot_of};
 ghost use Rattle.arena.specs.declared.rules.TheConstants.{LAST_METRE};
 
@@ -67,7 +67,7 @@ impl Way {
 
     /// Returns the squared length.
     pub fn square(&self) -> u32
-        ensures value { result ≡ square_of self.now.east self.now.north }
+        ensures value { result ≡ squared_length self.now.east self.now.north }
         ensures most { result ≤ MOST_SQUARE }
     {
         (self.east * self.east + self.north * self.north) as u32

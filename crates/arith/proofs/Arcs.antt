@@ -115,61 +115,61 @@ second_fails false b q = refl
 -- an arc from a degree on that the bearing is t degrees into, and of this width
 starts : (dx dy : ℤ) (b t first before : ℕ) → (dx ≡ pos 0 → dy ≡ pos 0 → ⊥) → IsBearing dx dy b → t ≤ 178 →
     first ≡ (b + 360 - t) % 360 → before ≡ (b + 359 - t) % 360 → leads dx dy first before ≡ true
-starts dx dy b t first before some is near p q = by_place (cases_lt 0 t)
+starts dx dy b t first before some is near p q = by_distance (cases_lt 0 t)
   where
     round : b < 360
     round = is.on_the_round
 
-    by_place : ((0 < t) ⊎ (t ≤ 0)) → leads dx dy first before ≡ true
-    by_place (inl some_way) =
+    by_distance : ((0 < t) ⊎ (t ≤ 0)) → leads dx dy first before ≡ true
+    by_distance (inl some_way) =
         leads_farther dx dy first before (before_trails dx dy b t before first some is some_way near q p)
-    by_place (inr none) =
+    by_distance (inr none) =
         let here : b ≡ first = omega arith in
         subst (λ d. leads dx dy d before ≡ true) here (bearing_leads dx dy b before is (omega arith) (λ e. omega arith))
 
 ends : (dx dy : ℤ) (b s last after : ℕ) → (dx ≡ pos 0 → dy ≡ pos 0 → ⊥) → IsBearing dx dy b → s ≤ 178 →
     last ≡ (b + s) % 360 → after ≡ (b + s + 1) % 360 → leads dx dy last after ≡ true
-ends dx dy b s last after some is near p q = by_place (cases_lt 0 s)
+ends dx dy b s last after some is near p q = by_distance (cases_lt 0 s)
   where
     round : b < 360
     round = is.on_the_round
 
-    by_place : ((0 < s) ⊎ (s ≤ 0)) → leads dx dy last after ≡ true
-    by_place (inl some_way) =
+    by_distance : ((0 < s) ⊎ (s ≤ 0)) → leads dx dy last after ≡ true
+    by_distance (inl some_way) =
         leads_farther dx dy last after (after_trails dx dy b s last after some is some_way near p q)
-    by_place (inr none) =
+    by_distance (inr none) =
         let here : b ≡ last = omega arith in
         subst (λ d. leads dx dy d after ≡ true) here (bearing_leads dx dy b after is (omega arith) (λ e. omega arith))
 
 -- an arc that ends u degrees before the bearing, or begins v degrees after it
 ends_early : (dx dy : ℤ) (b u last after : ℕ) → (dx ≡ pos 0 → dy ≡ pos 0 → ⊥) → IsBearing dx dy b → 1 ≤ u → u ≤ 179 →
     last ≡ (b + 360 - u) % 360 → after ≡ (b + 361 - u) % 360 → leads dx dy last after ≡ false
-ends_early dx dy b u last after some is low high p q = by_place (cases_lt 1 u)
+ends_early dx dy b u last after some is low high p q = by_distance (cases_lt 1 u)
   where
     round : b < 360
     round = is.on_the_round
 
-    by_place : ((1 < u) ⊎ (u ≤ 1)) → leads dx dy last after ≡ false
-    by_place (inl far) =
+    by_distance : ((1 < u) ⊎ (u ≤ 1)) → leads dx dy last after ≡ false
+    by_distance (inl far) =
         trails_nearer dx dy last after
         (before_trails dx dy b (u - 1) last after some is (omega arith) (omega arith) (omega arith) (omega arith))
-    by_place (inr near) =
+    by_distance (inr near) =
         let here : b ≡ after = omega arith in
         subst (λ d. leads dx dy last d ≡ false) here
         (bearing_trails_none dx dy b last is (omega arith) (λ e. omega arith))
 
 starts_late : (dx dy : ℤ) (b v first before : ℕ) → (dx ≡ pos 0 → dy ≡ pos 0 → ⊥) → IsBearing dx dy b → 1 ≤ v → v ≤ 179 →
     first ≡ (b + v) % 360 → before ≡ (b + v - 1) % 360 → leads dx dy first before ≡ false
-starts_late dx dy b v first before some is low high p q = by_place (cases_lt 1 v)
+starts_late dx dy b v first before some is low high p q = by_distance (cases_lt 1 v)
   where
     round : b < 360
     round = is.on_the_round
 
-    by_place : ((1 < v) ⊎ (v ≤ 1)) → leads dx dy first before ≡ false
-    by_place (inl far) =
+    by_distance : ((1 < v) ⊎ (v ≤ 1)) → leads dx dy first before ≡ false
+    by_distance (inl far) =
         trails_nearer dx dy first before
         (after_trails dx dy b (v - 1) before first some is (omega arith) (omega arith) (omega arith) (omega arith))
-    by_place (inr near) =
+    by_distance (inr near) =
         let here : b ≡ before = omega arith in
         subst (λ d. leads dx dy first d ≡ false) here
         (bearing_trails_none dx dy b first is (omega arith) (λ e. omega arith))
@@ -218,7 +218,7 @@ decides_at : (dx dy : ℤ) (b t degree spread first before last after : ℕ) →
     (leads dx dy first before && leads dx dy last after) ≡ nat_le (apart b degree) spread
 unfolding apart
 decides_at dx dy b t degree spread first before last after some is on into round small f g l m =
-    by_place (cases_lt (2 * spread) t)
+    by_distance (cases_lt (2 * spread) t)
   where
     beyond : 2 * spread < t → ((179 < t - 2 * spread) ⊎ (t - 2 * spread ≤ 179)) → ((179 < 360 - t) ⊎ (360 - t ≤ 179)) →
         (leads dx dy first before && leads dx dy last after) ≡ false
@@ -233,12 +233,12 @@ decides_at dx dy b t degree spread first before last after some is on into round
         subst (λ d. (leads dx dy first before && leads dx dy d after) ≡ false) same
         (opposite_trails dx dy b first before after some is (omega arith) (omega arith) (omega arith))
 
-    by_place : ((2 * spread < t) ⊎ (t ≤ 2 * spread)) →
+    by_distance : ((2 * spread < t) ⊎ (t ≤ 2 * spread)) →
         (leads dx dy first before && leads dx dy last after) ≡ nat_le (apart b degree) spread
-    by_place (inl h) =
+    by_distance (inl h) =
         beyond h (cases_lt 179 (t - 2 * spread)) (cases_lt 179 (360 - t)) ∙
         sym (outside (apart b degree) spread (omega arith))
-    by_place (inr h) =
+    by_distance (inr h) =
         both (leads dx dy first before) (leads dx dy last after)
         (starts dx dy b t first before some is (omega arith) (omega arith) (omega arith))
         (ends dx dy b (2 * spread - t) last after some is (omega arith) (omega arith) (omega arith))

@@ -42,10 +42,10 @@ pub sine_fits : (i : ℕ) → FitsSigned w32 (round_sine i)
 sine_fits i = let bound = sine_bound (i % 360) (omega arith) in fits_signed_from_abs w32 (round_sine i) (omega arith)
 
 -- numbers that fit are the same after a way through their bits
-pub bits_and_back : (f : ℕ → ℤ) → ((i : ℕ) → FitsSigned w32 (f i)) → (places : List ℕ) →
-    map (to_z w32) (map (of_z w32) (map f places)) ≡ map f places
+pub bits_and_back : (f : ℕ → ℤ) → ((i : ℕ) → FitsSigned w32 (f i)) → (indices : List ℕ) →
+    map (to_z w32) (map (of_z w32) (map f indices)) ≡ map f indices
 bits_and_back f fits [] = refl
-bits_and_back f fits (i ∷ places) = rw (to_z-of_z w32 (f i) (fits i), bits_and_back f fits places)
+bits_and_back f fits (i ∷ indices) = rw (to_z-of_z w32 (f i) (fits i), bits_and_back f fits indices)
 
 drop-range : (i a b m n : ℕ) → b ≡ a + i → m ≡ i + n → drop i (range_with_len a m) ≡ range_with_len b n
 drop-range zero a b m n p q = let from : a ≡ b = omega arith in let size : m ≡ n = omega arith in cc

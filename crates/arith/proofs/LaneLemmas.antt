@@ -150,19 +150,19 @@ lane_within p (x ∷ xs) h = step (p x) (lane_within p xs) h
     step false rest h = let within = rest (omega arith) in omega arith
 
 -- the index of a lane, by how many come before it
-place_is : {X : Type 0} (p : X → Bool) (xs : List X) (n : ℕ) (b : Bool) → n ≡ prefix_len (λ x. not (p x)) xs →
+lane_is : {X : Type 0} (p : X → Bool) (xs : List X) (n : ℕ) (b : Bool) → n ≡ prefix_len (λ x. not (p x)) xs →
     nat_lt n (length xs) ≡ b → cond b (Some n) None ≡ position p xs
-place_is p xs n b e t = rw (← t, e)
+lane_is p xs n b e t = rw (← t, e)
 
 pub no_lane : {X : Type 0} (p : X → Bool) (xs : List X) → mask_l (map p xs) ≡ 0 → None ≡ position p xs
-no_lane p xs h = place_is p xs (length xs) false (sym (leading_from_mask_l p xs h)) (grind (arith, nat_tests))
+no_lane p xs h = lane_is p xs (length xs) false (sym (leading_from_mask_l p xs h)) (grind (arith, nat_tests))
 
 pub first_lane : {X : Type 0} (p : X → Bool) (xs : List X) → length xs ≡ 8 → 0 < mask_l (map p xs) →
     Some (count_trailing_zeros 64 (mask_l (map p xs))) ≡ position p xs
 first_lane p xs size h =
-    let place = trailing_mask_l p 64 xs (omega arith) h in
+    let lane = trailing_mask_l p 64 xs (omega arith) h in
     let within = lane_within p xs h in
-    place_is p xs (count_trailing_zeros 64 (mask_l (map p xs))) true place (rw place (grind (arith, nat_tests)))
+    lane_is p xs (count_trailing_zeros 64 (mask_l (map p xs))) true lane (rw lane (grind (arith, nat_tests)))
 
 -- the reaches of a chunk fit
 pub reaches_fit : (dx dy : ℤ) → unsigned_abs dx ≤ 999 → unsigned_abs dy ≤ 999 → (first : ℕ) → first + 8 ≤ 360 →

@@ -26,7 +26,7 @@ one_root r s n a b =
     let high = root_le s r n b.square a.next_square in
     omega arith
 
--- one step: from the root of a quarter
+-- one digit: from the root of a quarter
 doubled : (q n : ℕ) → Straddles q (n / 4) →
     Straddles (cond (nat_le ((2 * q + 1) * (2 * q + 1)) n) (2 * q + 1) (2 * q)) n
 doubled q n s =
@@ -52,7 +52,7 @@ root_gives a r small square next_square =
     (one_root r _ (unsigned_abs a) (record { square = square; next_square = next_square })
     (root_by_quarters_is 16 (unsigned_abs a) (omega arith)))
 
-pub ruleset root_steps = (to_z-of_z, to_z_pos, root_gives)
+pub ruleset root_rules = (to_z-of_z, to_z_pos, root_gives)
 
 -- four times a product is at most the square of the sum
 sum_squared : (a b : ℕ) → 4 * (a * b) ≤ (a + b) * (a + b)
@@ -61,9 +61,9 @@ sum_squared a b = elim (cases_lt a b) [
   | inr h ↦ let d = a - b in let e : a ≡ b + d = omega arith in rw e (omega arith)
 ]
 
--- Newton's step from a guess that isn't 0 isn't below the root, nor below a guess that isn't above the root
-pub step_above : (n guess : ℕ) → 0 < guess → n < ((guess + n / guess) / 2 + 1) * ((guess + n / guess) / 2 + 1)
-step_above n guess some =
+-- Newton's iterate from a guess that isn't 0 isn't below the root, nor below a guess that isn't above the root
+pub iterate_above : (n guess : ℕ) → 0 < guess → n < ((guess + n / guess) / 2 + 1) * ((guess + n / guess) / 2 + 1)
+iterate_above n guess some =
     let q = n / guess in
     let y = (guess + n / guess) / 2 in
     let less : n < q * guess + guess = lt-div-mul-add {a = n} {b = guess} some in

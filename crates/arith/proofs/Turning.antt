@@ -181,8 +181,8 @@ turns_left_by zero r m small below near =
     let s = m - (r + 1) in
     let row = passes_at turns_from 90 first_quarter r small in
     let test = passes_at (λ s. turns (edge_x r) (edge_y r) (r + 1 + s)) 179 row s (omega arith) in
-    let place : r + 1 + s ≡ m = omega arith in
-    let here : turns (edge_x r) (edge_y r) m ≡ true = ap (turns (edge_x r) (edge_y r)) (sym place) ∙ test in
+    let sum : r + 1 + s ≡ m = omega arith in
+    let here : turns (edge_x r) (edge_y r) m ≡ true = ap (turns (edge_x r) (edge_y r)) (sym sum) ∙ test in
     let Turns : ℕ → Type 0 = λ k. pos 0 <ℤ cross k m in
     subst Turns (omega arith) (is_above (cross r m) here)
 turns_left_by (suc q) r m small below near =

@@ -6,7 +6,7 @@ ghost use Rattle.arith.specs.GreatestRoot.{IsRoot};
 
 /// Returns the whole square root of a number's size, the greatest n with n * n at most |a|, for any number a
 /// (docs/numbers.md, "Root").
-#[tactic(auto, using(crate::proofs::RootLemmas::root_steps))]
+#[tactic(auto, using(crate::proofs::RootLemmas::root_rules))]
 pub fn root(number: i32) -> i32
     ensures greatest { IsRoot number result }
     ensures value { result ≡ root_of number }
@@ -14,8 +14,8 @@ pub fn root(number: i32) -> i32
     whole_root(number.unsigned_abs()) as i32
 }
 
-/// Returns the whole square root, by Newton's steps down from a guess above it: a step that leads no further down
-/// starts from the root.
+/// Returns the whole square root, by Newton's iteration down from a guess above it: an iterate that leads no
+/// further down comes from the root.
 fn whole_root(square: u32) -> u32
     requires { square ≤ 2 ^ 31 }
     ensures fits { result * result ≤ square }
@@ -26,10 +26,10 @@ fn whole_root(square: u32) -> u32
         return 0;
     }
     let mut guess = guess_above(square);
-    let mut next = newton_step(square, guess);
+    let mut next = newton_iterate(square, guess);
     while next < guess {
         guess = next;
-        next = newton_step(square, guess);
+        next = newton_iterate(square, guess);
     }
     guess
 }
@@ -47,7 +47,7 @@ fn guess_above(square: u32) -> u32
 
 /// Returns the mean of a guess and of how often it goes into the square: it isn't below the root, and it isn't below
 /// the guess only if the guess isn't above the root.
-fn newton_step(square: u32, guess: u32) -> u32
+fn newton_iterate(square: u32, guess: u32) -> u32
     requires most { square ≤ 2 ^ 31 }
     requires some { 0 < guess }
     requires bound { guess ≤ 2 ^ 16 }

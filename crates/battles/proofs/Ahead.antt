@@ -140,7 +140,7 @@ come_alone robots exes next w n i runners arena grown opened exe none after free
     let lengths = traces_length runners exes s.traces come.reached.traces in
     let on = gone.on (behaviour_at robots i) s.field (get_or s.traces i []) robot come.reached.field at in
     let ready : RunsAlone (behaviour_at robots i) i s.field (get_or s.traces i []) n ⊎ OthersArePast (4 * w) i next =
-    elim on.steps as
+    elim on.turns as
     (λ r. RunsAlone (behaviour_at robots i) i s.field (get_or s.traces i []) n ⊎ OthersArePast (4 * w) i next) [
       | inl runs ↦ inl runs
       | inr drawn ↦ inr (past drawn)
@@ -186,7 +186,7 @@ come_on robots exes next w n i runners arena grown opened exe none after free ar
     let long : length (set s.traces i stepped.1) ≡ length s.traces = length-set s.traces i stepped.1 in
     let ready : RunsAlone (behaviour_at robots i) i stepped.0 (get_or (set s.traces i stepped.1) i []) n ⊎
     OthersArePast (4 * w) i later =
-    elim on.steps as
+    elim on.turns as
     (λ r. RunsAlone (behaviour_at robots i) i stepped.0 (get_or (set s.traces i stepped.1) i []) n ⊎
     OthersArePast (4 * w) i later) [
       | inl runs ↦ inl (rw same runs)

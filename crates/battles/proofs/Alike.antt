@@ -60,8 +60,8 @@ all_front P l k all = λ i d inside.
 
 pub all_back : (P : Shot → Type 0) (l k : List Shot) → All P (l ++ k) → All P k
 all_back P l k all = λ i d inside.
-    let place : length l + i - length l ≡ i = omega arith in
-    subst P (get_or-append_right l k (length l) (length l + i) d refl (omega arith) ∙ ap (λ j. get_or k j d) place)
+    let sum : length l + i - length l ≡ i = omega arith in
+    subst P (get_or-append_right l k (length l) (length l + i) d refl (omega arith) ∙ ap (λ j. get_or k j d) sum)
     (all (length l + i) d (omega (arith, length-append l k)))
 
 -- the same shots more

@@ -1,4 +1,4 @@
--- A robot that runs alone: quiet cycles, and steps one after the other.
+-- A robot that runs alone: quiet cycles, and turns one after the other.
 use Rattle.std.proofs.Common.{◌≡◌, ℕ, ◌+◌, ◌-◌, ◌<◌, ◌≤◌, zero, suc, true, false, ℤ, pos, List, [], ◌∷◌, ◌++◌, replicate, append_assoc, ◌⊎◌, inl, inr, refl, sym, ap, ◌∙◌, arith, add-one}
 use Rattle.std.proofs.lemmas.Bool.{cases_lt, false≢true}
 use Rattle.std.proofs.lemmas.List.{replicate_more, append-nil}
@@ -17,7 +17,7 @@ use Rattle.engine.specs.Executables.{Executable}
 use Rattle.engine.specs.Engines.{EngineIsReached}
 use Rattle.battles.specs.Carrying.{Runner, IsRobotOf, IsAheadOf}
 use Rattle.battles.specs.Battle.{Behaviour, after_want, robot_turn}
-use Rattle.battles.specs.Intervals.{IsAlone, StepsAlone, RunsAlone, HasRunAlone, alone}
+use Rattle.battles.specs.Intervals.{IsAlone, TurnIsAlone, RunsAlone, HasRunAlone, alone}
 use Rattle.battles.proofs.Commuting.{step_lives}
 use Rattle.battles.proofs.Running.{Coasts, at_end, at_less, at_more, quiet_less}
 
@@ -31,7 +31,7 @@ pub alone_next : (r : Behaviour) (i : ℕ) (f : Field) (trace : List ℤ) (n : �
 unfolding alone
 alone_next r i f trace n = rw add-one refl
 
--- some steps, and some more
+-- some turns, and some more
 alone_plus : (r : Behaviour) (i : ℕ) (f : Field) (trace : List ℤ) (n k : ℕ)
     → alone r i f trace (n + k) ≡ alone r i (alone r i f trace n).0 (alone r i f trace n).1 k
 unfolding alone
@@ -49,7 +49,7 @@ alone_lives r i f trace (suc n) =
     step_lives r i (alone r i f trace n).0 (alone r i f trace n).1 ∙ alone_lives r i f trace n
 
 pub runs_next : (r : Behaviour) (i : ℕ) (f : Field) (trace : List ℤ) (n : ℕ) → RunsAlone r i f trace n
-    → StepsAlone r i (alone r i f trace n).0 (alone r i f trace n).1 → RunsAlone r i f trace (n + 1)
+    → TurnIsAlone r i (alone r i f trace n).0 (alone r i f trace n).1 → RunsAlone r i f trace (n + 1)
 runs_next r i f trace n runs steps k within = elim (cases_lt k n) [
   | inl before ↦ runs k before
   | inr last ↦ let same : k ≡ n = omega arith in rw same steps
@@ -61,7 +61,7 @@ runs_plus r i f trace n zero runs more =
     let same : n + 0 ≡ n = omega arith in rw same runs
 runs_plus r i f trace n (suc k) runs more =
     let next : n + suc k ≡ n + k + 1 = omega arith in
-    let last : StepsAlone r i (alone r i f trace (n + k)).0 (alone r i f trace (n + k)).1 =
+    let last : TurnIsAlone r i (alone r i f trace (n + k)).0 (alone r i f trace (n + k)).1 =
     rw (alone_plus r i f trace n k) (more k (omega arith)) in
     rw next (runs_next r i f trace (n + k) (runs_plus r i f trace n k runs (λ j low. more j (omega arith))) last)
 
@@ -112,7 +112,7 @@ pub dead_runs : (free : Type 0) (r : Behaviour) (i : ℕ) (f : Field) (trace : L
     → is_live_at f i ≡ false → RepresentsField arena f → IsAheadOf runner exe trace →
     HasRunAlone free r i f trace n exe runner arena
 dead_runs free r i f trace n exe runner arena dead field at = record {
-  steps = inl (λ k within live. absurd (false≢true (sym dead ∙ sym (alone_lives r i f trace k) ∙ live)));
+  turns = inl (λ k within live. absurd (false≢true (sym dead ∙ sym (alone_lives r i f trace k) ∙ live)));
   stands = rw (dead_alone r i f trace n dead) field;
   at = rw (dead_alone r i f trace n dead) at;
 }
@@ -136,7 +136,7 @@ to_begin free r i f trace most exe runner arena field at =
       within = omega arith;
       below = omega arith;
       ran = record {
-        steps = inl (λ k within. absurd (omega arith));
+        turns = inl (λ k within. absurd (omega arith));
         stands = rw (alone_none r i f trace) field;
         at = rw (alone_none r i f trace, all) at;
       };
@@ -154,7 +154,7 @@ to_coast free r i f trace cycle most n exe machine after arena on to =
       within = omega (arith, to.within);
       below = to.below;
       ran = record {
-        steps = to.ran.steps;
+        turns = to.ran.turns;
         stands = to.ran.stands;
         at = rw further (at_more machine after (cycle - to.run) n exe (alone r i f trace to.run).1 to.ran.at on);
       };
@@ -178,7 +178,7 @@ to_cycle free r i f trace cycle most end exe machine arena is live to from withi
     let all : alone r i f trace end ≡ (field, replies ++ replicate k (pos 0)) =
     ap (alone r i f trace) (sym sum) ∙ alone_plus r i f trace n k ∙ quiet_alone r i field replies k lives quiet in
     record {
-      steps = elim to.ran.steps as (λ s. RunsAlone r i f trace end ⊎ free) [
+      turns = elim to.ran.turns as (λ s. RunsAlone r i f trace end ⊎ free) [
         | inl runs ↦ inl (rw sum at (runs_plus r i f trace n k runs (quiet_runs r i field replies k lives quiet)))
         | inr drawn ↦ inr drawn
       ];
@@ -200,7 +200,7 @@ to_stop free r i f trace cycle most exe machine arena is live to =
 pub to_next : (free : Type 0) (r : Behaviour) (i : ℕ) (f : Field) (trace : List ℤ) (cycle most : ℕ) (exe : Executable)
     (machine : Engine) (arena : Arena)
     → cycle < most → RunsAlone r i f trace cycle ⊎ free
-    → StepsAlone r i (alone r i f trace cycle).0 (alone r i f trace cycle).1 ⊎ free
+    → TurnIsAlone r i (alone r i f trace cycle).0 (alone r i f trace cycle).1 ⊎ free
     → RepresentsField arena (robot_turn r i (alone r i f trace cycle).0 (alone r i f trace cycle).1).0
     → EngineIsReached machine exe (robot_turn r i (alone r i f trace cycle).0 (alone r i f trace cycle).1).1
     → RunsTo free r i f trace (cycle + 1) most exe machine arena
@@ -209,7 +209,7 @@ to_next free r i f trace cycle most exe machine arena below runs steps field sta
   within = omega arith;
   below = omega arith;
   ran = record {
-    steps = elim runs as (λ s. RunsAlone r i f trace (cycle + 1) ⊎ free) [
+    turns = elim runs as (λ s. RunsAlone r i f trace (cycle + 1) ⊎ free) [
       | inl before ↦ elim steps as (λ s. RunsAlone r i f trace (cycle + 1) ⊎ free) [
         | inl last ↦ inl (runs_next r i f trace cycle before last)
         | inr drawn ↦ inr drawn

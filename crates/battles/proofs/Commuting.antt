@@ -17,7 +17,7 @@ use Rattle.arena.specs.Scan.{east_to, north_to, in_arc, sees, range_of, nearest,
 use Rattle.code.specs.declared.want.Want.{Want}
 use Rattle.code.specs.declared.want.Want.TheVariants.{Ask}
 use Rattle.battles.specs.Battle.{Behaviour, BattleState, after_want, robot_turn, behaviour_at, turn}
-use Rattle.battles.specs.Intervals.{IsAlone, StepsAlone, SameShots, AreAlike, IsLike, draws_random}
+use Rattle.battles.specs.Intervals.{IsAlone, TurnIsAlone, SameShots, AreAlike, IsLike, draws_random}
 use Rattle.battles.proofs.Alike.{like_refl, air_append, all_front, all_back, pushed, fires}
 
 robots_of_fired : (f : Field) (i degree range : ℕ) → (fired f i degree range).1.robots ≡ f.robots
@@ -355,7 +355,7 @@ step_lives robot i f trace = elim (cases_Bool (is_live_at f i)) [
 ]
 
 -- The same of two robots: the first one's step is one that it does alone.
-steps_alike : (robot other : Behaviour) (i j : ℕ) (f : Field) (trace others : List ℤ) → StepsAlone robot i f trace →
+steps_alike : (robot other : Behaviour) (i j : ℕ) (f : Field) (trace others : List ℤ) → TurnIsAlone robot i f trace →
     i ≢ j
     →
     AreAlike (robot_turn other j (robot_turn robot i f trace).0 others).0
@@ -393,7 +393,7 @@ steps_alike robot other i j f trace others steps distinct =
 
 -- The same of whole states: the next turn of a robot is one that it does alone.
 unfoldable pub TurnsAlone : List Behaviour → ℕ → BattleState → Type 0
-TurnsAlone robots i s = StepsAlone (behaviour_at robots i) i s.field (get_or s.traces i [])
+TurnsAlone robots i s = TurnIsAlone (behaviour_at robots i) i s.field (get_or s.traces i [])
 
 pub alone_stays : (robots : List Behaviour) (i j : ℕ) (s : BattleState) → TurnsAlone robots i s → i ≢ j →
     TurnsAlone robots i (turn robots j s)

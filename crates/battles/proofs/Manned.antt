@@ -11,9 +11,10 @@ use Rattle.battles.specs.IntervalKeeping.{HaveMachines, CanPlay, HaveFieldRobots
 use Rattle.battles.specs.Intervals.{WaitsToDraw}
 use Rattle.battles.proofs.States.{fits_at, fits_length, fits_set}
 
-pub have_places : (exes : List Executable) (runners : List Runner) (arena : Arena) → HaveMachines exes runners arena →
+pub have_field_robots : (exes : List Executable) (runners : List Runner) (arena : Arena) →
+    HaveMachines exes runners arena →
     HaveFieldRobots runners arena
-have_places exes runners arena manned =
+have_field_robots exes runners arena manned =
     let same = fits_length runners exes manned.fits in
     record { few = omega (arith, same, manned.few); robots = manned.robots ∙ sym same }
 

@@ -26,7 +26,7 @@ pub goes_ahead : (runner : Runner) (exe : Executable) (r : Behaviour) (i : ℕ) 
 goes_ahead runner exe r i f trace n arena within live is field at =
     let quiet = quiet_less r trace n runner.ahead within (at.quiet r is) in
     record {
-      steps = inl (quiet_runs r i f trace n live quiet);
+      turns = inl (quiet_runs r i f trace n live quiet);
       stands = rw (quiet_alone r i f trace n live quiet) field;
       at = rw (quiet_alone r i f trace n live quiet) (at_less runner n exe trace within at);
     }

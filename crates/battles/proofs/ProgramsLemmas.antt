@@ -13,26 +13,26 @@ use Rattle.battles.specs.Programs.{AllSome}
 use Rattle.battles.specs.Translated.{AreTranslated}
 
 -- what is kept at an index is the program of that index
-pub kept_here : {A : Type 0} (items : List A) (place : ℕ) (d : Option A) → place < length items
-    → get_or (map (λ (x : A). Some x) items) place d ≡ slice_get items place
-kept_here [] place d within = absurd (omega arith)
+pub kept_here : {A : Type 0} (items : List A) (index : ℕ) (d : Option A) → index < length items
+    → get_or (map (λ (x : A). Some x) items) index d ≡ slice_get items index
+kept_here [] index d within = absurd (omega arith)
 kept_here (x ∷ items) zero d within = refl
-kept_here (x ∷ items) (suc place) d within = kept_here items place d (omega arith)
+kept_here (x ∷ items) (suc index) d within = kept_here items index d (omega arith)
 
 -- so something is
-pub kept_some : {A : Type 0} (items : List A) (place : ℕ) → place < length items → slice_get items place ≡ None → ⊥
-kept_some [] place within none = absurd (omega arith)
+pub kept_some : {A : Type 0} (items : List A) (index : ℕ) → index < length items → slice_get items index ≡ None → ⊥
+kept_some [] index within none = absurd (omega arith)
 kept_some (x ∷ items) zero within none = cc
-kept_some (x ∷ items) (suc place) within none = kept_some items place (omega arith) none
+kept_some (x ∷ items) (suc index) within none = kept_some items index (omega arith) none
 
 -- what is found at an index is the program of that index
-pub kept_at : {A : Type 0} (kept shelf : List (Option A)) (items : List A) (place : ℕ) (found : Option A)
-    → AllSome kept → flat_map option_to_list kept ≡ items → shelf ≡ kept → place < length items →
-    found ≡ get_or shelf place found
-    → slice_get items place ≡ found
-kept_at {A} kept shelf items place found all are same within here =
+pub kept_at : {A : Type 0} (kept shelf : List (Option A)) (items : List A) (index : ℕ) (found : Option A)
+    → AllSome kept → flat_map option_to_list kept ≡ items → shelf ≡ kept → index < length items →
+    found ≡ get_or shelf index found
+    → slice_get items index ≡ found
+kept_at {A} kept shelf items index found all are same within here =
     let each : shelf ≡ map (λ (x : A). Some x) items = same ∙ all ∙ ap (λ l. map (λ (x : A). Some x) l) are in
-    sym (kept_here items place found within) ∙ ap (λ l. get_or l place found) (sym each) ∙ sym here
+    sym (kept_here items index found within) ∙ ap (λ l. get_or l index found) (sym each) ∙ sym here
 
 -- one more is kept
 pub list_more : {A : Type 0} (kept : List (Option A)) (x : A) →
@@ -68,17 +68,17 @@ translated_length (c ∷ codes) [] are = absurd are
 translated_length (c ∷ codes) (p ∷ others) are = ap suc (translated_length codes others are.1)
 
 -- those of one program are its translation
-pub translated_at : (codes : List Program) (kept : List Operations) (place : ℕ) (program : Program) (o : Operations) →
-    AreTranslated codes kept → slice_get codes place ≡ Some program → o ≡ get_or kept place o →
+pub translated_at : (codes : List Program) (kept : List Operations) (index : ℕ) (program : Program) (o : Operations) →
+    AreTranslated codes kept → slice_get codes index ≡ Some program → o ≡ get_or kept index o →
     IsTranslated (executable_of program (translated o))
-translated_at [] kept place program o are here there = absurd (cc)
-translated_at (c ∷ codes) [] place program o are here there = absurd are
+translated_at [] kept index program o are here there = absurd (cc)
+translated_at (c ∷ codes) [] index program o are here there = absurd are
 translated_at (c ∷ codes) (p ∷ others) zero program o are here there =
     let same : c ≡ program = cc in
     subst (λ (o : Operations). IsTranslated (executable_of program (translated o))) (sym there)
     (subst (λ (c : Program). IsTranslated (executable_of c (translated p))) same are.0)
-translated_at (c ∷ codes) (p ∷ others) (suc place) program o are here there =
-    translated_at codes others place program o are.1 here there
+translated_at (c ∷ codes) (p ∷ others) (suc index) program o are here there =
+    translated_at codes others index program o are.1 here there
 
 -- one more is looked up
 pub looked_up : (exes : List Executable) (codes : List Program) (n : ℕ) (exe : Executable)

@@ -162,12 +162,12 @@ row_step : (robots : List Behaviour) (n j t m : ℕ) (s : BattleState) → t % 4
     turns_left robots (in_row n) t (suc m) (turns robots (min j n) s) ≡
     turns_left robots (in_row n) (t + 1) m (turns robots (min (j + 1) n) s)
 unfolding in_row turns
-row_step robots n j t m s place = elim (cases_lt j n) [
+row_step robots n j t m s remainder = elim (cases_lt j n) [
   | inl inside ↦
       let this : min j n ≡ j = omega arith in
       let next : min (j + 1) n ≡ suc j = omega arith in
       let yes : nat_lt (t % 4) n ≡ true = grind (arith, nat_tests) in
-      rest_more robots (in_row n) t m (turns robots (min j n) s) yes ∙ rw (this, next, place) refl
+      rest_more robots (in_row n) t m (turns robots (min j n) s) yes ∙ rw (this, next, remainder) refl
   | inr outside ↦
       let same : min j n ≡ min (j + 1) n = omega arith in
       let no : nat_lt (t % 4) n ≡ false = grind (arith, nat_tests) in

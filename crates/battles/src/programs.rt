@@ -53,7 +53,7 @@ impl Programs {
     }
 
     /// Adds a program, of the profile of those that are there, and translates it for the battles.
-    pub fn push(&mut self, program: Program)
+    pub fn add_translated(&mut self, program: Program)
         requires room { length self.old < MOST_FILES }
         requires alike { AreOfProfile program.profile self.old }
         ensures { self.new ≡ self.old ++ program ∷ [] }

@@ -37,7 +37,7 @@ pub(crate) fn advance_if_ahead(runners: &mut [Runner], arena: &Arena, cycles: u3
 /// robot's machine is ahead. Returns how many. Mostly not one can be skipped, which is seen before any division.
 #[inline(always)]
 pub(crate) fn skip_intervals(runners: &mut [Runner], arena: &mut Arena, most: u32) -> u32
-    requires places { HaveFieldRobots runners.old arena.old }
+    requires field_robots { HaveFieldRobots runners.old arena.old }
     requires updates { arena.old.updates + most ≤ most_updates }
     ensures state { (exes : List Executable) (robots : List Behaviour) (s : BattleState)
         → AreRobotsOf exes robots → HasReached runners.old exes arena.old s
@@ -92,7 +92,7 @@ fn are_ahead(runners: &[Runner], arena: &Arena, cycles: u32) -> bool
 /// Lets the robots go on by the given number of cycles.
 #[inline(always)]
 fn advance_all(runners: &mut [Runner], arena: &Arena, cycles: u32)
-    requires places { HaveFieldRobots runners.old arena.now }
+    requires field_robots { HaveFieldRobots runners.old arena.now }
     requires ahead { AreAhead (length runners.old) cycles arena.now runners.old }
     ensures state { (exes : List Executable) (robots : List Behaviour) (s : BattleState)
         → AreRobotsOf exes robots → HasReached runners.old exes arena.now s

@@ -34,7 +34,7 @@ pub record Holds (program : Program) (file : File) : Type 0 where
       (function_code program.profile (function_at file k) (address_at program k))
   pub counted : (k : ℕ) → k < length file.functions →
       counts_at program k ≡ counts_of (names_of_function (function_at file k))
-  pub known : (k : ℕ) → k < length file.functions → k < length program.functions
+  pub among : (k : ℕ) → k < length file.functions → k < length program.functions
   pub resolved : (k : ℕ) → k < length file.functions →
       FitsFile (length file.externals) (length file.functions) (function_at file k)
 
@@ -218,7 +218,7 @@ module _ (program : Program) (file : File) (l n : ℕ) (again : BodyMeaning) (ho
       (λ (counts : FunctionCounts). Follows e l n
       (tick (nat_le (depth + counts.variables) program.profile.words) Quiet rest (λ reply rest. go rest)) whole k)
       (holds.counted j callable)
-      (on_call program e l n below (g ∷ fs) at k vars temps xs depth j rest go here (holds.known j callable) sizes deep
+      (on_call program e l n below (g ∷ fs) at k vars temps xs depth j rest go here (holds.among j callable) sizes deep
       (λ r1 h1.
       follows_from e l n (go r1)
       (wants program

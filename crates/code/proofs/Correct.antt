@@ -173,7 +173,7 @@ module _ (p : Profile) (file : File) where
         subst (λ (at : ℕ). StandsAt (code_of p file) at (function_code p (function_at file k) at)) (sym registers)
         (placed_in k file.order 0 both.first (r.defined k defined));
     counted = λ k defined. counts_of_file k;
-    known =
+    among =
         λ k defined. omega
         (arith, defined, length-map file.functions names_of_function, length-map (pools_of file).functions counts_of);
     resolved = λ k defined. r.each k (function_at file k) (slice_get-get_or file.functions k no_function defined);

@@ -10,7 +10,7 @@ pub mod Making
 pub mod Addresses
 pub mod Steps
 pub mod Open
-pub mod Told
+pub mod ReportedLaws
 pub mod Finished
 pub mod Mains
 pub mod ShortestProgram

@@ -27,7 +27,7 @@ pub record MakerRepresentsFile (maker : Maker) (p : Profile) (names : Pools) (fi
 pub record RepresentsSomeFile (maker : Maker) (names : Pools) : Type 0 where
   pub profile : Profile
   pub file : File
-  pub told : MakerRepresentsFile maker profile names file
+  pub reported : MakerRepresentsFile maker profile names file
 
 -- The code is that of a resolved file by its profile, within the profile's limit, and the function of main's number is
 -- named main.

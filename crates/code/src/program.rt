@@ -73,7 +73,7 @@ impl Program {
     #[inline(always)]
     pub fn profile(&self) -> Profile
         ensures profile { result ≡ self.now.profile }
-        ensures known { IsProfile result }
+        ensures is_profile { IsProfile result }
     {
         self.profile
     }
@@ -103,7 +103,7 @@ impl Program {
         ensures most { length result.now ≤ MOST_INSTRUCTIONS }
         ensures limit { length result.now ≤ self.now.profile.instructions }
         ensures file { IsOfSomeFile self.now }
-        ensures known { IsProfile self.now.profile }
+        ensures is_profile { IsProfile self.now.profile }
     {
         self.code.as_slice()
     }
@@ -137,7 +137,7 @@ impl Program {
     /// Returns the number of the file's function `main`.
     pub fn main(&self) -> u8
         ensures main { result ≡ self.now.main }
-        ensures known { result < length self.now.functions }
+        ensures among { result < length self.now.functions }
         ensures file { IsOfSomeFile self.now }
     {
         self.main

@@ -19,30 +19,30 @@ module _ {F : Type 0} (device : F → Device) (fails : List ℕ → Type 0) wher
   each_pushed (first ∷ words) (other ∷ files) word file each shows =
       (each.0, each_pushed words files word file each.1 shows)
 
-  -- the file in this place has failed once more
-  shown_at : (words : List (List ℕ)) (olds news : List F) (word : List ℕ) (place : ℕ) →
+  -- the file at this index has failed once more
+  shown_at : (words : List (List ℕ)) (olds news : List F) (word : List ℕ) (index : ℕ) →
       EachShows device fails words olds
-      → slice_get words place ≡ Some word → place < length (accounts device olds)
+      → slice_get words index ≡ Some word → index < length (accounts device olds)
       →
       accounts device news ≡
-      slice_set (accounts device olds) place (failed_again (slice_index_or (accounts device olds) place no_device))
+      slice_set (accounts device olds) index (failed_again (slice_index_or (accounts device olds) index no_device))
       → fails word
-  shown_at [] [] news word place each here within is = absurd (omega (arith, within))
-  shown_at [] (old ∷ olds) news word place each here within is = absurd each
-  shown_at (first ∷ words) [] news word place each here within is = absurd each
+  shown_at [] [] news word index each here within is = absurd (omega (arith, within))
+  shown_at [] (old ∷ olds) news word index each here within is = absurd each
+  shown_at (first ∷ words) [] news word index each here within is = absurd each
   shown_at (first ∷ words) (old ∷ olds) [] word zero each here within is = absurd (cc is)
-  shown_at (first ∷ words) (old ∷ olds) [] word (suc place) each here within is = absurd (cc is)
+  shown_at (first ∷ words) (old ∷ olds) [] word (suc index) each here within is = absurd (cc is)
   shown_at (first ∷ words) (old ∷ olds) (new ∷ news) word zero each here within is =
       let same : first ≡ word = cc here in
       subst fails same (each.0 new (ap (λ (l : List FailureCount). slice_index_or l 0 no_device) is))
-  shown_at (first ∷ words) (old ∷ olds) (new ∷ news) word (suc place) each here within is =
-      shown_at words olds news word place each.1 here (omega (arith, within))
+  shown_at (first ∷ words) (old ∷ olds) (new ∷ news) word (suc index) each here within is =
+      shown_at words olds news word index each.1 here (omega (arith, within))
       (ap (λ (l : List FailureCount). drop 1 l) is)
 
   pub shown : (words : List (List ℕ)) (olds news : List F) (word : List ℕ) → EachShows device fails words olds
       → HasFailed words (accounts device olds) (accounts device news) word → fails word
   shown words olds news word each failed =
-      shown_at words olds news word failed.place each failed.here failed.within failed.is
+      shown_at words olds news word failed.index each failed.here failed.within failed.is
 
   -- one more word and its file
   pub each_more : (words : List (Bor (List ℕ))) (files : List F) (i : ℕ) (d : Bor (List ℕ)) (file : F) →
@@ -72,9 +72,9 @@ all_more P words i d within each one =
     rw (map_more (λ (w : Bor (List ℕ)). w.now) words i d within)
     (All-push P (map (λ (w : Bor (List ℕ)). w.now) (take i words)) (get_or words i d).now each one)
 
--- the word in a place
-pub word_at : (words : List (Bor (List ℕ))) (place : ℕ) (d : Bor (List ℕ)) → place < length words
-    → slice_get (map (λ (w : Bor (List ℕ)). w.now) words) place ≡ Some (get_or words place d).now
-word_at [] place d within = absurd (omega (arith, within))
+-- the word at an index
+pub word_at : (words : List (Bor (List ℕ))) (index : ℕ) (d : Bor (List ℕ)) → index < length words
+    → slice_get (map (λ (w : Bor (List ℕ)). w.now) words) index ≡ Some (get_or words index d).now
+word_at [] index d within = absurd (omega (arith, within))
 word_at (word ∷ words) zero d within = refl
-word_at (word ∷ words) (suc place) d within = word_at words place d (omega (arith, within))
+word_at (word ∷ words) (suc index) d within = word_at words index d (omega (arith, within))

@@ -20,7 +20,7 @@ ending_of : (fails more : List ℕ → Type 0) (words : List (List ℕ)) (answer
     IsEndingOf more words answer ending
 ending_of fails more words (Ok status.Done) ending so is = is
 ending_of fails more words (Ok status.Faulty) ending so is = is
-ending_of fails more words (Err (run_fault.Read place)) ending so (word, is, here, failed) =
+ending_of fails more words (Err (run_fault.Read index)) ending so (word, is, here, failed) =
     (word, is, here, so word.now failed)
 ending_of fails more words (Err run_fault.Write) ending so is = is
 ending_of fails more words (Err run_fault.Memory) ending so is = is

@@ -21,7 +21,7 @@ abbrev pub ShowsFailure : {F : Type 0} → (F → Device) → F → Type 0 → T
 ShowsFailure {F} device file failed =
     (later : F) → (device later).account ≡ failed_again (device file).account → failed
 
--- each of these devices shows it of the word in its place
+-- each of these devices shows it of the word at its index
 abbrev pub EachShows : {F : Type 0} → (F → Device) → (List ℕ → Type 0) → List (List ℕ) → List F → Type 0
 EachShows device fails [] [] = Unit {0}
 EachShows device fails (word ∷ words) (file ∷ files) =
@@ -30,7 +30,7 @@ EachShows device fails _ _ = ⊥
 
 -- of these devices, one for each word, that of this word has failed once more since
 pub record HasFailed (words : List (List ℕ)) (before after : List FailureCount) (word : List ℕ) : Type 0 where
-  pub place : ℕ
-  pub here : slice_get words place ≡ Some word
-  pub within : place < length before
-  pub is : after ≡ slice_set before place (failed_again (slice_index_or before place no_device))
+  pub index : ℕ
+  pub here : slice_get words index ≡ Some word
+  pub within : index < length before
+  pub is : after ≡ slice_set before index (failed_again (slice_index_or before index no_device))

@@ -21,14 +21,14 @@ use Rattle.command.specs.Files.{Files}
 
 -- the ending is that a read of the file failed whose word has this index
 abbrev pub IsUnread : (List ℕ → Type 0) → List (List ℕ) → ℕ → Ending → Type 0
-IsUnread fails words place ending = (word : Bor (List ℕ)) × (ending ≡ CannotRead word)
-    × (slice_get words place ≡ Some word.now) × fails word.now
+IsUnread fails words index ending = (word : Bor (List ℕ)) × (ending ≡ CannotRead word)
+    × (slice_get words index ≡ Some word.now) × fails word.now
 
 -- the ending of a run over the files of these words that answers so
 abbrev pub IsEndingOf : (List ℕ → Type 0) → List (List ℕ) → Result Status RunFault → Ending → Type 0
 IsEndingOf fails words (Ok status.Done) ending = ending ≡ Done
 IsEndingOf fails words (Ok status.Faulty) ending = ending ≡ Faulty
-IsEndingOf fails words (Err (run_fault.Read place)) ending = IsUnread fails words place ending
+IsEndingOf fails words (Err (run_fault.Read index)) ending = IsUnread fails words index ending
 IsEndingOf fails words (Err run_fault.Write) ending = ending ≡ CannotWrite
 IsEndingOf fails words (Err run_fault.Memory) ending = ending ≡ OutOfMemory
 
@@ -43,10 +43,10 @@ pub record RunsTo (fails : List ℕ → Type 0) (settings : Settings) (known : L
 
 -- the file of this word was refused, after those of all words before it were opened
 pub record IsFirstRefused (files : Files) (words : List (List ℕ)) (word : List ℕ) : Type 0 where
-  pub place : ℕ
-  pub here : slice_get words place ≡ Some word
+  pub index : ℕ
+  pub here : slice_get words index ≡ Some word
   pub refused : files.refuses word
-  pub opened : All files.opens (take place words)
+  pub opened : All files.opens (take index words)
 
 -- a file of these words was not opened, or memory was refused
 abbrev pub IsNotOpened : Files → List (List ℕ) → Ending → Type 0

@@ -20,7 +20,7 @@ use Rattle.grammar.specs.Laws.Origins.{origin_of, ends_in_return}
 use Rattle.grammar.specs.Resolved.{InBody}
 use Rattle.grammar.specs.Tree.{Expr, Constant, Binary, Call, NoMore, Argument, Body, Done, ExpressionStatement, IfStatement, IfElseStatement, While, Return, join}
 use Rattle.grammar.proofs.FollowingLaws.{Leads, chain, definition_leads}
-use Rattle.grammar.proofs.Unfinished.{Place, InFun, InFirst, InSecond, InLoop, Hole, Statement, Test, Behind, RightSide, Arguments, open_hole, place_actions, hole_actions, place_count, hole_count, ExprFits, BodyFits, PlaceFits, HoleFits, fits-join, body_actions-join}
+use Rattle.grammar.proofs.Unfinished.{Context, InFun, InFirst, InSecond, InLoop, Hole, Statement, Test, Behind, RightSide, Arguments, open_hole, context_actions, hole_actions, context_count, hole_count, ExprFits, BodyFits, ContextFits, HoleFits, fits-join, body_actions-join}
 use Rattle.grammar.proofs.UnfinishedSteps.{IsWithin, Steps, number_is, step}
 
 -- What begins actions that may follow may follow.
@@ -54,7 +54,7 @@ functions_follow (d ∷ ds) h =
 pub beginning_follows : (acts : List Action) → IsBeginning acts → IsTrue (is_some (follow_all acts []))
 beginning_follows acts b = front_follows acts b.rest []
     (subst (λ (xs : List Action). IsTrue (is_some (follow_all xs []))) (sym b.begins)
-    (rw (functions_follow b.functions b.tellable).is refl))
+    (rw (functions_follow b.functions b.reportable).is refl))
 
 -- A list is a beginning of another's beginning.
 
@@ -62,25 +62,25 @@ pub begins_with : (xs ys : List Action) → IsBeginning (xs ++ ys) → IsBeginni
 begins_with xs ys b =
     record {
       functions = b.functions;
-      tellable = b.tellable;
+      reportable = b.reportable;
       rest = ys ++ b.rest;
       begins = sym (append_assoc xs ys b.rest) ∙ b.begins;
     }
 
 -- Functions that are finished.
 
-count_fits : (p : Place) → PlaceFits p → place_count p ≤ 200
+count_fits : (p : Context) → ContextFits p → context_count p ≤ 200
 count_fits (InFun n k b) fits = omega arith
 count_fits (InFirst c b outer) fits =
-    let few : 1 + place_count outer + body_nesting b ≤ 200 = fits.2.few in omega (arith, few)
+    let few : 1 + context_count outer + body_nesting b ≤ 200 = fits.2.few in omega (arith, few)
 count_fits (InSecond c t b outer) fits =
-    let few : 1 + place_count outer + body_nesting b ≤ 200 = fits.3.few in omega (arith, few)
+    let few : 1 + context_count outer + body_nesting b ≤ 200 = fits.3.few in omega (arith, few)
 count_fits (InLoop c b outer) fits =
-    let few : 1 + place_count outer + body_nesting b ≤ 200 = fits.2.few in omega (arith, few)
+    let few : 1 + context_count outer + body_nesting b ≤ 200 = fits.2.few in omega (arith, few)
 
 record Closes (acts : List Action) : Type 0 where
   definition : Definition
-  tellable : IsReportable definition
+  reportable : IsReportable definition
   rest : List Action
   is : acts ++ rest ≡ function_actions definition.number definition.function
 
@@ -88,7 +88,7 @@ closes_with : (more xs ys : List Action) → xs ++ more ≡ ys → Closes ys →
 closes_with more xs ys e c =
     record {
       definition = c.definition;
-      tellable = c.tellable;
+      reportable = c.reportable;
       rest = more ++ c.rest;
       is = sym (append_assoc xs more c.rest) ∙ ap (λ zs. zs ++ c.rest) e ∙ c.is;
     }
@@ -103,8 +103,9 @@ definition_actions : (n k v : ℕ) (b : Body) →
 definition_actions n k v b =
     ap (λ (m : ℕ). BeginFunction n k ∷ (body_actions b ++ (last_return ++ EndFunction m ∷ []))) (length-replicate v [])
 
-definition_told : (n k v : ℕ) (b : Body) → n < 64 → k ≤ v → v ≤ 64 → BodyFits 0 b → IsReportable (definition n k v b)
-definition_told n k v b h l m f =
+definition_reported : (n k v : ℕ) (b : Body) → n < 64 → k ≤ v → v ≤ 64 → BodyFits 0 b →
+    IsReportable (definition n k v b)
+definition_reported n k v b h l m f =
     let long : length {A = List ℕ} (replicate v []) ≡ v = length-replicate v [] in
     record {
       number = h;
@@ -114,37 +115,37 @@ definition_told n k v b h l m f =
       few = omega (arith, f.few);
     }
 
--- a place, with these statements more
-close_place : (p : Place) (s : Body) → PlaceFits p → BodyFits (place_count p) s →
-    Closes (place_actions p ++ body_actions s)
-close_place (InFun n k b) s fits more = record {
+-- a context, with these statements more
+close_context : (p : Context) (s : Body) → ContextFits p → BodyFits (context_count p) s →
+    Closes (context_actions p ++ body_actions s)
+close_context (InFun n k b) s fits more = record {
   definition = definition n k k (join b s);
-  tellable = definition_told n k k (join b s) fits.0 (omega arith) fits.1 (fits-join 0 b s fits.2 more);
+  reportable = definition_reported n k k (join b s) fits.0 (omega arith) fits.1 (fits-join 0 b s fits.2 more);
   rest = last_return ++ EndFunction k ∷ [];
   is = rw (body_actions-join b s) refl ∙ sym (definition_actions n k k (join b s));
 }
-close_place (InFirst c b outer) s fits more =
-    let both : BodyFits (1 + place_count outer) (join b s) = fits-join (1 + place_count outer) b s fits.2 more in
-    let few_test : place_count outer + nesting c ≤ 200 = fits.1.few in
-    let few : 1 + place_count outer + body_nesting (join b s) ≤ 200 = both.few in
+close_context (InFirst c b outer) s fits more =
+    let both : BodyFits (1 + context_count outer) (join b s) = fits-join (1 + context_count outer) b s fits.2 more in
+    let few_test : context_count outer + nesting c ≤ 200 = fits.1.few in
+    let few : 1 + context_count outer + body_nesting (join b s) ≤ 200 = both.few in
     closes_with (EndIf ∷ []) _ _ (rw (body_actions-join b s) (simp append_assoc refl))
-    (close_place outer (IfStatement c (join b s) Done) fits.0
+    (close_context outer (IfStatement c (join b s) Done) fits.0
     (record { names = (fits.1.names, both.names, tt); few = omega (arith, few_test, few) }))
-close_place (InSecond c t b outer) s fits more =
-    let both : BodyFits (1 + place_count outer) (join b s) = fits-join (1 + place_count outer) b s fits.3 more in
-    let few_test : place_count outer + nesting c ≤ 200 = fits.1.few in
-    let few_first : 1 + place_count outer + body_nesting t ≤ 200 = fits.2.few in
-    let few : 1 + place_count outer + body_nesting (join b s) ≤ 200 = both.few in
+close_context (InSecond c t b outer) s fits more =
+    let both : BodyFits (1 + context_count outer) (join b s) = fits-join (1 + context_count outer) b s fits.3 more in
+    let few_test : context_count outer + nesting c ≤ 200 = fits.1.few in
+    let few_first : 1 + context_count outer + body_nesting t ≤ 200 = fits.2.few in
+    let few : 1 + context_count outer + body_nesting (join b s) ≤ 200 = both.few in
     closes_with (EndIf ∷ []) _ _ (rw (body_actions-join b s) (simp append_assoc refl))
-    (close_place outer (IfElseStatement c t (join b s) Done) fits.0
+    (close_context outer (IfElseStatement c t (join b s) Done) fits.0
     (record
     { names = (fits.1.names, fits.2.names, both.names, tt); few = omega (arith, few_test, few_first, few) }))
-close_place (InLoop c b outer) s fits more =
-    let both : BodyFits (1 + place_count outer) (join b s) = fits-join (1 + place_count outer) b s fits.2 more in
-    let few_test : 1 + place_count outer + nesting c ≤ 200 = fits.1.few in
-    let few : 1 + place_count outer + body_nesting (join b s) ≤ 200 = both.few in
+close_context (InLoop c b outer) s fits more =
+    let both : BodyFits (1 + context_count outer) (join b s) = fits-join (1 + context_count outer) b s fits.2 more in
+    let few_test : 1 + context_count outer + nesting c ≤ 200 = fits.1.few in
+    let few : 1 + context_count outer + body_nesting (join b s) ≤ 200 = both.few in
     closes_with (EndWhile ∷ []) _ _ (rw (body_actions-join b s) (simp append_assoc refl))
-    (close_place outer (While c (join b s) Done) fits.0
+    (close_context outer (While c (join b s) Done) fits.0
     (record { names = (fits.1.names, both.names, tt); few = omega (arith, few_test, few) }))
 
 abbrev zero : Expr
@@ -153,13 +154,13 @@ zero = Constant (pos 0)
 -- a value in a hole
 close_value : (h : Hole) (e : Expr) → HoleFits h → ExprFits (hole_count h) e → Closes (hole_actions h ++ expr_actions e)
 close_value (Statement p) e fits f =
-    let few : place_count p + nesting e ≤ 200 = f.few in
-    closes_with (Chop ∷ []) _ _ (append_assoc (place_actions p) (expr_actions e) (Chop ∷ []))
-    (close_place p (ExpressionStatement e Done) fits (record { names = (f.names, tt); few = omega (arith, few) }))
+    let few : context_count p + nesting e ≤ 200 = f.few in
+    closes_with (Chop ∷ []) _ _ (append_assoc (context_actions p) (expr_actions e) (Chop ∷ []))
+    (close_context p (ExpressionStatement e Done) fits (record { names = (f.names, tt); few = omega (arith, few) }))
 close_value (Test p) e fits f =
-    let few : 1 + place_count p + nesting e ≤ 200 = f.few in
+    let few : 1 + context_count p + nesting e ≤ 200 = f.few in
     closes_with (WhileTest ∷ EndWhile ∷ []) _ _ (simp append_assoc refl)
-    (close_place p (While e Done Done) fits.0 (record { names = (f.names, tt, tt); few = omega (arith, few) }))
+    (close_context p (While e Done Done) fits.0 (record { names = (f.names, tt, tt); few = omega (arith, few) }))
 close_value (Behind l h) e fits f =
     let few_left : hole_count h + nesting l ≤ 200 = fits.1.few in
     let few_right : 0 + hole_count h + nesting e ≤ 200 = f.few in
@@ -187,7 +188,7 @@ close_zero h fits few =
 
 close_hole : (h : Hole) → HoleFits h → Closes (hole_actions h)
 close_hole (Statement p) fits =
-    closes_with [] _ _ refl (close_place p Done fits (record { names = tt; few = omega (arith, count_fits p fits) }))
+    closes_with [] _ _ refl (close_context p Done fits (record { names = tt; few = omega (arith, count_fits p fits) }))
 close_hole (Test p) fits = close_zero (Test p) fits fits.1
 close_hole (Behind e h) fits = close_value h e fits.0 fits.1
 close_hole (RightSide o e h) fits =
@@ -217,7 +218,7 @@ record Makes (acts : List Action) (o : Opened) : Type 0 where
   held : Held
   opens : open_held held ≡ o
   actions : definitions_actions functions ++ held_actions held ≡ acts
-  tellable : AreReportable functions
+  reportable : AreReportable functions
   fits : HeldFits held
 
 pub definitions_last : (ds : List Definition) (d : Definition) →
@@ -229,10 +230,10 @@ definitions_last (x ∷ ds) d =
     (append_assoc (function_actions x.number x.function) (definitions_actions ds)
     (function_actions d.number d.function))
 
-pub tellable_last : (ds : List Definition) (d : Definition) → AreReportable ds → IsReportable d →
+pub reportable_last : (ds : List Definition) (d : Definition) → AreReportable ds → IsReportable d →
     AreReportable (ds ++ d ∷ [])
-tellable_last [] d h t = (t, tt)
-tellable_last (x ∷ ds) d h t = (h.0, tellable_last ds d h.1 t)
+reportable_last [] d h t = (t, tt)
+reportable_last (x ∷ ds) d h t = (h.0, reportable_last ds d h.1 t)
 
 made_begins : (acts : List Action) (o : Opened) → Makes acts o → IsBeginning acts
 made_begins acts o m = by m.held m.actions m.fits
@@ -241,7 +242,7 @@ made_begins acts o m = by m.held m.actions m.fits
     by Nothing e f =
         record {
           functions = m.functions;
-          tellable = m.tellable;
+          reportable = m.reportable;
           rest = [];
           begins = append-nil acts ∙ sym e ∙ append-nil (definitions_actions m.functions);
         }
@@ -249,7 +250,7 @@ made_begins acts o m = by m.held m.actions m.fits
         let c : Closes (hole_actions h) = close_hole h f.0 in
         record {
           functions = m.functions ++ c.definition ∷ [];
-          tellable = tellable_last m.functions c.definition m.tellable c.tellable;
+          reportable = reportable_last m.functions c.definition m.reportable c.reportable;
           rest = c.rest;
           begins =
               ap (λ xs. xs ++ c.rest) (sym e) ∙ append_assoc (definitions_actions m.functions) (hole_actions h) c.rest
@@ -356,34 +357,34 @@ fits_front b s f = record { names = names_front b s f.names; few = omega (arith,
 within_makes : (a : Action) (h : Hole) (q : Opened) (acts : List Action) (ds : List Definition) →
     definitions_actions ds ++ hole_actions h ≡ acts → AreReportable ds → open_count q ≤ 200 →
     Steps a h q → Makes (acts ++ a ∷ []) q
-within_makes a h q acts ds e told small s = record {
+within_makes a h q acts ds e reported small s = record {
   functions = ds;
   held = Holds s.next;
   opens = s.opens;
   actions = ap (λ xs. definitions_actions ds ++ xs) s.adds ∙
       sym (append_assoc (definitions_actions ds) (hole_actions h) (a ∷ [])) ∙ ap (λ xs. xs ++ a ∷ []) e;
-  tellable = told;
+  reportable = reported;
   fits = (s.fits, omega (arith, small, ap open_count s.opens));
 }
 
 begun : (n k : ℕ) (q : Opened) (acts : List Action) (ds : List Definition) → definitions_actions ds ++ [] ≡ acts →
     AreReportable ds → follow (BeginFunction n k) [] ≡ Some q → Makes (acts ++ BeginFunction n k ∷ []) q
-begun n k q acts ds e told is =
+begun n k q acts ds e reported is =
     let made = begin_makes n k q is in
     record {
       functions = ds;
       held = Holds (Statement (InFun n k Done));
       opens = made.1;
       actions = ap (λ xs. xs ++ BeginFunction n k ∷ []) (sym (append-nil (definitions_actions ds)) ∙ e);
-      tellable = told;
+      reportable = reported;
       fits = ((made.0.0, made.0.1, record { names = tt; few = omega arith }), omega arith);
     }
 
 finished : (n k v : ℕ) (b : Body) (q : Opened) (acts : List Action) (ds : List Definition) →
     definitions_actions ds ++ (BeginFunction n k ∷ body_actions b) ≡ acts → AreReportable ds →
-    PlaceFits (InFun n k b) → follow (EndFunction v) (InFunction k (ends_in_return false b) ∷ []) ≡ Some q →
+    ContextFits (InFun n k b) → follow (EndFunction v) (InFunction k (ends_in_return false b) ∷ []) ≡ Some q →
     Makes (acts ++ EndFunction v ∷ []) q
-finished n k v b q acts ds e told fits is =
+finished n k v b q acts ds e reported fits is =
     let f = finish_makes v k (ends_in_return false b) q is in
     let front : Before b = before_last b f.returned in
     let fit : BodyFits 0 front.body =
@@ -405,8 +406,8 @@ finished n k v b q acts ds e told fits is =
           ∙ ap (λ xs. definitions_actions ds ++ xs) (sym all) ∙
           sym (append_assoc (definitions_actions ds) (BeginFunction n k ∷ body_actions b) (EndFunction v ∷ [])) ∙
           ap (λ xs. xs ++ EndFunction v ∷ []) e;
-      tellable = tellable_last ds (definition n k v front.body) told
-          (definition_told n k v front.body fits.0 f.parameters f.variables fit);
+      reportable = reportable_last ds (definition n k v front.body) reported
+          (definition_reported n k v front.body fits.0 f.parameters f.variables fit);
       fits = tt;
     }
 
@@ -439,53 +440,53 @@ never_begins n k (Arguments h) q e = cc
 
 nothing_makes : (a : Action) (q : Opened) (acts : List Action) (ds : List Definition) →
     definitions_actions ds ++ [] ≡ acts → AreReportable ds → follow a [] ≡ Some q → Makes (acts ++ a ∷ []) q
-nothing_makes (BeginFunction n k) q acts ds e told is = begun n k q acts ds e told is
-nothing_makes (EndFunction v) q acts ds e told is = absurd (cc)
-nothing_makes (PushConstant x) q acts ds e told is = absurd (nothing_then (PushConstant x) q tt is)
-nothing_makes (FetchVariable v) q acts ds e told is = absurd (nothing_then (FetchVariable v) q tt is)
-nothing_makes (StoreVariable v o) q acts ds e told is = absurd (nothing_then (StoreVariable v o) q tt is)
-nothing_makes (ApplyBinop o) q acts ds e told is = absurd (nothing_then (ApplyBinop o) q tt is)
-nothing_makes (LogicMiddle o) q acts ds e told is = absurd (nothing_then (LogicMiddle o) q tt is)
-nothing_makes (EndCall f) q acts ds e told is = absurd (nothing_then (EndCall f) q tt is)
-nothing_makes a q acts ds e told is = absurd (cc)
+nothing_makes (BeginFunction n k) q acts ds e reported is = begun n k q acts ds e reported is
+nothing_makes (EndFunction v) q acts ds e reported is = absurd (cc)
+nothing_makes (PushConstant x) q acts ds e reported is = absurd (nothing_then (PushConstant x) q tt is)
+nothing_makes (FetchVariable v) q acts ds e reported is = absurd (nothing_then (FetchVariable v) q tt is)
+nothing_makes (StoreVariable v o) q acts ds e reported is = absurd (nothing_then (StoreVariable v o) q tt is)
+nothing_makes (ApplyBinop o) q acts ds e reported is = absurd (nothing_then (ApplyBinop o) q tt is)
+nothing_makes (LogicMiddle o) q acts ds e reported is = absurd (nothing_then (LogicMiddle o) q tt is)
+nothing_makes (EndCall f) q acts ds e reported is = absurd (nothing_then (EndCall f) q tt is)
+nothing_makes a q acts ds e reported is = absurd (cc)
 
 hole_makes : (a : Action) (h : Hole) (q : Opened) (acts : List Action) (ds : List Definition) →
     definitions_actions ds ++ hole_actions h ≡ acts → AreReportable ds → HoleFits h → hole_count h ≤ 200 →
     follow a (open_hole h) ≡ Some q → open_count q ≤ 200 → Makes (acts ++ a ∷ []) q
-hole_makes (BeginFunction n k) h q acts ds e told fits least is small = absurd (never_begins n k h q is)
-hole_makes (EndFunction v) (Statement (InFun n k b)) q acts ds e told fits least is small =
-    finished n k v b q acts ds e told fits is
-hole_makes (EndFunction v) h q acts ds e told fits least is small = absurd (cc)
-hole_makes (PushConstant x) h q acts ds e told fits least is small =
-    within_makes (PushConstant x) h q acts ds e told small (step (PushConstant x) h q fits least is small tt)
-hole_makes (FetchVariable v) h q acts ds e told fits least is small =
-    within_makes (FetchVariable v) h q acts ds e told small (step (FetchVariable v) h q fits least is small tt)
-hole_makes (StoreVariable v o) h q acts ds e told fits least is small =
-    within_makes (StoreVariable v o) h q acts ds e told small (step (StoreVariable v o) h q fits least is small tt)
-hole_makes (ApplyBinop o) h q acts ds e told fits least is small =
-    within_makes (ApplyBinop o) h q acts ds e told small (step (ApplyBinop o) h q fits least is small tt)
-hole_makes (LogicMiddle o) h q acts ds e told fits least is small =
-    within_makes (LogicMiddle o) h q acts ds e told small (step (LogicMiddle o) h q fits least is small tt)
-hole_makes BeginCall h q acts ds e told fits least is small =
-    within_makes BeginCall h q acts ds e told small (step BeginCall h q fits least is small tt)
-hole_makes (EndCall f) h q acts ds e told fits least is small =
-    within_makes (EndCall f) h q acts ds e told small (step (EndCall f) h q fits least is small tt)
-hole_makes IfTest h q acts ds e told fits least is small =
-    within_makes IfTest h q acts ds e told small (step IfTest h q fits least is small tt)
-hole_makes ElsePart h q acts ds e told fits least is small =
-    within_makes ElsePart h q acts ds e told small (step ElsePart h q fits least is small tt)
-hole_makes EndIf h q acts ds e told fits least is small =
-    within_makes EndIf h q acts ds e told small (step EndIf h q fits least is small tt)
-hole_makes BeginWhile h q acts ds e told fits least is small =
-    within_makes BeginWhile h q acts ds e told small (step BeginWhile h q fits least is small tt)
-hole_makes WhileTest h q acts ds e told fits least is small =
-    within_makes WhileTest h q acts ds e told small (step WhileTest h q fits least is small tt)
-hole_makes EndWhile h q acts ds e told fits least is small =
-    within_makes EndWhile h q acts ds e told small (step EndWhile h q fits least is small tt)
-hole_makes GiveBack h q acts ds e told fits least is small =
-    within_makes GiveBack h q acts ds e told small (step GiveBack h q fits least is small tt)
-hole_makes Chop h q acts ds e told fits least is small =
-    within_makes Chop h q acts ds e told small (step Chop h q fits least is small tt)
+hole_makes (BeginFunction n k) h q acts ds e reported fits least is small = absurd (never_begins n k h q is)
+hole_makes (EndFunction v) (Statement (InFun n k b)) q acts ds e reported fits least is small =
+    finished n k v b q acts ds e reported fits is
+hole_makes (EndFunction v) h q acts ds e reported fits least is small = absurd (cc)
+hole_makes (PushConstant x) h q acts ds e reported fits least is small =
+    within_makes (PushConstant x) h q acts ds e reported small (step (PushConstant x) h q fits least is small tt)
+hole_makes (FetchVariable v) h q acts ds e reported fits least is small =
+    within_makes (FetchVariable v) h q acts ds e reported small (step (FetchVariable v) h q fits least is small tt)
+hole_makes (StoreVariable v o) h q acts ds e reported fits least is small =
+    within_makes (StoreVariable v o) h q acts ds e reported small (step (StoreVariable v o) h q fits least is small tt)
+hole_makes (ApplyBinop o) h q acts ds e reported fits least is small =
+    within_makes (ApplyBinop o) h q acts ds e reported small (step (ApplyBinop o) h q fits least is small tt)
+hole_makes (LogicMiddle o) h q acts ds e reported fits least is small =
+    within_makes (LogicMiddle o) h q acts ds e reported small (step (LogicMiddle o) h q fits least is small tt)
+hole_makes BeginCall h q acts ds e reported fits least is small =
+    within_makes BeginCall h q acts ds e reported small (step BeginCall h q fits least is small tt)
+hole_makes (EndCall f) h q acts ds e reported fits least is small =
+    within_makes (EndCall f) h q acts ds e reported small (step (EndCall f) h q fits least is small tt)
+hole_makes IfTest h q acts ds e reported fits least is small =
+    within_makes IfTest h q acts ds e reported small (step IfTest h q fits least is small tt)
+hole_makes ElsePart h q acts ds e reported fits least is small =
+    within_makes ElsePart h q acts ds e reported small (step ElsePart h q fits least is small tt)
+hole_makes EndIf h q acts ds e reported fits least is small =
+    within_makes EndIf h q acts ds e reported small (step EndIf h q fits least is small tt)
+hole_makes BeginWhile h q acts ds e reported fits least is small =
+    within_makes BeginWhile h q acts ds e reported small (step BeginWhile h q fits least is small tt)
+hole_makes WhileTest h q acts ds e reported fits least is small =
+    within_makes WhileTest h q acts ds e reported small (step WhileTest h q fits least is small tt)
+hole_makes EndWhile h q acts ds e reported fits least is small =
+    within_makes EndWhile h q acts ds e reported small (step EndWhile h q fits least is small tt)
+hole_makes GiveBack h q acts ds e reported fits least is small =
+    within_makes GiveBack h q acts ds e reported small (step GiveBack h q fits least is small tt)
+hole_makes Chop h q acts ds e reported fits least is small =
+    within_makes Chop h q acts ds e reported small (step Chop h q fits least is small tt)
 
 one_makes : (a : Action) (acts : List Action) (o q : Opened) → Makes acts o → follow a o ≡ Some q → open_count q ≤ 200 →
     Makes (acts ++ a ∷ []) q
@@ -494,8 +495,8 @@ one_makes a acts o q m e small =
   where
     by : (held : Held) → definitions_actions m.functions ++ held_actions held ≡ acts → HeldFits held →
         follow a (open_held held) ≡ Some q → Makes (acts ++ a ∷ []) q
-    by Nothing g f is = nothing_makes a q acts m.functions g m.tellable is
-    by (Holds h) g f is = hole_makes a h q acts m.functions g m.tellable f.0 f.1 is small
+    by Nothing g f is = nothing_makes a q acts m.functions g m.reportable is
+    by (Holds h) g f is = hole_makes a h q acts m.functions g m.reportable f.0 f.1 is small
 
 -- Any actions more.
 
@@ -524,4 +525,4 @@ all_make (x ∷ xs) acts o m h =
 pub follows_begins : (acts : List Action) → IsTrue (is_some (follow_all acts [])) → IsBeginning acts
 follows_begins acts h =
     all_make acts [] []
-    (record { functions = []; held = Nothing; opens = refl; actions = refl; tellable = tt; fits = tt }) h
+    (record { functions = []; held = Nothing; opens = refl; actions = refl; reportable = tt; fits = tt }) h

@@ -56,9 +56,9 @@ abbrev pub names : List FunctionNames → List (List ℕ)
 names functions = map (λ (f : FunctionNames). f.name) functions
 
 -- what is there has an index
-has_place : (name : List ℕ) (all : List (List ℕ)) → IsAmong name all → position_or_len (bytes_eq name) all < length all
-has_place name [] i = absurd i
-has_place name (x ∷ all) i = at (λ among. has_place name all among) (bytes_eq name x) refl i
+has_index : (name : List ℕ) (all : List (List ℕ)) → IsAmong name all → position_or_len (bytes_eq name) all < length all
+has_index name [] i = absurd i
+has_index name (x ∷ all) i = at (λ among. has_index name all among) (bytes_eq name x) refl i
   where
     at : (IsAmong name all → position_or_len (bytes_eq name) all < length all) → (b : Bool) → bytes_eq name x ≡ b →
         IsAmong name (x ∷ all)
@@ -70,7 +70,7 @@ has_place name (x ∷ all) i = at (λ among. has_place name all among) (bytes_eq
 -- a name without a number isn't there
 pub not_named : (name : List ℕ) (all : List (List ℕ)) → number_of_name name all ≡ None → IsAmong name all → ⊥
 not_named name all none i =
-    absurd (at (rw (lt-ltb (position_or_len (bytes_eq name) all) (length all) (has_place name all i)) at none))
+    absurd (at (rw (lt-ltb (position_or_len (bytes_eq name) all) (length all) (has_index name all i)) at none))
   where
     at : Some (position_or_len (bytes_eq name) all) ≡ None → ⊥
     at e = cc

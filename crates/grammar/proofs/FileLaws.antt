@@ -20,9 +20,9 @@ use Rattle.grammar.specs.Scope.{Scope, function_number}
 use Rattle.grammar.specs.Tree.{Function, File}
 use Rattle.grammar.proofs.ResolvedLaws.{Sound, compiled_is_resolved, order_below}
 use Rattle.grammar.proofs.Verdicts.{clean_verdict}
-use Rattle.grammar.specs.Laws.Finished.{PassesAll, Finished, Undefined, WithoutMain, known_names}
+use Rattle.grammar.specs.Laws.Finished.{PassesAll, Finished, Undefined, WithoutMain, names_in_scope}
 use Rattle.grammar.proofs.NamedFunctions.{AreNamed, sound_of_passes, named_of_passes}
-use Rattle.grammar.proofs.Indices.{map_of_places}
+use Rattle.grammar.proofs.Indices.{map_by_index}
 
 -- Functions by number.
 
@@ -67,32 +67,32 @@ all_are : (number : ℕ) (lines : List ℕ) (ds : List Definition) → line_of_u
     AreAll number lines ds
 all_are number [] ds e = none_mentioned number ds
 all_are number (line ∷ lines) ds e =
-    at_place (λ h. all_are (number + 1) lines ds h) (defined_as number ds) refl (rw (any_defined number ds) at e)
+    by_number (λ h. all_are (number + 1) lines ds h) (defined_as number ds) refl (rw (any_defined number ds) at e)
   where
-    at_place : (line_of_undefined (number + 1) lines (order_of ds) ≡ None → AreAll (number + 1) lines ds) →
+    by_number : (line_of_undefined (number + 1) lines (order_of ds) ≡ None → AreAll (number + 1) lines ds) →
         (o : Option Function) → defined_as number ds ≡ o →
         (if is_some o then line_of_undefined (number + 1) lines (order_of ds) else Some line) ≡ None →
         AreAll number (line ∷ lines) ds
-    at_place again None is h = absurd (cc)
-    at_place again (Some f) is h = one_more number line lines ds f is (again h)
+    by_number again None is h = absurd (cc)
+    by_number again (Some f) is h = one_more number line lines ds f is (again h)
 
 -- one isn't
 one_is_not : (number : ℕ) (lines : List ℕ) (ds : List Definition) (line : ℕ) →
     line_of_undefined number lines (order_of ds) ≡ Some line → all_defined number lines ds ≡ Err line
 one_is_not number [] ds line e = absurd (cc)
 one_is_not number (first ∷ lines) ds line e =
-    at_place (λ h. one_is_not (number + 1) lines ds line h) (defined_as number ds) (rw (any_defined number ds) at e)
+    by_number (λ h. one_is_not (number + 1) lines ds line h) (defined_as number ds) (rw (any_defined number ds) at e)
   where
     some_same : (a b : ℕ) → Some a ≡ Some b → a ≡ b
     some_same a b h = cc
 
-    at_place :
+    by_number :
         (line_of_undefined (number + 1) lines (order_of ds) ≡ Some line → all_defined (number + 1) lines ds ≡ Err line)
         → (o : Option Function) →
         (if is_some o then line_of_undefined (number + 1) lines (order_of ds) else Some first) ≡ Some line →
         in_front o first (all_defined (number + 1) lines ds) ≡ Err line
-    at_place again None h = ap Err (some_same first line h)
-    at_place again (Some f) h = rw (again h) refl
+    by_number again None h = ap Err (some_same first line h)
+    by_number again (Some f) h = rw (again h) refl
 
 -- The actions of a file.
 
@@ -167,20 +167,20 @@ verdict_at_end profile located_tokens scope ds p = clean_verdict profile located
 module _ (scope : Scope) (ds : List Definition) (s : Sound (at_end scope ds)) (a : AreAll 0 scope.lines ds) where
   each_at : (k : ℕ) → k < length scope.functions → slice_get a.functions k ≡ defined_as k ds
   each_at k less =
-      let at : 0 + k ≡ k = omega arith in a.each k (omega (arith, s.known.lines)) ∙ ap (λ n. defined_as n ds) at
+      let at : 0 + k ≡ k = omega arith in a.each k (omega (arith, s.scoped.lines)) ∙ ap (λ n. defined_as n ds) at
 
-  told_at : functions_actions a.functions (order_of ds) ≡ definitions_actions ds
-  told_at =
+  reported_at : functions_actions a.functions (order_of ds) ≡ definitions_actions ds
+  reported_at =
       actions_there a.functions ds (there a.functions ds
-      (subst (λ (ns : List ℕ). AreDistinct ns) (begun_at_end scope ds s) s.known.begun)
-      (λ k i. each_at k (order_below _ _ k ds s.known.definitions i)))
+      (subst (λ (ns : List ℕ). AreDistinct ns) (begun_at_end scope ds s) s.scoped.begun)
+      (λ k i. each_at k (order_below _ _ k ds s.scoped.definitions i)))
 
   names_at : AreNamed scope.functions ds → map names_of_function a.functions ≡ scope.functions
-  names_at h = map_of_places names_of_function a.functions scope.functions (a.count ∙ s.known.lines)
+  names_at h = map_by_index names_of_function a.functions scope.functions (a.count ∙ s.scoped.lines)
       (λ k f e. named_at scope.functions k f ds h (sym (each_at k (below k f e)) ∙ e))
     where
       below : (k : ℕ) (f : Function) → slice_get a.functions k ≡ Some f → k < length scope.functions
-      below k f e = omega (arith, slice_get_within a.functions k f e, a.count, s.known.lines)
+      below k f e = omega (arith, slice_get_within a.functions k f e, a.count, s.scoped.lines)
 
 abbrev file_at : Scope → List Definition → List Function → ℕ → File
 file_at scope ds functions main =
@@ -200,7 +200,8 @@ without_main_at : (located_tokens : List LocatedToken) (scope : Scope) (ds : Lis
 without_main_at located_tokens scope ds functions all named = rw (all, named) refl
 
 names_same : (scope : Scope) (ds : List Definition) (functions : List Function) (main : ℕ) →
-    map names_of_function functions ≡ scope.functions → known_names scope ≡ pools_of (file_at scope ds functions main)
+    map names_of_function functions ≡ scope.functions →
+    names_in_scope scope ≡ pools_of (file_at scope ds functions main)
 names_same scope ds functions main e = rw e refl
 
 -- main has a number or hasn't
@@ -239,7 +240,7 @@ finished profile located_tokens scope ds p e has =
       named = names_same scope ds a.functions main.value
           (names_at scope ds s a (named_of_passes profile located_tokens (at_end scope ds) p));
       main = main.is;
-      told = told_at scope ds s a;
+      reported = reported_at scope ds s a;
     }
 
 pub undefined : Undefined

@@ -276,7 +276,7 @@ too_long profile stack located_token rest values scope functions sound fits long
   code = refl;
 }
 
--- A level beyond the last one, opened by a punctuator.
+-- Nested too deeply, by a punctuator.
 pub too_deep : (profile : Profile) (symbol : Symbol) (m : Punctuator) (items stack : List Item)
     (located_token : LocatedToken) (rest : List LocatedToken) (values : List PartialTree) (scope : Scope)
     (functions : List Definition) →
@@ -316,7 +316,7 @@ too_deep_word profile symbol w items stack located_token rest values scope funct
   code = refl;
 }
 
--- A fault of a role has a greater code than that of a level.
+-- A fault of a role has a greater code than that of nesting.
 
 single_code : (g : Fault) (rest : List LocatedToken) (c : Code) → 9 ≤ fault_code_number c → IsIn g (fault rest c ∷ []) →
     9 ≤ fault_code_number g.code
@@ -383,7 +383,7 @@ deep_before_role g role name scope rest faults same h =
     let large : 9 ≤ fault_code_number g.code = role_code g role name scope rest here in
     same_token_first (fault rest fault_code.NestedTooDeeply) g (role_rest g role name scope rest here) (omega arith)
 
--- A level beyond the last one, opened by a name: the name may have a fault of its role, which comes after.
+-- Nested too deeply, by a name: the name may have a fault of its role, which comes after.
 pub too_deep_name : (profile : Profile) (symbol : Symbol) (role : Role) (name : List ℕ) (items stack : List Item)
     (located_token : LocatedToken) (rest : List LocatedToken) (values : List PartialTree) (scope : Scope)
     (functions : List Definition) →

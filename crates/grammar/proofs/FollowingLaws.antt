@@ -195,11 +195,11 @@ done_settles returned (InElse ∷ o) e = refl
 done_settles returned (InLoopBody ∷ o) e = refl
 done_settles returned (x ∷ o) e = absurd (cc)
 
-pub settled_place : (returned : Bool) (o : Opened) → may_take_statement o ≡ true →
+pub settled_context : (returned : Bool) (o : Opened) → may_take_statement o ≡ true →
     may_take_statement (settled returned o) ≡ true
-settled_place returned [] e = absurd (cc)
-settled_place returned (InFunction parameters before ∷ o) e = refl
-settled_place returned (x ∷ o) e = e
+settled_context returned [] e = absurd (cc)
+settled_context returned (InFunction parameters before ∷ o) e = refl
+settled_context returned (x ∷ o) e = e
 
 pub settled_count : (returned : Bool) (o : Opened) → open_count (settled returned o) ≡ open_count o
 settled_count returned [] = refl
@@ -219,8 +219,8 @@ behind_body (Return e rest) o = behind_body rest (settled (is_number 0 (origin_o
 value_leads : (e : Expr) (o : Opened) → may_take_statement o ≡ true → InExpr 64 64 64 e →
     open_count o + nesting e ≤ 200 →
     Leads (expr_actions e) o (AValue (origin_of e) ∷ o)
-value_leads e [] place h small = absurd (cc)
-value_leads e (outer ∷ o) place h small = expr_leads e outer o h small
+value_leads e [] context h small = absurd (cc)
+value_leads e (outer ∷ o) context h small = expr_leads e outer o h small
 
 pub chop_settles : (origin : ValueCategory) (o : Opened) → may_take_statement o ≡ true →
     follow Chop (AValue origin ∷ o) ≡ Some (settled false o)
@@ -248,41 +248,42 @@ leads_to acts o p q e a = subst (λ (r : Opened). Leads acts o r) e a
 pub body_leads : (b : Body) (o : Opened) → may_take_statement o ≡ true → InBody 64 64 64 b →
     open_count o + body_nesting b ≤ 200 →
     Leads (body_actions b) o (behind_body b o)
-body_leads Done o place h small = record { is = refl }
-body_leads (ExpressionStatement e rest) o place h small =
-    chain (expr_actions e) _ _ _ _ (value_leads e o place h.0 (omega arith))
-    (also Chop _ _ (settled false o) _ (chop_settles (origin_of e) o place) (omega (arith, settled_count false o))
-    (body_leads rest (settled false o) (settled_place false o place) h.1 (omega (arith, settled_count false o))))
-body_leads (IfStatement c s rest) o place h small =
-    chain (expr_actions c) _ _ _ _ (value_leads c o place h.0 (omega arith))
-    (also IfTest _ _ (InBranch ∷ o) _ (rw place refl) (omega arith)
+body_leads Done o context h small = record { is = refl }
+body_leads (ExpressionStatement e rest) o context h small =
+    chain (expr_actions e) _ _ _ _ (value_leads e o context h.0 (omega arith))
+    (also Chop _ _ (settled false o) _ (chop_settles (origin_of e) o context) (omega (arith, settled_count false o))
+    (body_leads rest (settled false o) (settled_context false o context) h.1 (omega (arith, settled_count false o))))
+body_leads (IfStatement c s rest) o context h small =
+    chain (expr_actions c) _ _ _ _ (value_leads c o context h.0 (omega arith))
+    (also IfTest _ _ (InBranch ∷ o) _ (rw context refl) (omega arith)
     (chain (body_actions s) _ _ (InBranch ∷ o) _
     (leads_to _ _ _ _ (inside s InBranch o (λ returned. refl)) (body_leads s (InBranch ∷ o) refl h.1 (omega arith)))
-    (also EndIf _ _ (settled false o) _ (done_settles false o place) (omega (arith, settled_count false o))
-    (body_leads rest (settled false o) (settled_place false o place) h.2 (omega (arith, settled_count false o))))))
-body_leads (IfElseStatement c s t rest) o place h small =
-    chain (expr_actions c) _ _ _ _ (value_leads c o place h.0 (omega arith))
-    (also IfTest _ _ (InBranch ∷ o) _ (rw place refl) (omega arith)
+    (also EndIf _ _ (settled false o) _ (done_settles false o context) (omega (arith, settled_count false o))
+    (body_leads rest (settled false o) (settled_context false o context) h.2 (omega (arith, settled_count false o))))))
+body_leads (IfElseStatement c s t rest) o context h small =
+    chain (expr_actions c) _ _ _ _ (value_leads c o context h.0 (omega arith))
+    (also IfTest _ _ (InBranch ∷ o) _ (rw context refl) (omega arith)
     (chain (body_actions s) _ _ (InBranch ∷ o) _
     (leads_to _ _ _ _ (inside s InBranch o (λ returned. refl)) (body_leads s (InBranch ∷ o) refl h.1 (omega arith)))
     (also ElsePart _ _ (InElse ∷ o) _ refl (omega arith)
     (chain (body_actions t) _ _ (InElse ∷ o) _
     (leads_to _ _ _ _ (inside t InElse o (λ returned. refl)) (body_leads t (InElse ∷ o) refl h.2 (omega arith)))
-    (also EndIf _ _ (settled false o) _ (done_settles false o place) (omega (arith, settled_count false o))
-    (body_leads rest (settled false o) (settled_place false o place) h.3 (omega (arith, settled_count false o))))))))
-body_leads (While c s rest) o place h small =
-    also BeginWhile _ _ (BeforeTest ∷ o) _ (rw place refl) (omega arith)
+    (also EndIf _ _ (settled false o) _ (done_settles false o context) (omega (arith, settled_count false o))
+    (body_leads rest (settled false o) (settled_context false o context) h.3
+    (omega (arith, settled_count false o))))))))
+body_leads (While c s rest) o context h small =
+    also BeginWhile _ _ (BeforeTest ∷ o) _ (rw context refl) (omega arith)
     (chain (expr_actions c) _ _ _ _ (expr_leads c BeforeTest o h.0 (omega arith))
     (also WhileTest _ _ (InLoopBody ∷ o) _ refl (omega arith)
     (chain (body_actions s) _ _ (InLoopBody ∷ o) _
     (leads_to _ _ _ _ (inside s InLoopBody o (λ returned. refl)) (body_leads s (InLoopBody ∷ o) refl h.1 (omega arith)))
-    (also EndWhile _ _ (settled false o) _ (done_settles false o place) (omega (arith, settled_count false o))
-    (body_leads rest (settled false o) (settled_place false o place) h.2 (omega (arith, settled_count false o)))))))
-body_leads (Return e rest) o place h small =
-    chain (expr_actions e) _ _ _ _ (value_leads e o place h.0 (omega arith))
-    (also GiveBack _ _ (settled (is_number 0 (origin_of e)) o) _ (done_settles (is_number 0 (origin_of e)) o place)
+    (also EndWhile _ _ (settled false o) _ (done_settles false o context) (omega (arith, settled_count false o))
+    (body_leads rest (settled false o) (settled_context false o context) h.2 (omega (arith, settled_count false o)))))))
+body_leads (Return e rest) o context h small =
+    chain (expr_actions e) _ _ _ _ (value_leads e o context h.0 (omega arith))
+    (also GiveBack _ _ (settled (is_number 0 (origin_of e)) o) _ (done_settles (is_number 0 (origin_of e)) o context)
     (omega (arith, settled_count (is_number 0 (origin_of e)) o))
-    (body_leads rest (settled (is_number 0 (origin_of e)) o) (settled_place (is_number 0 (origin_of e)) o place) h.1
+    (body_leads rest (settled (is_number 0 (origin_of e)) o) (settled_context (is_number 0 (origin_of e)) o context) h.1
     (omega (arith, settled_count (is_number 0 (origin_of e)) o))))
 
 -- Functions.
@@ -323,10 +324,10 @@ function_finishes parameters variables h k = rw (le-leb parameters variables h, 
 pub definition_leads : (number parameters variables : ℕ) (body : Body) → number < 64 → parameters ≤ variables →
     variables ≤ 64 → InBody 64 64 64 body → body_nesting body ≤ 200 →
     Leads (BeginFunction number parameters ∷ (body_actions body ++ (last_return ++ EndFunction variables ∷ []))) [] []
-definition_leads number parameters variables body known within most h small =
+definition_leads number parameters variables body below within most h small =
     let k : KeepsFunction body parameters false = keeps_function body parameters false in
     also (BeginFunction number parameters) _ _ (InFunction parameters false ∷ []) _
-    (function_begins number parameters known (omega arith)) (omega arith)
+    (function_begins number parameters below (omega arith)) (omega arith)
     (chain (body_actions body) _ _ (InFunction parameters k.returned ∷ []) _
     (leads_to _ _ _ _ k.is (body_leads body (InFunction parameters false ∷ []) refl h (omega arith)))
     (also (PushConstant (pos 0)) _ _ (AValue (Number (pos 0)) ∷ InFunction parameters k.returned ∷ []) _ refl
@@ -336,27 +337,27 @@ definition_leads number parameters variables body known within most h small =
 
 pub function_leads : (number : ℕ) (f : Function) → number < 64 → FitsFile 64 64 f → body_nesting f.body ≤ 200 →
     Leads (function_actions number f) [] []
-function_leads number f known h small =
+function_leads number f below h small =
     let within : InBody 64 64 64 f.body =
     body_wider 64 (length f.variables) 64 64 64 64
     (record { externals = omega arith; locals = h.variables; functions = omega arith }) f.body h.body in
-    definition_leads number f.parameters (length f.variables) f.body known h.parameters h.variables within small
+    definition_leads number f.parameters (length f.variables) f.body below h.parameters h.variables within small
 
 -- Files.
 
 numbered_leads : (functions : List Function) (numbers : List ℕ) →
     ((k : ℕ) (f : Function) → slice_get functions k ≡ Some f → FitsFile 64 64 f × (body_nesting f.body ≤ 200)) →
     ((k : ℕ) → IsAmong k numbers → k < 64) → Leads (functions_actions functions numbers) [] []
-numbered_leads functions [] each known = record { is = refl }
-numbered_leads functions (k ∷ ks) each known =
+numbered_leads functions [] each below = record { is = refl }
+numbered_leads functions (k ∷ ks) each below =
     chain (numbered_actions k (slice_get functions k)) _ _ [] _ (one (slice_get functions k) refl)
-    (numbered_leads functions ks each (λ j h. known j (inr h)))
+    (numbered_leads functions ks each (λ j h. below j (inr h)))
   where
     one : (f : Option Function) → slice_get functions k ≡ f → Leads (numbered_actions k f) [] []
     one None e = record { is = refl }
     one (Some f) e =
         let h : FitsFile 64 64 f × (body_nesting f.body ≤ 200) = each k f e in
-        function_leads k f (known k (inl refl)) h.0 h.1
+        function_leads k f (below k (inl refl)) h.0 h.1
 
 pub file_leads : EachFileFollows
 file_leads file resolved nested = (numbered_leads file.functions file.order

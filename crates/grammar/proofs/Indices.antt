@@ -26,11 +26,11 @@ some_same : {X : Type 0} (a b : X) → Some b ≡ Some a → a ≡ b
 some_same a b e = cc
 
 -- a list is the other's, element by element
-pub map_of_places : {X Y : Type 0} (f : X → Y) (xs : List X) (ys : List Y) → length xs ≡ length ys →
+pub map_by_index : {X Y : Type 0} (f : X → Y) (xs : List X) (ys : List Y) → length xs ≡ length ys →
     ((k : ℕ) (x : X) → slice_get xs k ≡ Some x → slice_get ys k ≡ Some (f x)) → map f xs ≡ ys
-map_of_places f [] [] l h = refl
-map_of_places f [] (y ∷ ys) l h = absurd (omega (arith, l))
-map_of_places f (x ∷ xs) [] l h = absurd (omega (arith, l))
-map_of_places f (x ∷ xs) (y ∷ ys) l h =
+map_by_index f [] [] l h = refl
+map_by_index f [] (y ∷ ys) l h = absurd (omega (arith, l))
+map_by_index f (x ∷ xs) [] l h = absurd (omega (arith, l))
+map_by_index f (x ∷ xs) (y ∷ ys) l h =
     ap₂ (λ a rest. a ∷ rest) (some_same (f x) y (h zero x refl))
-    (map_of_places f xs ys (omega (arith, l)) (λ k a e. h (suc k) a e))
+    (map_by_index f xs ys (omega (arith, l)) (λ k a e. h (suc k) a e))

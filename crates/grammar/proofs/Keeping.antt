@@ -185,16 +185,16 @@ defines_none rule values scope functions h = length-append functions [] ∙ omeg
 
 -- One step at an inner item: what follows is over the same items.
 
-record Stands (base : List Item) (known : Scope) (count : ℕ) (s : State) : Type 0 where
+record Stands (base : List Item) (in_scope : Scope) (count : ℕ) (s : State) : Type 0 where
   items : List Item
   inner : all_inner items ≡ true
   over : s.stack ≡ items ++ base
-  keeps : KeepsFunction known s.scope
+  keeps : KeepsFunction in_scope s.scope
   same : length s.functions ≡ count
 
 abbrev IfStands : List Item → Scope → ℕ → Option State → Type 0
-IfStands base known count None = Unit {0}
-IfStands base known count (Some s) = Stands base known count s
+IfStands base in_scope count None = Unit {0}
+IfStands base in_scope count (Some s) = Stands base in_scope count s
 
 matched_stands : (fits : Bool) (items base : List Item) (rest : List LocatedToken) (values : List PartialTree)
     (scope : Scope)
@@ -261,20 +261,21 @@ item_stands (Make rule) items base rest values scope functions i h =
 item_stands Close items base rest values scope functions i h =
     record { items = items; inner = h; over = refl; keeps = kept scope; same = refl }
 
-guarded_stands : (b : Bool) (base : List Item) (known : Scope) (count : ℕ) (o : Option State) →
-    IfStands base known count o → IfStands base known count (if b then None else o)
-guarded_stands true base known count o h = tt
-guarded_stands false base known count o h = h
+guarded_stands : (b : Bool) (base : List Item) (in_scope : Scope) (count : ℕ) (o : Option State) →
+    IfStands base in_scope count o → IfStands base in_scope count (if b then None else o)
+guarded_stands true base in_scope count o h = tt
+guarded_stands false base in_scope count o h = h
 
-stays : (base : List Item) (known : Scope) (count : ℕ) (s : State) (o : Option State) → Stands base known count s →
-    IfStands base s.scope (length s.functions) o → Stands base known count (unwrap_or o s)
-stays base known count s None h k = h
-stays base known count s (Some t) h k =
+stays : (base : List Item) (in_scope : Scope) (count : ℕ) (s : State) (o : Option State) →
+    Stands base in_scope count s →
+    IfStands base s.scope (length s.functions) o → Stands base in_scope count (unwrap_or o s)
+stays base in_scope count s None h k = h
+stays base in_scope count s (Some t) h k =
     record {
       items = k.items;
       inner = k.inner;
       over = k.over;
-      keeps = kept_on known s.scope t.scope h.keeps k.keeps;
+      keeps = kept_on in_scope s.scope t.scope h.keeps k.keeps;
       same = k.same ∙ h.same;
     }
 
@@ -349,34 +350,35 @@ run_more (suc n) s =
 -- A derivation that defined no function didn't pass the end of the one that it is in.
 
 abbrev KeepsFrom : ℕ → Scope → ℕ → State → Type 0
-KeepsFrom n known count s = length (derived n s).functions ≡ count → KeepsFunction known (derived n s).scope
+KeepsFrom n in_scope count s = length (derived n s).functions ≡ count → KeepsFunction in_scope (derived n s).scope
 
 -- at a function's end a step adds it, or the derivation stays
-end_keeps : (b : Bool) (n : ℕ) (stack : List Item) (known : Scope) (count : ℕ) (s : State) →
-    length s.functions ≡ count → KeepsFrom n known count s →
-    KeepsFrom n known count
+end_keeps : (b : Bool) (n : ℕ) (stack : List Item) (in_scope : Scope) (count : ℕ) (s : State) →
+    length s.functions ≡ count → KeepsFrom n in_scope count s →
+    KeepsFrom n in_scope count
     (unwrap_or (if b then None else stack_step (Make Define ∷ stack) s) s)
-end_keeps true n stack known count s before again = again
-end_keeps false n stack known count s before again = λ same. absurd (
+end_keeps true n stack in_scope count s before again = again
+end_keeps false n stack in_scope count s before again = λ same. absurd (
     let behind : State =
     state stack s.rest [] (scope_after_action Define s.scope) (s.functions ++ functions_defined Define s.values s.scope)
     in
     omega
     (arith, before, same, run_more n behind, length-append s.functions (functions_defined Define s.values s.scope)))
 
-step_keeps : (n : ℕ) (items stack : List Item) (known : Scope) (count : ℕ) (s : State) → all_inner items ≡ true →
+step_keeps : (n : ℕ) (items stack : List Item) (in_scope : Scope) (count : ℕ) (s : State) → all_inner items ≡ true →
     s.stack ≡ items ++ Make Define ∷ stack →
-    Stands (Make Define ∷ stack) known count s →
-    ((t : State) → Stands (Make Define ∷ stack) known count t → KeepsFrom n known count t) →
-    KeepsFrom n known count (stepped s)
-step_keeps n [] stack known count s inner over h again =
+    Stands (Make Define ∷ stack) in_scope count s →
+    ((t : State) → Stands (Make Define ∷ stack) in_scope count t → KeepsFrom n in_scope count t) →
+    KeepsFrom n in_scope count (stepped s)
+step_keeps n [] stack in_scope count s inner over h again =
     subst
-    (λ (xs : List Item). KeepsFrom n known count
+    (λ (xs : List Item). KeepsFrom n in_scope count
     (unwrap_or (if is_lexical_error (next_token s.rest) then None else stack_step xs s) s))
     (sym over)
-    (end_keeps (is_lexical_error (next_token s.rest)) n stack known count s h.same (again s h))
-step_keeps n (item ∷ items) stack known count s inner over h again =
-    again (stepped s) (stays base known count s (step s) h (guarded_stands (is_lexical_error (next_token s.rest)) base
+    (end_keeps (is_lexical_error (next_token s.rest)) n stack in_scope count s h.same (again s h))
+step_keeps n (item ∷ items) stack in_scope count s inner over h again =
+    again (stepped s) (stays base in_scope count s (step s) h (guarded_stands (is_lexical_error (next_token s.rest))
+    base
     s.scope
     (length s.functions) (stack_step s.stack s)
     (subst
@@ -388,26 +390,26 @@ step_keeps n (item ∷ items) stack known count s inner over h again =
     base : List Item
     base = Make Define ∷ stack
 
-run_keeps : (n : ℕ) (stack : List Item) (known : Scope) (count : ℕ) (s : State) →
-    Stands (Make Define ∷ stack) known count s → KeepsFrom n known count s
-run_keeps zero stack known count s h = λ same. h.keeps
-run_keeps (suc n) stack known count s h =
-    step_keeps n h.items stack known count s h.inner h.over h (λ t k. run_keeps n stack known count t k)
+run_keeps : (n : ℕ) (stack : List Item) (in_scope : Scope) (count : ℕ) (s : State) →
+    Stands (Make Define ∷ stack) in_scope count s → KeepsFrom n in_scope count s
+run_keeps zero stack in_scope count s h = λ same. h.keeps
+run_keeps (suc n) stack in_scope count s h =
+    step_keeps n h.items stack in_scope count s h.inner h.over h (λ t k. run_keeps n stack in_scope count t k)
 
 -- from inner items over a function's end to any state before the next function is defined
 pub inner_keeps : (n : ℕ) (items stack after : List Item) (rest later : List LocatedToken)
     (values left : List PartialTree)
-    (known learnt : Scope) (functions : List Definition) → all_inner items ≡ true →
-    derived n (state (items ++ Make Define ∷ stack) rest values known functions) ≡
+    (in_scope learnt : Scope) (functions : List Definition) → all_inner items ≡ true →
+    derived n (state (items ++ Make Define ∷ stack) rest values in_scope functions) ≡
     state after later left learnt functions →
-    KeepsFunction known learnt
-inner_keeps n items stack after rest later values left known learnt functions inner leads =
-    subst (λ (t : State). KeepsFunction known t.scope) leads
-    (run_keeps n stack known (length functions) (state (items ++ Make Define ∷ stack) rest values known functions)
-    (record { items = items; inner = inner; over = refl; keeps = kept known; same = refl })
+    KeepsFunction in_scope learnt
+inner_keeps n items stack after rest later values left in_scope learnt functions inner leads =
+    subst (λ (t : State). KeepsFunction in_scope t.scope) leads
+    (run_keeps n stack in_scope (length functions) (state (items ++ Make Define ∷ stack) rest values in_scope functions)
+    (record { items = items; inner = inner; over = refl; keeps = kept in_scope; same = refl })
     (ap (λ (t : State). length t.functions) leads))
 
 pub blocks_keep : BlocksKeepTheFunction
-blocks_keep n stack rest later values left known learnt functions leads =
-    inner_keeps n (Part Declarations ∷ Part Statements ∷ []) stack (Make Define ∷ stack) rest later values left known
+blocks_keep n stack rest later values left in_scope learnt functions leads =
+    inner_keeps n (Part Declarations ∷ Part Statements ∷ []) stack (Make Define ∷ stack) rest later values left in_scope
     learnt functions refl leads

@@ -19,18 +19,18 @@ in_front : (located_token : LocatedToken) (others : List LocatedToken) → EndsW
 in_front located_token [] h = absurd h
 in_front located_token (other ∷ others) h = h
 
-cut_ends : (n line place : ℕ) (bytes : List ℕ) (too_long : Bool) → length bytes < n →
-    EndsWithLast (tokens_within n (here line place bytes too_long))
-cut_ends zero line place bytes t h = absurd (omega (arith, h))
-cut_ends (suc n) line place [] t h = last-is_last token.End line (at_end (here line place [] t)) refl
-cut_ends (suc n) line place (b ∷ bytes) t h =
+cut_ends : (n line offset : ℕ) (bytes : List ℕ) (too_long : Bool) → length bytes < n →
+    EndsWithLast (tokens_within n (here line offset bytes too_long))
+cut_ends zero line offset bytes t h = absurd (omega (arith, h))
+cut_ends (suc n) line offset [] t h = last-is_last token.End line (at_end (here line offset [] t)) refl
+cut_ends (suc n) line offset (b ∷ bytes) t h =
     by (input_element (b ∷ bytes)) (input_element-is_piece (b ∷ bytes)) (λ count c.
     let p = ahead_after count a in
     let e = length-ahead_after count a in
     cut_ends n p.line p.offset p.bytes p.too_long (omega (arith, e, h, c)))
   where
     a : UnreadSource
-    a = here line place (b ∷ bytes) t
+    a = here line offset (b ∷ bytes) t
 
     followed : (located_token : LocatedToken) (others : List LocatedToken) (last : Bool) →
         is_last located_token.token ≡ last → EndsWithLast others → EndsWithLast (located_token ∷ cond last [] others)

@@ -1,4 +1,4 @@
--- Along a derivation without a fault, each function that was defined has its names among those known.
+-- Along a derivation without a fault, each function that was defined has its names among those in scope.
 use Rattle.std.proofs.Common.{◌≡◌, ℕ, zero, suc, ◌<◌, List, [], ◌∷◌, ◌++◌, sym, ◌∙◌, subst, inl, inr, Bool, true, false, append-nil, length}
 use Rattle.std.specs.Prelude.{Option, Some, None, if◌then◌else◌, unwrap_or, slice_get, set}
 use Rattle.tokens.specs.declared.located_tokens.LocatedToken.{LocatedToken}
@@ -89,10 +89,10 @@ define_named : (stack : List Item) (rest : List LocatedToken) (values : List Par
 define_named stack rest values scope ds s h =
     let b : Busy values scope ds = ended (phase_of stack) values scope ds s.tied in
     let within : scope.number < length scope.functions =
-    s.known.below scope.number
+    s.scoped.below scope.number
     (subst (λ (ns : List ℕ). IsAmong scope.number ns) (sym b.begun) (among_last scope.number (order_of ds))) in
     let new : IsAmong scope.number (order_of ds) → ⊥ =
-    last_apart (order_of ds) scope.number (subst (λ (ns : List ℕ). AreDistinct ns) b.begun s.known.begun) in
+    last_apart (order_of ds) scope.number (subst (λ (ns : List ℕ). AreDistinct ns) b.begun s.scoped.begun) in
     named_append (set scope.functions scope.number scope.current) ds (definition_of scope (last_body values))
     (others_named scope.functions scope.number scope.current ds new h)
     (get_set_same scope.functions scope.number scope.current within)
@@ -169,7 +169,7 @@ stepped_named : (s : State) → Sound s → AreNamed s.scope.functions s.functio
     AreNamed (stepped s).scope.functions (stepped s).functions
 stepped_named s sound h = kept_named s (step s) h
     (guarded_named (is_lexical_error (next_token s.rest)) (stack_step s.stack s)
-    (step_named s.stack s.rest s.values s.scope s.functions (record { known = sound.known; tied = sound.tied }) h))
+    (step_named s.stack s.rest s.values s.scope s.functions (record { scoped = sound.scoped; tied = sound.tied }) h))
 
 run_named : (profile : Profile) (n : ℕ) (s : State) → faults_in profile n s ≡ [] → Sound s →
     AreNamed s.scope.functions s.functions →

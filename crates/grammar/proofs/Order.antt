@@ -79,9 +79,9 @@ pub same_code : (c d : Code) → fault_code_number c ≡ fault_code_number d →
 same_code c d e = some_same c d (sym (found c) ∙ ap (λ n. slice_get all_codes n) e ∙ found d)
 
 -- two faults that each come first are at one token, with one code
-pub same_place : (f g : Fault) → is_first f g ≡ true → is_first g f ≡ true →
+pub same_token : (f g : Fault) → is_first f g ≡ true → is_first g f ≡ true →
     (length f.rest ≡ length g.rest) × (f.code ≡ g.code)
-same_place f g p q =
+same_token f g p q =
     let both : (length f.rest ≡ length g.rest) × (fault_code_number f.code ≡ fault_code_number g.code) =
     same_both (length f.rest) (fault_code_number f.code) (length g.rest) (fault_code_number g.code)
     (meaning (length f.rest) (fault_code_number f.code) (length g.rest) (fault_code_number g.code) p)

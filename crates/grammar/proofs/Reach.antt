@@ -20,43 +20,44 @@ use Rattle.grammar.proofs.Verdicts.{IsRest, gathered, run_rests}
 
 -- All tokens end where the last one does, or before.
 
-next_by_last : (place : ℕ) (next : LocatedToken) (others : List LocatedToken) → IsRising place (next ∷ others) →
+next_by_last : (offset : ℕ) (next : LocatedToken) (others : List LocatedToken) → IsRising offset (next ∷ others) →
     next.end ≤ last_end (next ∷ others)
-next_by_last place next [] rising = le_refl next.end
-next_by_last place next (after ∷ others) rising = omega (arith, rising.1.0, next_by_last next.end after others rising.1)
+next_by_last offset next [] rising = le_refl next.end
+next_by_last offset next (after ∷ others) rising =
+    omega (arith, rising.1.0, next_by_last next.end after others rising.1)
 
-reach_by_last : (place : ℕ) (rest : List LocatedToken) → IsRising place rest → reach_of rest ≤ last_end rest
-reach_by_last place [] rising = le_refl 0
-reach_by_last place (next ∷ []) rising = le_refl next.end
-reach_by_last place (next ∷ after ∷ others) rising = next_by_last next.end after others rising.1
+reach_by_last : (offset : ℕ) (rest : List LocatedToken) → IsRising offset rest → reach_of rest ≤ last_end rest
+reach_by_last offset [] rising = le_refl 0
+reach_by_last offset (next ∷ []) rising = le_refl next.end
+reach_by_last offset (next ∷ after ∷ others) rising = next_by_last next.end after others rising.1
 
 last_behind : (located_token : LocatedToken) (others : List LocatedToken) →
     last_end others ≤ last_end (located_token ∷ others)
 last_behind located_token [] = omega arith
 last_behind located_token (other ∷ others) = le_refl (last_end (other ∷ others))
 
-all_by_last : (place : ℕ) (passed rest : List LocatedToken) → IsRising place (passed ++ rest) →
+all_by_last : (offset : ℕ) (passed rest : List LocatedToken) → IsRising offset (passed ++ rest) →
     reach_of rest ≤ last_end (passed ++ rest)
-all_by_last place [] rest rising = reach_by_last place rest rising
-all_by_last place (located_token ∷ passed) rest rising =
+all_by_last offset [] rest rising = reach_by_last offset rest rising
+all_by_last offset (located_token ∷ passed) rest rising =
     omega (arith, last_behind located_token (passed ++ rest), all_by_last located_token.end passed rest rising.1)
 
 -- What is reached from a token is reached from those after it.
 
-reach_behind : (place : ℕ) (located_token : LocatedToken) (others : List LocatedToken) → 0 < length others →
-    IsRising place (located_token ∷ others) → reach_of (located_token ∷ others) ≤ reach_of others
-reach_behind place located_token [] some rising = absurd (omega (arith, some))
-reach_behind place located_token (next ∷ []) some rising = le_refl next.end
-reach_behind place located_token (next ∷ after ∷ others) some rising = rising.1.1.0
+reach_behind : (offset : ℕ) (located_token : LocatedToken) (others : List LocatedToken) → 0 < length others →
+    IsRising offset (located_token ∷ others) → reach_of (located_token ∷ others) ≤ reach_of others
+reach_behind offset located_token [] some rising = absurd (omega (arith, some))
+reach_behind offset located_token (next ∷ []) some rising = le_refl next.end
+reach_behind offset located_token (next ∷ after ∷ others) some rising = rising.1.1.0
 
-reach_later : (place : ℕ) (before rest : List LocatedToken) → 0 < length rest → IsRising place (before ++ rest) →
+reach_later : (offset : ℕ) (before rest : List LocatedToken) → 0 < length rest → IsRising offset (before ++ rest) →
     reach_of (before ++ rest) ≤ reach_of rest
-reach_later place [] rest some rising = le_refl (reach_of rest)
-reach_later place (located_token ∷ before) rest some rising =
+reach_later offset [] rest some rising = le_refl (reach_of rest)
+reach_later offset (located_token ∷ before) rest some rising =
     let others : 0 < length (before ++ rest) = omega (arith, length-append before rest, some) in
     omega (
       arith,
-      reach_behind place located_token (before ++ rest) others rising,
+      reach_behind offset located_token (before ++ rest) others rising,
       reach_later located_token.end before rest some rising.1,
     )
 
@@ -64,15 +65,15 @@ same_others : (x y : LocatedToken) (xs ys : List LocatedToken) → x ∷ xs ≡ 
 same_others x y xs ys e = cc
 
 -- with as many tokens left, or fewer
-reach_by : (place : ℕ) (before left passed rest : List LocatedToken) → before ++ left ≡ passed ++ rest →
+reach_by : (offset : ℕ) (before left passed rest : List LocatedToken) → before ++ left ≡ passed ++ rest →
     length left ≤ length rest → 0 < length left →
-    IsRising place (passed ++ rest) → reach_of rest ≤ reach_of left
-reach_by place before left [] rest is fewer some rising =
+    IsRising offset (passed ++ rest) → reach_of rest ≤ reach_of left
+reach_by offset before left [] rest is fewer some rising =
     subst (λ xs. reach_of xs ≤ reach_of left) is
-    (reach_later place before left some (subst (IsRising place) (sym is) rising))
-reach_by place [] left (located_token ∷ passed) rest is fewer some rising =
+    (reach_later offset before left some (subst (IsRising offset) (sym is) rising))
+reach_by offset [] left (located_token ∷ passed) rest is fewer some rising =
     absurd (omega (arith, ap length is, length-append passed rest, fewer))
-reach_by place (x ∷ before) left (located_token ∷ passed) rest is fewer some rising =
+reach_by offset (x ∷ before) left (located_token ∷ passed) rest is fewer some rising =
     reach_by located_token.end before left passed rest (same_others x located_token _ _ is) fewer some rising.1
 
 fault_by : (profile : Profile) (bytes : List ℕ) (passed rest : List LocatedToken) (f : Fault) →

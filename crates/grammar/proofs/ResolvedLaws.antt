@@ -18,9 +18,9 @@ use Rattle.grammar.specs.Scope.{Scope, scope_after_name, end_definition, functio
 use Rattle.grammar.specs.Tree.{Function, File}
 use Rattle.grammar.proofs.Phases.{Phase, Outside, Before, Inside, Wrong, Stays, inside, outside_then, begun, by_role, phase_of, part_stays}
 use Rattle.grammar.proofs.DistinctNames.{distinct_front, HaveNames, names, names_append, names_kept}
-use Rattle.grammar.proofs.Indices.{map_of_places}
+use Rattle.grammar.proofs.Indices.{map_by_index}
 use Rattle.grammar.proofs.Runs.{append_empty}
-use Rattle.grammar.proofs.Soundness.{ValuesIn, values_wider, made_in, last_body_in, Known, Grows, Clean, AllIn, all_append, BeginsWell, definition_begins, role_grows, callee_in, variable_in, function_below}
+use Rattle.grammar.proofs.Soundness.{ValuesIn, values_wider, made_in, last_body_in, IsScoped, Grows, Clean, AllIn, all_append, BeginsWell, definition_begins, role_grows, callee_in, variable_in, function_below}
 
 -- The names and trees, by the phase.
 
@@ -40,7 +40,7 @@ Tied Inside values scope ds = Busy values scope ds
 Tied Wrong values scope ds = ⊥
 
 pub record Sound (s : State) : Type 0 where
-  pub known : Known s.scope s.functions
+  pub scoped : IsScoped s.scope s.functions
   pub tied : Tied (phase_of s.stack) s.values s.scope s.functions
 
 tied_stays : (before after : Phase) (values : List PartialTree) (scope : Scope) (ds : List Definition) →
@@ -109,12 +109,13 @@ tied_ended Wrong values old new ds more change t = absurd t
 
 name_sound : (role : Role) (name : List ℕ) (stack : List Item) (rest : List LocatedToken) (line : ℕ)
     (left : List LocatedToken) (values : List PartialTree) (scope : Scope) (ds : List Definition) →
-    Known scope ds → Clean (role_faults role name scope rest) → Tied (by_role role (phase_of stack)) values scope ds →
+    IsScoped scope ds → Clean (role_faults role name scope rest) →
+    Tied (by_role role (phase_of stack)) values scope ds →
     Sound (state stack left (name_tree role name scope ++ values) (scope_after_name role name line scope) ds)
 name_sound Defined name stack rest line left values scope ds k clean t =
     let w : BeginsWell name line scope ds = definition_begins name line scope ds rest k clean in
     record {
-      known = w.known;
+      scoped = w.scoped;
       tied = tied_begun (phase_of stack) values scope (scope_after_name Defined name line scope) ds
           (λ q. record {
             within = rw q.none tt;
@@ -125,24 +126,24 @@ name_sound Defined name stack rest line left values scope ds k clean t =
 name_sound External name stack rest line left values scope ds k clean t =
     let g : Grows scope (scope_after_name External name line scope) ds =
     role_grows External name line scope ds rest tt k clean in
-    record { known = g.known; tied = tied_grows (phase_of stack) values scope _ ds g t }
+    record { scoped = g.scoped; tied = tied_grows (phase_of stack) values scope _ ds g t }
 name_sound Parameter name stack rest line left values scope ds k clean t =
     let g : Grows scope (scope_after_name Parameter name line scope) ds =
     role_grows Parameter name line scope ds rest tt k clean in
-    record { known = g.known; tied = tied_grows (phase_of stack) values scope _ ds g t }
+    record { scoped = g.scoped; tied = tied_grows (phase_of stack) values scope _ ds g t }
 name_sound Typed name stack rest line left values scope ds k clean t =
     let g : Grows scope (scope_after_name Typed name line scope) ds =
     role_grows Typed name line scope ds rest tt k clean in
-    record { known = g.known; tied = tied_grows (phase_of stack) values scope _ ds g t }
+    record { scoped = g.scoped; tied = tied_grows (phase_of stack) values scope _ ds g t }
 name_sound Local name stack rest line left values scope ds k clean t =
     let g : Grows scope (scope_after_name Local name line scope) ds =
     role_grows Local name line scope ds rest tt k clean in
-    record { known = g.known; tied = tied_grows (phase_of stack) values scope _ ds g t }
+    record { scoped = g.scoped; tied = tied_grows (phase_of stack) values scope _ ds g t }
 name_sound Called name stack rest line left values scope ds k clean t =
     let g : Grows scope (scope_after_name Called name line scope) ds =
     role_grows Called name line scope ds rest tt k clean in
     record {
-      known = g.known;
+      scoped = g.scoped;
       tied = tied_inside (phase_of stack) values _ scope _ ds
           (λ b. let c : Busy values (scope_after_name Called name line scope) ds = busy_grows values scope _ ds g b in
           record {
@@ -155,7 +156,7 @@ name_sound Mentioned name stack rest line left values scope ds k clean t =
     let g : Grows scope (scope_after_name Mentioned name line scope) ds =
     role_grows Mentioned name line scope ds rest tt k clean in
     record {
-      known = g.known;
+      scoped = g.scoped;
       tied = tied_inside (phase_of stack) values _ scope _ ds
           (λ b. let c : Busy values (scope_after_name Mentioned name line scope) ds =
           busy_grows values scope _ ds g b in
@@ -170,10 +171,10 @@ among_last n [] = inl refl
 among_last n (x ∷ ns) = inr (among_last n ns)
 
 -- at a function's end
-define_known : (values : List PartialTree) (scope : Scope) (ds : List Definition) → Known scope ds →
+define_scoped : (values : List PartialTree) (scope : Scope) (ds : List Definition) → IsScoped scope ds →
     Busy values scope ds →
-    Known (end_definition scope) (ds ++ definition_of scope (last_body values) ∷ [])
-define_known values scope ds k b =
+    IsScoped (end_definition scope) (ds ++ definition_of scope (last_body values) ∷ [])
+define_scoped values scope ds k b =
     let same : length (end_definition scope).functions ≡ length scope.functions =
     length-set scope.functions scope.number scope.current in
     let kept : names (end_definition scope).functions ≡ names scope.functions =
@@ -215,22 +216,22 @@ ended Wrong values scope ds t = absurd t
 
 define_sound : (stack : List Item) (rest : List LocatedToken) (values : List PartialTree) (scope : Scope)
     (ds : List Definition) →
-    Known scope ds → Tied (outside_then Inside (phase_of stack)) values scope ds →
+    IsScoped scope ds → Tied (outside_then Inside (phase_of stack)) values scope ds →
     Sound (state stack rest [] (end_definition scope) (ds ++ definition_of scope (last_body values) ∷ []))
 define_sound stack rest values scope ds k t = record {
-  known = define_known values scope ds k (ended (phase_of stack) values scope ds t);
+  scoped = define_scoped values scope ds k (ended (phase_of stack) values scope ds t);
   tied = tied_ended (phase_of stack) values scope (end_definition scope) ds _
       (λ b. record { none = refl; begun = b.begun ∙ sym (order-append ds (definition_of scope (last_body values))) }) t;
 }
 
 make_sound : (rule : SemanticAction) (stack : List Item) (rest : List LocatedToken) (values : List PartialTree)
     (scope : Scope) (ds : List Definition) →
-    Known scope ds → Tied (inside (phase_of stack)) values scope ds →
+    IsScoped scope ds → Tied (inside (phase_of stack)) values scope ds →
     Sound (state stack rest (trees_after rule values) scope (ds ++ []))
 make_sound rule stack rest values scope ds k t =
     subst (λ (xs : List Definition). Sound (state stack rest (trees_after rule values) scope xs))
     (sym (append-nil ds)) (record {
-      known = k;
+      scoped = k;
       tied = tied_inside (phase_of stack) values (trees_after rule values) scope scope ds
           (λ b. record { within = made_in _ _ _ rule values b.within; begun = b.begun; named = b.named }) t;
     })
@@ -242,24 +243,25 @@ IfSound (Some s) = Sound s
 matched_sound : (fits : Bool) (stack : List Item) (rest : List LocatedToken) (values : List PartialTree) (scope : Scope)
     (ds : List Definition) →
     Sound (state stack rest values scope ds) → IfSound (matched fits (state stack rest values scope ds))
-matched_sound true stack rest values scope ds s = record { known = s.known; tied = s.tied }
+matched_sound true stack rest values scope ds s = record { scoped = s.scoped; tied = s.tied }
 matched_sound false stack rest values scope ds s = tt
 
 constant_sound : (value : Option ℕ) (stack : List Item) (rest : List LocatedToken) (values : List PartialTree)
     (scope : Scope)
     (ds : List Definition) →
-    Known scope ds → Tied (inside (phase_of stack)) values scope ds →
+    IsScoped scope ds → Tied (inside (phase_of stack)) values scope ds →
     IfSound (constant_matched value (state stack rest values scope ds))
 constant_sound None stack rest values scope ds k t = tt
 constant_sound (Some value) stack rest values scope ds k t = record {
-  known = k;
+  scoped = k;
   tied = tied_inside (phase_of stack) values _ scope scope ds
       (λ b. record { within = (tt, b.within); begun = b.begun; named = b.named }) t;
 }
 
 named_sound : (role : Role) (name : Option (List ℕ)) (stack : List Item) (rest : List LocatedToken)
     (values : List PartialTree) (scope : Scope) (ds : List Definition) →
-    Clean (name_faults role name scope rest) → Known scope ds → Tied (by_role role (phase_of stack)) values scope ds →
+    Clean (name_faults role name scope rest) → IsScoped scope ds →
+    Tied (by_role role (phase_of stack)) values scope ds →
     IfSound (name_matched role name (state stack rest values scope ds))
 named_sound role None stack rest values scope ds clean k t = tt
 named_sound role (Some name) stack rest values scope ds clean k t =
@@ -272,7 +274,7 @@ part_sound : (symbol : Symbol) (production : Production) (stack : List Item) (re
     IfSound (replaced production (state stack rest values scope ds))
 part_sound symbol None stack rest values scope ds e s = tt
 part_sound symbol (Some items) stack rest values scope ds e s = record {
-  known = s.known;
+  scoped = s.scoped;
   tied = tied_stays (phase_of (Part symbol ∷ stack)) (phase_of (items ++ stack)) values scope ds
       (part_stays symbol (next_token rest) (token_after_next rest) items stack e) s.tied;
 }
@@ -284,54 +286,54 @@ sound_of : (profile : Profile) (stack : List Item) (rest : List LocatedToken) (v
     IfSound (stack_step stack (state stack rest values scope ds))
 sound_of profile [] rest values scope ds clean s = tt
 sound_of profile (Exactly m ∷ stack) rest values scope ds clean s =
-    matched_sound _ stack rest values scope ds (record { known = s.known; tied = s.tied })
+    matched_sound _ stack rest values scope ds (record { scoped = s.scoped; tied = s.tied })
 sound_of profile (AKeyword w ∷ stack) rest values scope ds clean s =
-    matched_sound _ stack rest values scope ds (record { known = s.known; tied = s.tied })
+    matched_sound _ stack rest values scope ds (record { scoped = s.scoped; tied = s.tied })
 sound_of profile (AName role ∷ stack) rest values scope ds clean s =
-    named_sound role (name_of_token (next_token rest)) stack rest values scope ds clean s.known s.tied
+    named_sound role (name_of_token (next_token rest)) stack rest values scope ds clean s.scoped s.tied
 sound_of profile (AConstant ∷ stack) rest values scope ds clean s =
-    constant_sound (constant_value (next_token rest)) stack rest values scope ds s.known s.tied
+    constant_sound (constant_value (next_token rest)) stack rest values scope ds s.scoped s.tied
 sound_of profile (AnEnd ∷ stack) rest values scope ds clean s =
-    matched_sound _ stack rest values scope ds (record { known = s.known; tied = s.tied })
+    matched_sound _ stack rest values scope ds (record { scoped = s.scoped; tied = s.tied })
 sound_of profile (Part symbol ∷ stack) rest values scope ds clean s =
     part_sound symbol _ stack rest values scope ds refl s
 sound_of profile (Make Define ∷ stack) rest values scope ds clean s =
-    define_sound stack rest values scope ds s.known s.tied
+    define_sound stack rest values scope ds s.scoped s.tied
 sound_of profile (Make (Operate o) ∷ stack) rest values scope ds clean s =
-    make_sound (Operate o) stack rest values scope ds s.known s.tied
+    make_sound (Operate o) stack rest values scope ds s.scoped s.tied
 sound_of profile (Make Negate ∷ stack) rest values scope ds clean s =
-    make_sound Negate stack rest values scope ds s.known s.tied
+    make_sound Negate stack rest values scope ds s.scoped s.tied
 sound_of profile (Make Not ∷ stack) rest values scope ds clean s =
-    make_sound Not stack rest values scope ds s.known s.tied
+    make_sound Not stack rest values scope ds s.scoped s.tied
 sound_of profile (Make Complement ∷ stack) rest values scope ds clean s =
-    make_sound Complement stack rest values scope ds s.known s.tied
+    make_sound Complement stack rest values scope ds s.scoped s.tied
 sound_of profile (Make Fetch ∷ stack) rest values scope ds clean s =
-    make_sound Fetch stack rest values scope ds s.known s.tied
+    make_sound Fetch stack rest values scope ds s.scoped s.tied
 sound_of profile (Make (Store o) ∷ stack) rest values scope ds clean s =
-    make_sound (Store o) stack rest values scope ds s.known s.tied
+    make_sound (Store o) stack rest values scope ds s.scoped s.tied
 sound_of profile (Make (PrefixIncrement o) ∷ stack) rest values scope ds clean s =
-    make_sound (PrefixIncrement o) stack rest values scope ds s.known s.tied
+    make_sound (PrefixIncrement o) stack rest values scope ds s.scoped s.tied
 sound_of profile (Make (PostfixIncrement o) ∷ stack) rest values scope ds clean s =
-    make_sound (PostfixIncrement o) stack rest values scope ds s.known s.tied
+    make_sound (PostfixIncrement o) stack rest values scope ds s.scoped s.tied
 sound_of profile (Make AddArgument ∷ stack) rest values scope ds clean s =
-    make_sound AddArgument stack rest values scope ds s.known s.tied
+    make_sound AddArgument stack rest values scope ds s.scoped s.tied
 sound_of profile (Make Invoke ∷ stack) rest values scope ds clean s =
-    make_sound Invoke stack rest values scope ds s.known s.tied
+    make_sound Invoke stack rest values scope ds s.scoped s.tied
 sound_of profile (Make Empty ∷ stack) rest values scope ds clean s =
-    make_sound Empty stack rest values scope ds s.known s.tied
+    make_sound Empty stack rest values scope ds s.scoped s.tied
 sound_of profile (Make Evaluate ∷ stack) rest values scope ds clean s =
-    make_sound Evaluate stack rest values scope ds s.known s.tied
+    make_sound Evaluate stack rest values scope ds s.scoped s.tied
 sound_of profile (Make Decide ∷ stack) rest values scope ds clean s =
-    make_sound Decide stack rest values scope ds s.known s.tied
+    make_sound Decide stack rest values scope ds s.scoped s.tied
 sound_of profile (Make DecideElse ∷ stack) rest values scope ds clean s =
-    make_sound DecideElse stack rest values scope ds s.known s.tied
+    make_sound DecideElse stack rest values scope ds s.scoped s.tied
 sound_of profile (Make Repeat ∷ stack) rest values scope ds clean s =
-    make_sound Repeat stack rest values scope ds s.known s.tied
+    make_sound Repeat stack rest values scope ds s.scoped s.tied
 sound_of profile (Make Zero ∷ stack) rest values scope ds clean s =
-    make_sound Zero stack rest values scope ds s.known s.tied
+    make_sound Zero stack rest values scope ds s.scoped s.tied
 sound_of profile (Make GiveBack ∷ stack) rest values scope ds clean s =
-    make_sound GiveBack stack rest values scope ds s.known s.tied
-sound_of profile (Close ∷ stack) rest values scope ds clean s = record { known = s.known; tied = s.tied }
+    make_sound GiveBack stack rest values scope ds s.scoped s.tied
+sound_of profile (Close ∷ stack) rest values scope ds clean s = record { scoped = s.scoped; tied = s.tied }
 
 guarded_sound : (b : Bool) (rest : List LocatedToken) (xs ys : List Fault) (o : Option State) →
     (if b then unexpected_token rest else xs ++ ys) ≡ [] → (xs ≡ [] → IfSound o) → IfSound (if b then None else o)
@@ -348,7 +350,7 @@ stepped_sound profile s clean h = kept_sound s (step s) h
     (stack_faults profile s.stack s)
     (unexpected_tokens s.stack s.rest (stack_step s.stack s))
     (stack_step s.stack s) clean
-    (λ c. sound_of profile s.stack s.rest s.values s.scope s.functions c (record { known = h.known; tied = h.tied })))
+    (λ c. sound_of profile s.stack s.rest s.values s.scope s.functions c (record { scoped = h.scoped; tied = h.tied })))
 
 pub run_sound : (profile : Profile) (n : ℕ) (s : State) → faults_in profile n s ≡ [] → Sound s → Sound (derived n s)
 run_sound profile zero s clean h = h
@@ -358,7 +360,7 @@ run_sound profile (suc n) s clean h =
 
 pub start_sound : (located_tokens : List LocatedToken) → Sound (initial_state located_tokens)
 start_sound located_tokens = record {
-  known = record {
+  scoped = record {
     externals = omega arith;
     functions = omega arith;
     lines = refl;
@@ -470,18 +472,19 @@ made_file scope order functions main =
 pub record IsMade (scope : Scope) (order : List ℕ) (functions : Result (List Function) ℕ) (main : Option ℕ)
     (file : File) : Type 0 where
   pub all : List Function
-  pub place : ℕ
+  pub number : ℕ
   pub found : functions ≡ Ok all
-  pub named : main ≡ Some place
-  pub is : made_file scope order all place ≡ file
+  pub named : main ≡ Some number
+  pub is : made_file scope order all number ≡ file
 
 pub is_made : (last : ℕ) (scope : Scope) (order : List ℕ) (functions : Result (List Function) ℕ) (main : Option ℕ)
     (file : File) → file_of last scope order functions main ≡ Ok file →
     IsMade scope order functions main file
 is_made last scope order (Err line) main file e = absurd (cc)
 is_made last scope order (Ok fs) None file e = absurd (cc)
-is_made last scope order (Ok fs) (Some place) file e =
-    record { all = fs; place = place; found = refl; named = refl; is = ok_same (made_file scope order fs place) file e }
+is_made last scope order (Ok fs) (Some number) file e =
+    record
+    { all = fs; number = number; found = refl; named = refl; is = ok_same (made_file scope order fs number) file e }
   where
     ok_at : File → Result File Diagnostic
     ok_at x = Ok x
@@ -520,7 +523,7 @@ defined_names : (functions : List FunctionNames) (lines : List ℕ) (ds : List D
     AreDefined 0 lines ds all → HaveNames (names functions) ds
     → length all ≡ length functions → map (λ (f : Function). f.name) all ≡ names functions
 defined_names functions lines ds all a h count =
-    map_of_places (λ (f : Function). f.name) all (names functions)
+    map_by_index (λ (f : Function). f.name) all (names functions)
     (count ∙ sym (length-map functions (λ (f : FunctionNames). f.name)))
     (λ k f e. named_as (names functions) k f ds h
     (subst (λ (n : ℕ). defined_as n ds ≡ Some f) (from_zero k) (a.each k f e)))
@@ -528,27 +531,27 @@ defined_names functions lines ds all a h count =
     from_zero : (k : ℕ) → 0 + k ≡ k
     from_zero k = omega arith
 
-resolved_of : (s : State) (all : List Function) (place : ℕ) → Sound s →
-    all_defined 0 s.scope.lines s.functions ≡ Ok all → function_number main_name s.scope ≡ Some place →
-    IsResolved (made_file s.scope (order_of s.functions) all place)
-resolved_of s all place h found named =
+resolved_of : (s : State) (all : List Function) (number : ℕ) → Sound s →
+    all_defined 0 s.scope.lines s.functions ≡ Ok all → function_number main_name s.scope ≡ Some number →
+    IsResolved (made_file s.scope (order_of s.functions) all number)
+resolved_of s all number h found named =
     let a : AreDefined 0 s.scope.lines s.functions all = are_defined 0 s.scope.lines s.functions all found in
-    let count : length all ≡ length s.scope.functions = a.count ∙ h.known.lines in
+    let count : length all ≡ length s.scope.functions = a.count ∙ h.scoped.lines in
     record {
-      externals = h.known.externals;
-      functions = omega (arith, h.known.functions);
-      distinct_externals = h.known.distinct_externals;
-      distinct_functions = rw (defined_names s.scope.functions s.scope.lines s.functions all a h.known.named count)
-          h.known.distinct_functions;
+      externals = h.scoped.externals;
+      functions = omega (arith, h.scoped.functions);
+      distinct_externals = h.scoped.distinct_externals;
+      distinct_functions = rw (defined_names s.scope.functions s.scope.lines s.functions all a h.scoped.named count)
+          h.scoped.distinct_functions;
       each =
           λ k f e. subst (λ (n : ℕ). FitsFile (length s.scope.externals) n f) (sym count)
-          (defined_in _ _ (0 + k) f s.functions h.known.definitions (a.each k f e));
+          (defined_in _ _ (0 + k) f s.functions h.scoped.definitions (a.each k f e));
       defined =
           λ k less. subst (λ (n : ℕ). IsAmong n (order_of s.functions)) (from_zero k)
           (a.all k (omega (arith, a.count)));
-      only = λ k i. subst (λ (n : ℕ). k < n) (sym count) (order_below _ _ k s.functions h.known.definitions i);
-      once = distinct_of (phase_of s.stack) s.values s.scope s.functions h.known.begun h.tied;
-      main = subst (λ (n : ℕ). place < n) (sym count) (function_below main_name s.scope place named);
+      only = λ k i. subst (λ (n : ℕ). k < n) (sym count) (order_below _ _ k s.functions h.scoped.definitions i);
+      once = distinct_of (phase_of s.stack) s.values s.scope s.functions h.scoped.begun h.tied;
+      main = subst (λ (n : ℕ). number < n) (sym count) (function_below main_name s.scope number named);
     }
   where
     from_zero : (k : ℕ) → 0 + k ≡ k
@@ -581,4 +584,4 @@ compiled_is_resolved profile located_tokens file e =
     (order_of (last_state located_tokens).functions)
     (all_defined 0 (last_state located_tokens).scope.lines (last_state located_tokens).functions)
     (function_number main_name (last_state located_tokens).scope) file c.is in
-    subst (λ (x : File). IsResolved x) m.is (resolved_of (last_state located_tokens) m.all m.place s m.found m.named)
+    subst (λ (x : File). IsResolved x) m.is (resolved_of (last_state located_tokens) m.all m.number s m.found m.named)

@@ -1,4 +1,4 @@
--- What a name in a role does, by what is known of it.
+-- What a name in a role does, by what is in scope.
 use Rattle.std.proofs.Common.{◌≡◌, ℕ, zero, suc, ◌+◌, ◌<◌, ◌≤◌, List, [], ◌∷◌, ◌++◌, refl, sym, ap, ◌∙◌, Bool, true, false, arith, length, map, Option, Some, None, cond, drop, not, ap₂, lt-ltb, le-ltb, eqb, ◌||◌}
 use Rattle.std.proofs.lemmas.Bool.{or_parts}
 use Rattle.std.proofs.lemmas.List.Folds.{list_any-append}
@@ -41,8 +41,8 @@ pub full : (new : Bool) (n : ℕ) (c : Code) (rest : List LocatedToken) → new 
 full new n c rest is large = rw (is, large) refl
 
 -- a name that isn't new
-pub known : (new : Bool) (n : ℕ) (c : Code) (rest : List LocatedToken) → new ≡ false → no_room new n c rest ≡ []
-known new n c rest is = rw is refl
+pub not_new : (new : Bool) (n : ℕ) (c : Code) (rest : List LocatedToken) → new ≡ false → no_room new n c rest ≡ []
+not_new new n c rest is = rw is refl
 
 pub below_most : (n : ℕ) → nat_le 64 n ≡ false → n < 64
 below_most n h = grind (arith, nat_tests)
@@ -136,7 +136,7 @@ pub kept_nothing : {F : Type 0} (functions : List F) (lines begun : List ℕ) �
     IsScopeKept functions lines begun
 unfolding IsDistinct
 kept_nothing functions lines begun p q r =
-    rw (p, q, r) (record { few = omega arith; lined = refl; once = tt; known = λ k h. absurd (cc) })
+    rw (p, q, r) (record { few = omega arith; lined = refl; once = tt; within = λ k h. absurd (cc) })
 
 all_snoc : {A : Type 0} (P : A → Type 0) (xs : List A) (x : A) → AllByRecursion P xs → P x →
     AllByRecursion P (xs ++ x ∷ [])
@@ -160,12 +160,12 @@ kept_begun functions lines begun n kept within new = record {
   few = kept.few;
   lined = kept.lined;
   once = distinct_snoc begun n kept.once new;
-  known = λ q h. by q (eqb q n) refl (sym (list_any-append (eqb q) begun (n ∷ [])) ∙ h);
+  within = λ q h. by q (eqb q n) refl (sym (list_any-append (eqb q) begun (n ∷ [])) ∙ h);
 }
   where
     by : (q : ℕ) (b : Bool) → eqb q n ≡ b → (list_any (eqb q) begun || (eqb q n || false)) ≡ true → q < length functions
     by q true e h = grind (arith, nat_tests)
-    by q false e h = kept.known q (alone (list_any (eqb q) begun) (rw e at h))
+    by q false e h = kept.within q (alone (list_any (eqb q) begun) (rw e at h))
       where
         alone : (b : Bool) → (b || (false || false)) ≡ true → b ≡ true
         alone true a = refl
@@ -177,7 +177,7 @@ pub room_begun : {F : Type 0} (functions : List F) (lines begun : List ℕ) (n :
     → length begun < 64
 room_begun functions lines begun n kept within new =
     let more = kept_begun functions lines begun n kept within new in
-    let most = length-le_from_distinct_below (begun ++ n ∷ []) (length functions) more.once more.known in
+    let most = length-le_from_distinct_below (begun ++ n ∷ []) (length functions) more.once more.within in
     omega (arith, most, kept.few, length-append begun (n ∷ []))
 
 eqb_swapped : (a b : ℕ) → eqb a b ≡ eqb b a
@@ -195,7 +195,7 @@ not_begun functions lines begun kept = by (list_any (λ k. eqb k (length functio
     by : (b : Bool) → list_any (λ k. eqb k (length functions)) begun ≡ b →
         false ≡ list_any (λ k. eqb k (length functions)) begun
     by true e =
-        let less = kept.known (length functions) (sym (any_swapped (length functions) begun) ∙ e) in
+        let less = kept.within (length functions) (sym (any_swapped (length functions) begun) ∙ e) in
         absurd (omega (arith, less))
     by false e = sym e
 
@@ -204,7 +204,7 @@ pub ruleset in_place = (take-set-lt)
 
 pub ruleset beginnings = (kept_begun, room_begun)
 
-pub ruleset names = (room, full, known, below_most, parameter_full)
+pub ruleset names = (room, full, not_new, below_most, parameter_full)
 
 pub ruleset calls = (called_full, called_new, below_most)
 

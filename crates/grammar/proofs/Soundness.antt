@@ -1,4 +1,4 @@
--- What is known of the names and trees of a derivation without a fault: the trees' names are among those known.
+-- The names in scope and the trees of a derivation without a fault: the trees' names are among those in scope.
 use Rattle.std.proofs.Common.{◌≡◌, ℕ, ◌+◌, ◌<◌, ◌≤◌, ◌⊎◌, List, [], ◌∷◌, ◌++◌, refl, sym, subst, inl, inr, Bool, true, false, arith, length, cond, length-append}
 use Rattle.std.proofs.lemmas.Bool.Decides.{nat_tests}
 use Rattle.std.proofs.lemmas.List.{length-map}
@@ -132,9 +132,9 @@ chosen_below : (n m k : ℕ) (b : Bool) → nat_lt n m ≡ b → cond b (Some n)
 chosen_below n m k true less e = let same : n ≡ k = cc in subst (λ (x : ℕ). x < m) same (less_of n m less)
 chosen_below n m k false less e = absurd (cc)
 
-pub place_below : (name : List ℕ) (names : List (List ℕ)) (k : ℕ) → number_of_name name names ≡ Some k →
+pub index_below : (name : List ℕ) (names : List (List ℕ)) (k : ℕ) → number_of_name name names ≡ Some k →
     k < length names
-place_below name names k e =
+index_below name names k e =
     chosen_below (position_or_len (bytes_eq name) names) (length names) k
     (nat_lt (position_or_len (bytes_eq name) names) (length names)) refl e
 
@@ -143,7 +143,7 @@ pub function_below : (name : List ℕ) (scope : Scope) (k : ℕ) → function_nu
 function_below name scope k e =
     omega (
       arith,
-      place_below name (map (λ (f : FunctionNames). f.name) scope.functions) k e,
+      index_below name (map (λ (f : FunctionNames). f.name) scope.functions) k e,
       length-map scope.functions (λ (f : FunctionNames). f.name),
     )
 
@@ -155,9 +155,9 @@ room count c rest e = below (nat_le 64 count) refl e
     below true is h = absurd (cc)
     below false is h = grind (arith, nat_tests)
 
--- What is known of names.
+-- The names in scope.
 
-pub record Known (scope : Scope) (ds : List Definition) : Type 0 where
+pub record IsScoped (scope : Scope) (ds : List Definition) : Type 0 where
   pub externals : length scope.externals ≤ 64
   pub functions : length scope.functions ≤ 64
   pub lines : length scope.lines ≡ length scope.functions
@@ -171,9 +171,9 @@ pub record Known (scope : Scope) (ds : List Definition) : Type 0 where
   pub distinct_functions : AreDistinct (names scope.functions)
   pub named : HaveNames (names scope.functions) ds
 
--- more names are known, of the same function
+-- more names are in scope, of the same function
 pub record Grows (old new : Scope) (ds : List Definition) : Type 0 where
-  pub known : Known new ds
+  pub scoped : IsScoped new ds
   pub wider : IsWider (length old.externals) (length old.current.variables) (length old.functions)
       (length new.externals) (length new.current.variables) (length new.functions)
   pub begun : new.begun ≡ old.begun
@@ -182,10 +182,10 @@ pub record Grows (old new : Scope) (ds : List Definition) : Type 0 where
   pub same : (n : ℕ) (name : List ℕ) → slice_get (names old.functions) n ≡ Some name →
       slice_get (names new.functions) n ≡ Some name
 
-same_grows : (scope : Scope) (ds : List Definition) → Known scope ds → Grows scope scope ds
+same_grows : (scope : Scope) (ds : List Definition) → IsScoped scope ds → Grows scope scope ds
 same_grows scope ds k =
     record {
-      known = k;
+      scoped = k;
       wider = record { externals = omega arith; locals = omega arith; functions = omega arith };
       begun = refl;
       number = refl;
@@ -193,13 +193,14 @@ same_grows scope ds k =
       same = λ n name e. e;
     }
 
-external_grows : (name : List ℕ) (scope : Scope) (ds : List Definition) → Known scope ds → length scope.externals < 64 →
+external_grows : (name : List ℕ) (scope : Scope) (ds : List Definition) → IsScoped scope ds →
+    length scope.externals < 64 →
     is_external_new name scope ≡ true → Grows scope (with_external name scope) ds
 external_grows name scope ds k less new =
     let longer : length (scope.externals ++ name ∷ []) ≡ length scope.externals + 1 =
     length-append scope.externals (name ∷ []) in
     record {
-      known = record {
+      scoped = record {
         externals = omega arith;
         functions = k.functions;
         lines = k.lines;
@@ -221,7 +222,7 @@ external_grows name scope ds k less new =
     }
 
 -- one variable more, of which this many are parameters
-local_grows : (name : List ℕ) (parameters : ℕ) (scope : Scope) (ds : List Definition) → Known scope ds →
+local_grows : (name : List ℕ) (parameters : ℕ) (scope : Scope) (ds : List Definition) → IsScoped scope ds →
     length scope.current.variables < 64 → parameters ≤ length scope.current.variables + 1 →
     (IsAmong name scope.current.variables → ⊥) →
     Grows scope
@@ -233,7 +234,7 @@ local_grows name parameters scope ds k less few free =
     let longer : length (scope.current.variables ++ name ∷ []) ≡ length scope.current.variables + 1 =
     length-append scope.current.variables (name ∷ []) in
     record {
-      known = record {
+      scoped = record {
         externals = k.externals;
         functions = k.functions;
         lines = k.lines;
@@ -254,19 +255,19 @@ local_grows name parameters scope ds k less few free =
       same = λ n name e. e;
     }
 
-variable_grows : (name : List ℕ) (scope : Scope) (ds : List Definition) → Known scope ds →
+variable_grows : (name : List ℕ) (scope : Scope) (ds : List Definition) → IsScoped scope ds →
     length scope.current.variables < 64
     → (IsAmong name scope.current.variables → ⊥) → Grows scope (with_variable name scope) ds
 variable_grows name scope ds k less =
     local_grows name scope.current.parameters scope ds k less (omega (arith, k.parameters))
 
-parameter_grows : (name : List ℕ) (scope : Scope) (ds : List Definition) → Known scope ds →
+parameter_grows : (name : List ℕ) (scope : Scope) (ds : List Definition) → IsScoped scope ds →
     length scope.current.variables < 64
     → (IsAmong name scope.current.variables → ⊥) → Grows scope (with_parameter name scope) ds
 parameter_grows name scope ds k less =
     local_grows name (scope.current.parameters + 1) scope ds k less (omega (arith, k.parameters))
 
-function_grows : (name : List ℕ) (line : ℕ) (scope : Scope) (ds : List Definition) → Known scope ds →
+function_grows : (name : List ℕ) (line : ℕ) (scope : Scope) (ds : List Definition) → IsScoped scope ds →
     (is_function_new name scope ≡ true → length scope.functions < 64) →
     Grows scope (with_function name line scope) ds
 function_grows name line scope ds k less = at_test (is_function_new name scope) refl
@@ -286,7 +287,7 @@ function_grows name line scope ds k less = at_test (is_function_new name scope) 
         let lines : length (scope.lines ++ line ∷ []) ≡ length scope.lines + 1 =
         length-append scope.lines (line ∷ []) in
         record {
-          known = record {
+          scoped = record {
             externals = k.externals;
             functions = omega arith;
             lines = omega (arith, k.lines);
@@ -321,15 +322,15 @@ room_if : (new : Bool) (count : ℕ) (c : Code) (rest : List LocatedToken) → C
 room_if true count c rest clean is = room count c rest clean
 room_if false count c rest clean is = absurd (cc)
 
--- the number for a function is one of those known after its mention
+-- the number for a function is one of those in scope after its mention
 pub number_in : (name : List ℕ) (line : ℕ) (scope : Scope) → is_intrinsic name ≡ false →
     number_or_next name scope < length (with_function name line scope).functions
-number_in name line scope own = at_place (function_number name scope) refl
+number_in name line scope own = by_number (function_number name scope) refl
   where
-    at_place : (p : Option ℕ) → function_number name scope ≡ p →
+    by_number : (p : Option ℕ) → function_number name scope ≡ p →
         number_or_next name scope < length (with_function name line scope).functions
-    at_place (Some k) e = rw (own, e) (function_below name scope k e)
-    at_place None e =
+    by_number (Some k) e = rw (own, e) (function_below name scope k e)
+    by_number None e =
         rw (own, e)
         (let longer : length (scope.functions ++ only_named name ∷ []) ≡ length scope.functions + 1 =
         length-append scope.functions (only_named name ∷ []) in
@@ -344,7 +345,7 @@ pub callee_in : (name : List ℕ) (line : ℕ) (scope : Scope) →
 callee_in name line scope =
     callable_or (intrinsic_named name) (number_or_next name scope) _ (λ e. number_in name line scope (rw e refl))
 
--- a variable mentioned is one of those known after its mention
+-- a variable mentioned is one of those in scope after its mention
 abbrev pub behind_mention : List ℕ → Scope → Scope
 behind_mention name scope = if is_variable_new name scope then with_variable name scope else scope
 
@@ -352,15 +353,15 @@ pub variable_in : (name : List ℕ) (scope : Scope) →
     IsVariable (length (behind_mention name scope).externals) (length (behind_mention name scope).current.variables)
     (variable_of name scope)
 variable_in name scope =
-    at_places (number_of_name name scope.current.variables) (number_of_name name scope.externals) refl refl
+    by_numbers (number_of_name name scope.current.variables) (number_of_name name scope.externals) refl refl
   where
-    at_places : (p q : Option ℕ) → number_of_name name scope.current.variables ≡ p →
+    by_numbers : (p q : Option ℕ) → number_of_name name scope.current.variables ≡ p →
         number_of_name name scope.externals ≡ q →
         IsVariable (length (behind_mention name scope).externals) (length (behind_mention name scope).current.variables)
         (variable_of name scope)
-    at_places (Some k) q e f = rw e (place_below name scope.current.variables k e)
-    at_places None (Some j) e f = rw (e, f) (place_below name scope.externals j f)
-    at_places None None e f =
+    by_numbers (Some k) q e f = rw e (index_below name scope.current.variables k e)
+    by_numbers None (Some j) e f = rw (e, f) (index_below name scope.externals j f)
+    by_numbers None None e f =
         rw (e, f)
         (let longer : length (scope.current.variables ++ name ∷ []) ≡ length scope.current.variables + 1 =
         length-append scope.current.variables (name ∷ []) in
@@ -377,7 +378,7 @@ Begins Defined = ⊥
 Begins role = Unit {0}
 
 pub role_grows : (role : Role) (name : List ℕ) (line : ℕ) (scope : Scope) (ds : List Definition)
-    (rest : List LocatedToken) → Begins role → Known scope ds →
+    (rest : List LocatedToken) → Begins role → IsScoped scope ds →
     Clean (role_faults role name scope rest) → Grows scope (scope_after_name role name line scope) ds
 role_grows Defined name line scope ds rest other k clean = absurd other
 role_grows External name line scope ds rest other k clean =
@@ -412,30 +413,30 @@ role_grows Mentioned name line scope ds rest other k clean =
     (room_if (is_variable_new name scope) (length scope.current.variables) fault_code.TooManyVariables rest clean is)
     (variable_free name scope is)) (same_grows scope ds k)
 
--- what a definition that begins makes known
+-- what a definition that begins brings into scope
 pub record BeginsWell (name : List ℕ) (line : ℕ) (scope : Scope) (ds : List Definition) : Type 0 where
-  pub known : Known (begin_definition name line scope) ds
+  pub scoped : IsScoped (begin_definition name line scope) ds
   pub begun : (begin_definition name line scope).begun ≡ scope.begun ++ number_or_next name scope ∷ []
   pub named : slice_get (names (begin_definition name line scope).functions) (number_or_next name scope) ≡ Some name
 
 -- the name for a number is at it after its mention
 named_at : (name : List ℕ) (line : ℕ) (scope : Scope) → is_intrinsic name ≡ false →
     slice_get (names (with_function name line scope).functions) (number_or_next name scope) ≡ Some name
-named_at name line scope own = at_place (function_number name scope) refl
+named_at name line scope own = by_number (function_number name scope) refl
   where
     last_there : (all : List (List ℕ)) → slice_get (all ++ name ∷ []) (length all) ≡ Some name
     last_there [] = refl
     last_there (x ∷ all) = last_there all
 
-    at_place : (p : Option ℕ) → function_number name scope ≡ p →
+    by_number : (p : Option ℕ) → function_number name scope ≡ p →
         slice_get (names (with_function name line scope).functions) (number_or_next name scope) ≡ Some name
-    at_place (Some k) e = rw (own, e) (named_there name (names scope.functions) k e)
-    at_place None e =
+    by_number (Some k) e = rw (own, e) (named_there name (names scope.functions) k e)
+    by_number None e =
         rw (own, e, names_more scope.functions name, sym (length-map scope.functions (λ (f : FunctionNames). f.name)))
         (last_there (names scope.functions))
 
 pub definition_begins : (name : List ℕ) (line : ℕ) (scope : Scope) (ds : List Definition) (rest : List LocatedToken) →
-    Known scope ds → Clean (role_faults Defined name scope rest) → BeginsWell name line scope ds
+    IsScoped scope ds → Clean (role_faults Defined name scope rest) → BeginsWell name line scope ds
 definition_begins name line scope ds rest k clean = at_tests (is_intrinsic name) (has_begun name scope) refl refl clean
   where
     all_below : (j : ℕ) → IsAmong j scope.begun ⊎ (j ≡ number_or_next name scope) →
@@ -464,13 +465,13 @@ definition_begins name line scope ds rest k clean = at_tests (is_intrinsic name)
         let within : number_or_next name scope < length (with_function name line scope).functions =
         number_in name line scope is in
         record {
-          known = record {
-            externals = g.known.externals;
-            functions = g.known.functions;
-            lines = g.known.lines;
+          scoped = record {
+            externals = g.scoped.externals;
+            functions = g.scoped.functions;
+            lines = g.scoped.lines;
             variables = omega arith;
             parameters = omega arith;
-            definitions = g.known.definitions;
+            definitions = g.scoped.definitions;
             begun = subst (λ (ns : List ℕ). AreDistinct ns) (sym at)
                 (distinct_append scope.begun (number_or_next name scope) k.begun
                 (not_among (number_or_next name scope) scope.begun was));
@@ -478,10 +479,10 @@ definition_begins name line scope ds rest k clean = at_tests (is_intrinsic name)
                 λ j i. all_below j
                 (among_append j (number_or_next name scope) scope.begun (subst (λ (ns : List ℕ). IsAmong j ns) at i)) g
                 within;
-            distinct_externals = g.known.distinct_externals;
+            distinct_externals = g.scoped.distinct_externals;
             distinct_variables = tt;
-            distinct_functions = g.known.distinct_functions;
-            named = g.known.named;
+            distinct_functions = g.scoped.distinct_functions;
+            named = g.scoped.named;
           };
           begun = at;
           named = named_at name line scope is;

@@ -15,49 +15,50 @@ use Rattle.grammar.specs.Tree.{Expr, Body, Done, ExpressionStatement, IfStatemen
 use Rattle.grammar.proofs.Soundness.{join_in}
 
 -- a body whose statements are not all there, with what is around it
-pub data Place : Type 0 where
-  InFun : (number parameters : ℕ) (b : Body) → Place
-  InFirst : (c : Expr) (b : Body) (outer : Place) → Place
-  InSecond : (c : Expr) (s b : Body) (outer : Place) → Place
-  InLoop : (c : Expr) (b : Body) (outer : Place) → Place
+pub data Context : Type 0 where
+  InFun : (number parameters : ℕ) (b : Body) → Context
+  InFirst : (c : Expr) (b : Body) (outer : Context) → Context
+  InSecond : (c : Expr) (s b : Body) (outer : Context) → Context
+  InLoop : (c : Expr) (b : Body) (outer : Context) → Context
 
 -- where a value may come
 pub data Hole : Type 0 where
-  Statement : (p : Place) → Hole
-  Test : (p : Place) → Hole  -- the condition of a while
+  Statement : (p : Context) → Hole
+  Test : (p : Context) → Hole  -- the condition of a while
   Behind : (e : Expr) (h : Hole) → Hole  -- a value that is still to be used
   RightSide : (op : Op) (e : Expr) (h : Hole) → Hole  -- the right side of && or ||, after its left side
   Arguments : (h : Hole) → Hole
 
-abbrev pub open_place : Place → Opened
-open_place (InFun n k b) = InFunction k (ends_in_return false b) ∷ []
-open_place (InFirst c b outer) = InBranch ∷ open_place outer
-open_place (InSecond c s b outer) = InElse ∷ open_place outer
-open_place (InLoop c b outer) = InLoopBody ∷ open_place outer
+abbrev pub open_context : Context → Opened
+open_context (InFun n k b) = InFunction k (ends_in_return false b) ∷ []
+open_context (InFirst c b outer) = InBranch ∷ open_context outer
+open_context (InSecond c s b outer) = InElse ∷ open_context outer
+open_context (InLoop c b outer) = InLoopBody ∷ open_context outer
 
 abbrev pub open_hole : Hole → Opened
-open_hole (Statement p) = open_place p
-open_hole (Test p) = BeforeTest ∷ open_place p
+open_hole (Statement p) = open_context p
+open_hole (Test p) = BeforeTest ∷ open_context p
 open_hole (Behind e h) = AValue (origin_of e) ∷ open_hole h
 open_hole (RightSide op e h) = BeforeRight op ∷ AValue (origin_of e) ∷ open_hole h
 open_hole (Arguments h) = InCall ∷ open_hole h
 
-abbrev pub place_actions : Place → List Action
-place_actions (InFun n k b) = BeginFunction n k ∷ body_actions b
-place_actions (InFirst c b outer) = place_actions outer ++ (expr_actions c ++ IfTest ∷ body_actions b)
-place_actions (InSecond c s b outer) =
-    place_actions outer ++ (expr_actions c ++ IfTest ∷ (body_actions s ++ ElsePart ∷ body_actions b))
-place_actions (InLoop c b outer) = place_actions outer ++ BeginWhile ∷ (expr_actions c ++ WhileTest ∷ body_actions b)
+abbrev pub context_actions : Context → List Action
+context_actions (InFun n k b) = BeginFunction n k ∷ body_actions b
+context_actions (InFirst c b outer) = context_actions outer ++ (expr_actions c ++ IfTest ∷ body_actions b)
+context_actions (InSecond c s b outer) =
+    context_actions outer ++ (expr_actions c ++ IfTest ∷ (body_actions s ++ ElsePart ∷ body_actions b))
+context_actions (InLoop c b outer) =
+    context_actions outer ++ BeginWhile ∷ (expr_actions c ++ WhileTest ∷ body_actions b)
 
 abbrev pub hole_actions : Hole → List Action
-hole_actions (Statement p) = place_actions p
-hole_actions (Test p) = place_actions p ++ BeginWhile ∷ []
+hole_actions (Statement p) = context_actions p
+hole_actions (Test p) = context_actions p ++ BeginWhile ∷ []
 hole_actions (Behind e h) = hole_actions h ++ expr_actions e
 hole_actions (RightSide op e h) = (hole_actions h ++ expr_actions e) ++ LogicMiddle op ∷ []
 hole_actions (Arguments h) = hole_actions h ++ BeginCall ∷ []
 
-abbrev pub place_count : Place → ℕ
-place_count p = open_count (open_place p)
+abbrev pub context_count : Context → ℕ
+context_count p = open_count (open_context p)
 
 abbrev pub hole_count : Hole → ℕ
 hole_count h = open_count (open_hole h)
@@ -72,17 +73,19 @@ pub record BodyFits (n : ℕ) (b : Body) : Type 0 where
   pub names : InBody 64 64 64 b
   pub few : n + body_nesting b ≤ 200
 
-abbrev pub PlaceFits : Place → Type 0
-PlaceFits (InFun n k b) = (n < 64) × (k ≤ 64) × BodyFits 0 b
-PlaceFits (InFirst c b outer) = PlaceFits outer × ExprFits (place_count outer) c × BodyFits (1 + place_count outer) b
-PlaceFits (InSecond c s b outer) =
-    PlaceFits outer × ExprFits (place_count outer) c × BodyFits (1 + place_count outer) s ×
-    BodyFits (1 + place_count outer) b
-PlaceFits (InLoop c b outer) = PlaceFits outer × ExprFits (1 + place_count outer) c × BodyFits (1 + place_count outer) b
+abbrev pub ContextFits : Context → Type 0
+ContextFits (InFun n k b) = (n < 64) × (k ≤ 64) × BodyFits 0 b
+ContextFits (InFirst c b outer) =
+    ContextFits outer × ExprFits (context_count outer) c × BodyFits (1 + context_count outer) b
+ContextFits (InSecond c s b outer) =
+    ContextFits outer × ExprFits (context_count outer) c × BodyFits (1 + context_count outer) s ×
+    BodyFits (1 + context_count outer) b
+ContextFits (InLoop c b outer) =
+    ContextFits outer × ExprFits (1 + context_count outer) c × BodyFits (1 + context_count outer) b
 
 abbrev pub HoleFits : Hole → Type 0
-HoleFits (Statement p) = PlaceFits p
-HoleFits (Test p) = PlaceFits p × (1 + place_count p ≤ 200)
+HoleFits (Statement p) = ContextFits p
+HoleFits (Test p) = ContextFits p × (1 + context_count p ≤ 200)
 HoleFits (Behind e h) = HoleFits h × ExprFits (hole_count h) e
 HoleFits (RightSide op e h) = HoleFits h × ExprFits (hole_count h) e × (is_logic op ≡ true) × (1 + hole_count h ≤ 200)
 HoleFits (Arguments h) = HoleFits h × (1 + hole_count h ≤ 200)
@@ -123,26 +126,26 @@ fits-join n b s f g = record { names = join_in 64 64 64 b s f.names g.names; few
 
 -- A statement more.
 
-abbrev pub add : Body → Place → Place
+abbrev pub add : Body → Context → Context
 add s (InFun n k b) = InFun n k (join b s)
 add s (InFirst c b outer) = InFirst c (join b s) outer
 add s (InSecond c t b outer) = InSecond c t (join b s) outer
 add s (InLoop c b outer) = InLoop c (join b s) outer
 
-pub add_actions : (s : Body) (p : Place) → place_actions (add s p) ≡ place_actions p ++ body_actions s
+pub add_actions : (s : Body) (p : Context) → context_actions (add s p) ≡ context_actions p ++ body_actions s
 add_actions s (InFun n k b) = rw (body_actions-join b s) refl
 add_actions s (InFirst c b outer) = rw (body_actions-join b s) (simp append_assoc refl)
 add_actions s (InSecond c t b outer) = rw (body_actions-join b s) (simp append_assoc refl)
 add_actions s (InLoop c b outer) = rw (body_actions-join b s) (simp append_assoc refl)
 
-pub add_fits : (s : Body) (p : Place) → PlaceFits p → BodyFits (place_count p) s → PlaceFits (add s p)
+pub add_fits : (s : Body) (p : Context) → ContextFits p → BodyFits (context_count p) s → ContextFits (add s p)
 add_fits s (InFun n k b) f g = (f.0, f.1, fits-join 0 b s f.2 g)
-add_fits s (InFirst c b outer) f g = (f.0, f.1, fits-join (1 + place_count outer) b s f.2 g)
-add_fits s (InSecond c t b outer) f g = (f.0, f.1, f.2, fits-join (1 + place_count outer) b s f.3 g)
-add_fits s (InLoop c b outer) f g = (f.0, f.1, fits-join (1 + place_count outer) b s f.2 g)
+add_fits s (InFirst c b outer) f g = (f.0, f.1, fits-join (1 + context_count outer) b s f.2 g)
+add_fits s (InSecond c t b outer) f g = (f.0, f.1, f.2, fits-join (1 + context_count outer) b s f.3 g)
+add_fits s (InLoop c b outer) f g = (f.0, f.1, fits-join (1 + context_count outer) b s f.2 g)
 
-pub add_opens : (r : Bool) (s : Body) (p : Place) → ((before : Bool) → ends_in_return before s ≡ r) →
-    statement_done r (open_place p) ≡ Some (open_place (add s p))
+pub add_opens : (r : Bool) (s : Body) (p : Context) → ((before : Bool) → ends_in_return before s ≡ r) →
+    statement_done r (open_context p) ≡ Some (open_context (add s p))
 add_opens r s (InFun n k b) h = rw (ends_in_return-join false b s, h (ends_in_return false b)) refl
 add_opens r s (InFirst c b outer) h = refl
 add_opens r s (InSecond c t b outer) h = refl

@@ -22,7 +22,7 @@ use Rattle.grammar.specs.Laws.Origins.{origin_of, ends_in_return}
 use Rattle.grammar.specs.Resolved.{IsVariable, IsCallable, InArgs}
 use Rattle.grammar.specs.Tree.{Expr, Constant, Variable, Binary, Assign, Postfix, Call, Args, NoMore, Argument, Body, Done, ExpressionStatement, IfStatement, IfElseStatement, While, Return}
 use Rattle.grammar.proofs.FollowingLaws.{same_op_is}
-use Rattle.grammar.proofs.Unfinished.{Place, InFun, InFirst, InSecond, InLoop, Hole, Statement, Test, Behind, RightSide, Arguments, open_place, open_hole, place_actions, hole_actions, place_count, hole_count, BodyFits, PlaceFits, HoleFits, add, add_actions, add_fits, add_opens, within_hole}
+use Rattle.grammar.proofs.Unfinished.{Context, InFun, InFirst, InSecond, InLoop, Hole, Statement, Test, Behind, RightSide, Arguments, open_context, open_hole, context_actions, hole_actions, context_count, hole_count, BodyFits, ContextFits, HoleFits, add, add_actions, add_fits, add_opens, within_hole}
 
 -- the action neither begins a function nor ends one
 abbrev pub IsWithin : Action → Type 0
@@ -250,10 +250,10 @@ end_call f h q fits least e small =
 
 -- Statements.
 
--- a statement more in a place
-settled : (a : Action) (h : Hole) (p : Place) (s : Body) (r : Bool) (q : Opened) → PlaceFits p →
-    BodyFits (place_count p) s → ((before : Bool) → ends_in_return before s ≡ r) →
-    statement_done r (open_place p) ≡ Some q → place_actions p ++ body_actions s ≡ hole_actions h ++ a ∷ [] →
+-- a statement more in a context
+settled : (a : Action) (h : Hole) (p : Context) (s : Body) (r : Bool) (q : Opened) → ContextFits p →
+    BodyFits (context_count p) s → ((before : Bool) → ends_in_return before s ≡ r) →
+    statement_done r (open_context p) ≡ Some q → context_actions p ++ body_actions s ≡ hole_actions h ++ a ∷ [] →
     Steps a h q
 settled a h p s r q fits more same e adds = record {
   next = Statement (add s p);
@@ -265,11 +265,11 @@ settled a h p s r q fits more same e adds = record {
 if_test : (h : Hole) (q : Opened) → HoleFits h → follow IfTest (open_hole h) ≡ Some q → open_count q ≤ 200 →
     Steps IfTest h q
 if_test (Behind c (Statement p)) q fits e small =
-    let both = only_true (may_take_statement (open_place p)) (InBranch ∷ open_place p) q e in
+    let both = only_true (may_take_statement (open_context p)) (InBranch ∷ open_context p) q e in
     record {
       next = Statement (InFirst c Done p);
       opens = both.1;
-      adds = sym (append_assoc (place_actions p) (expr_actions c) (IfTest ∷ []));
+      adds = sym (append_assoc (context_actions p) (expr_actions c) (IfTest ∷ []));
       fits = (fits.0, fits.1, record { names = tt; few = omega (arith, small, ap open_count both.1) });
     }
 if_test (Statement (InFun n k b)) q fits e small = absurd (cc)
@@ -278,7 +278,7 @@ if_test h q fits e small = absurd (cc)
 else_part : (h : Hole) (q : Opened) → HoleFits h → follow ElsePart (open_hole h) ≡ Some q → open_count q ≤ 200 →
     Steps ElsePart h q
 else_part (Statement (InFirst c s p)) q fits e small =
-    let is : InElse ∷ open_place p ≡ q = some_same _ q e in
+    let is : InElse ∷ open_context p ≡ q = some_same _ q e in
     record {
       next = Statement (InSecond c s Done p);
       opens = is;
@@ -290,15 +290,15 @@ else_part h q fits e small = absurd (cc)
 end_if : (h : Hole) (q : Opened) → HoleFits h → follow EndIf (open_hole h) ≡ Some q → open_count q ≤ 200 →
     Steps EndIf h q
 end_if (Statement (InFirst c s p)) q fits e small =
-    let few_test : place_count p + nesting c ≤ 200 = fits.1.few in
-    let few_first : 1 + place_count p + body_nesting s ≤ 200 = fits.2.few in
+    let few_test : context_count p + nesting c ≤ 200 = fits.1.few in
+    let few_first : 1 + context_count p + body_nesting s ≤ 200 = fits.2.few in
     settled EndIf (Statement (InFirst c s p)) p (IfStatement c s Done) false q fits.0
     (record { names = (fits.1.names, fits.2.names, tt); few = omega (arith, few_test, few_first) }) (λ before. refl)
     e (simp append_assoc refl)
 end_if (Statement (InSecond c s t p)) q fits e small =
-    let few_test : place_count p + nesting c ≤ 200 = fits.1.few in
-    let few_first : 1 + place_count p + body_nesting s ≤ 200 = fits.2.few in
-    let few_second : 1 + place_count p + body_nesting t ≤ 200 = fits.3.few in
+    let few_test : context_count p + nesting c ≤ 200 = fits.1.few in
+    let few_first : 1 + context_count p + body_nesting s ≤ 200 = fits.2.few in
+    let few_second : 1 + context_count p + body_nesting t ≤ 200 = fits.3.few in
     settled EndIf (Statement (InSecond c s t p)) p (IfElseStatement c s t Done) false q fits.0
     (record {
       names = (fits.1.names, fits.2.names, fits.3.names, tt);
@@ -309,14 +309,14 @@ end_if h q fits e small = absurd (cc)
 begin_while : (h : Hole) (q : Opened) → HoleFits h → follow BeginWhile (open_hole h) ≡ Some q → open_count q ≤ 200 →
     Steps BeginWhile h q
 begin_while (Statement p) q fits e small =
-    let both = only_true (may_take_statement (open_place p)) (BeforeTest ∷ open_place p) q e in
+    let both = only_true (may_take_statement (open_context p)) (BeforeTest ∷ open_context p) q e in
     record { next = Test p; opens = both.1; adds = refl; fits = (fits, omega (arith, small, ap open_count both.1)) }
 begin_while h q fits e small = absurd (cc)
 
 while_test : (h : Hole) (q : Opened) → HoleFits h → follow WhileTest (open_hole h) ≡ Some q → open_count q ≤ 200 →
     Steps WhileTest h q
 while_test (Behind c (Test p)) q fits e small =
-    let few : 1 + place_count p + nesting c ≤ 200 = fits.1.few in
+    let few : 1 + context_count p + nesting c ≤ 200 = fits.1.few in
     record {
       next = Statement (InLoop c Done p);
       opens = some_same _ q e;
@@ -330,8 +330,8 @@ while_test h q fits e small = absurd (cc)
 end_while : (h : Hole) (q : Opened) → HoleFits h → follow EndWhile (open_hole h) ≡ Some q → open_count q ≤ 200 →
     Steps EndWhile h q
 end_while (Statement (InLoop c s p)) q fits e small =
-    let few_test : 1 + place_count p + nesting c ≤ 200 = fits.1.few in
-    let few_turn : 1 + place_count p + body_nesting s ≤ 200 = fits.2.few in
+    let few_test : 1 + context_count p + nesting c ≤ 200 = fits.1.few in
+    let few_turn : 1 + context_count p + body_nesting s ≤ 200 = fits.2.few in
     settled EndWhile (Statement (InLoop c s p)) p (While c s Done) false q fits.0
     (record { names = (fits.1.names, fits.2.names, tt); few = omega (arith, few_test, few_turn) }) (λ before. refl)
     e (simp append_assoc refl)
@@ -340,19 +340,19 @@ end_while h q fits e small = absurd (cc)
 give_back : (h : Hole) (q : Opened) → HoleFits h → follow GiveBack (open_hole h) ≡ Some q → open_count q ≤ 200 →
     Steps GiveBack h q
 give_back (Behind x (Statement p)) q fits e small =
-    let few : place_count p + nesting x ≤ 200 = fits.1.few in
+    let few : context_count p + nesting x ≤ 200 = fits.1.few in
     settled GiveBack (Behind x (Statement p)) p (Return x Done) (is_number 0 (origin_of x)) q fits.0
     (record { names = (fits.1.names, tt); few = omega (arith, few) }) (λ before. refl) e
-    (sym (append_assoc (place_actions p) (expr_actions x) (GiveBack ∷ [])))
+    (sym (append_assoc (context_actions p) (expr_actions x) (GiveBack ∷ [])))
 give_back (Statement (InFun n k b)) q fits e small = absurd (cc)
 give_back h q fits e small = absurd (cc)
 
-chop_place : (o : ValueCategory) (p : Place) →
-    follow Chop (AValue o ∷ open_place p) ≡ statement_done false (open_place p)
-chop_place o (InFun n k b) = refl
-chop_place o (InFirst c b outer) = refl
-chop_place o (InSecond c s b outer) = refl
-chop_place o (InLoop c b outer) = refl
+chop_context : (o : ValueCategory) (p : Context) →
+    follow Chop (AValue o ∷ open_context p) ≡ statement_done false (open_context p)
+chop_context o (InFun n k b) = refl
+chop_context o (InFirst c b outer) = refl
+chop_context o (InSecond c s b outer) = refl
+chop_context o (InLoop c b outer) = refl
 
 -- at the end of v++ and v-- a value over another is dropped
 chop_step : (x y : Expr) (h : Hole) (q : Opened) → HoleFits (Behind x (Behind y h)) →
@@ -377,11 +377,11 @@ chop_step (Call f args) y h q fits is small = absurd (cc)
 
 chop : (h : Hole) (q : Opened) → HoleFits h → follow Chop (open_hole h) ≡ Some q → open_count q ≤ 200 → Steps Chop h q
 chop (Behind x (Statement p)) q fits e small =
-    let few : place_count p + nesting x ≤ 200 = fits.1.few in
+    let few : context_count p + nesting x ≤ 200 = fits.1.few in
     settled Chop (Behind x (Statement p)) p (ExpressionStatement x Done) false q fits.0
     (record { names = (fits.1.names, tt); few = omega (arith, few) }) (λ before. refl)
-    (sym (chop_place (origin_of x) p) ∙ e)
-    (sym (append_assoc (place_actions p) (expr_actions x) (Chop ∷ [])))
+    (sym (chop_context (origin_of x) p) ∙ e)
+    (sym (append_assoc (context_actions p) (expr_actions x) (Chop ∷ [])))
 chop (Behind x (Behind y h)) q fits e small = chop_step x y h q fits e small
 chop (Statement (InFun n k b)) q fits e small = absurd (cc)
 chop h q fits e small = absurd (cc)

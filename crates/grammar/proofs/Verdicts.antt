@@ -12,7 +12,7 @@ use Rattle.grammar.specs.Scope.{Scope}
 use Rattle.grammar.proofs.Weight.{weight}
 use Rattle.grammar.proofs.Endings.{IsFinal, ends, stays_final, final_stays}
 use Rattle.grammar.proofs.Firsts.{at_rest}
-use Rattle.grammar.proofs.Order.{first_in, first_least, same_place}
+use Rattle.grammar.proofs.Order.{first_in, first_least, same_token}
 pub use Rattle.grammar.proofs.TokensLeft.{IsRest, run_rests}
 use Rattle.grammar.proofs.Runs.{append_empty, derived-add, faults_in-add}
 
@@ -149,7 +149,7 @@ verdict_at profile located_tokens s f [] scope functions first sound h = absurd 
 verdict_at profile located_tokens s f (g ∷ gs) scope functions first sound h =
     let one : IsFault profile s (first_fault g gs) = sound (first_fault g gs) (first_in g gs) in
     let same : (length f.rest ≡ length (first_fault g gs).rest) × (f.code ≡ (first_fault g gs).code) =
-    same_place f (first_fault g gs) (first.first (first_fault g gs) one) (first_least g gs f h) in
+    same_token f (first_fault g gs) (first.first (first_fault g gs) one) (first_least g gs f h) in
     let rest : f.rest ≡ (first_fault g gs).rest = same_rest profile s f (first_fault g gs) first.comes one same.0 in
     rw (rest, same.1) refl
 

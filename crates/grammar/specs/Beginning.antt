@@ -29,6 +29,6 @@ AreReportable (d ∷ ds) = IsReportable d × AreReportable ds
 -- there are functions whose actions begin with these
 pub record IsBeginning (acts : List Action) : Type 0 where
   pub functions : List Definition
-  pub tellable : AreReportable functions
+  pub reportable : AreReportable functions
   pub rest : List Action
   pub begins : acts ++ rest ≡ definitions_actions functions

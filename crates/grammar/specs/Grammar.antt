@@ -109,8 +109,8 @@ definition_items = AName Defined ∷ Exactly punctuator.OpenRound ∷ Part Param
     ∷ Part ParameterTypes ∷ Part FunctionBlock ∷ []
 
 -- a declaration, and further ones
-abbrev pub declaration_items : Role → Symbol → List Item
-declaration_items role further = AKeyword keyword.Type ∷ Part Types ∷ AName role ∷ Part (More role)
+abbrev pub declaration_and_further : Role → Symbol → List Item
+declaration_and_further role further = AKeyword keyword.Type ∷ Part Types ∷ AName role ∷ Part (More role)
     ∷ Exactly punctuator.Semicolon ∷ Part further ∷ []
 
 -- the production of a symbol if the next token is no lexical error
@@ -130,7 +130,7 @@ choice (More role) (token.Punctuator punctuator.Comma) after =
 choice (More role) next after = Some []
 choice Parameters (token.Name name) after = Some (AName Parameter ∷ Part (More Parameter) ∷ [])
 choice Parameters next after = Some []
-choice ParameterTypes (token.Keyword keyword.Type) after = Some (declaration_items Typed ParameterTypes)
+choice ParameterTypes (token.Keyword keyword.Type) after = Some (declaration_and_further Typed ParameterTypes)
 choice ParameterTypes next after = Some []
 choice FunctionBlock (token.Punctuator punctuator.OpenCurly) after =
     Some (Exactly punctuator.OpenCurly ∷ Make Empty ∷ Part Declarations ∷ Part Statements ∷ Make Define
@@ -140,7 +140,7 @@ choice Block (token.Punctuator punctuator.OpenCurly) after =
     Some (Exactly punctuator.OpenCurly ∷ Part Declarations ∷ Part Statements ∷ Exactly punctuator.CloseCurly ∷ Close
     ∷ [])
 choice Block next after = None
-choice Declarations (token.Keyword keyword.Type) after = Some (declaration_items Local Declarations)
+choice Declarations (token.Keyword keyword.Type) after = Some (declaration_and_further Local Declarations)
 choice Declarations next after = Some []
 choice Statements (token.Punctuator punctuator.CloseCurly) after = Some []
 choice Statements next after = Some (Part Statement ∷ Part Statements ∷ [])

@@ -76,8 +76,8 @@ CompiledIsResolved = (profile : Profile) (located_tokens : List LocatedToken) (f
     → compiled_tokens profile located_tokens ≡ Ok file → IsResolved file
 
 -- to a builder that represents a list that leaves this open, an action may be reported that may follow what is open
-abbrev pub MayBeTold : Representation → Type 0
-MayBeTold stands = (opened next : Opened) (action : Action) → LeavesOpen stands opened
+abbrev pub MayBeReported : Representation → Type 0
+MayBeReported stands = (opened next : Opened) (action : Action) → LeavesOpen stands opened
     → follow action opened ≡ Some next → open_count next ≤ most_open → MayFollow stands action
 
 -- the function that is being defined keeps its number, its name and its parameters, and no other definition begins

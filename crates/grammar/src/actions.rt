@@ -8,7 +8,7 @@ use crate::profiles::Profile;
 use crate::resolved_names::{Callee, Var};
 use arith::Op;
 
-/// An action: a step in building a program.
+/// An action: one part of the building of a program.
 #[derive(Clone, Copy, Default, PartialEq, Eq)]
 pub enum Action {
     /// Takes a constant as the next value.

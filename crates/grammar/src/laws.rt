@@ -5,7 +5,7 @@ ghost use Rattle.grammar.specs.Intrinsics.{all_intrinsics};
 ghost use Rattle.grammar.specs.Laws.Finished.{Finished, Undefined, WithoutMain};
 ghost use Rattle.grammar.specs.Laws.{ActionsHaveLengths, BeginningsAreInOrder, BlocksKeepTheFunction, CompiledIsResolved};
 ghost use Rattle.grammar.specs.Laws.{EachDerivationEnds, EachFileFollows, FaultlessIsResolved, FirstFaultDecides};
-ghost use Rattle.grammar.specs.Laws.{MayBeTold, WhatIsInOrderBegins, WhatWasReadIsNeeded};
+ghost use Rattle.grammar.specs.Laws.{MayBeReported, WhatIsInOrderBegins, WhatWasReadIsNeeded};
 
 use crate::build::Build;
 use crate::resolved_names::Intrinsic;
@@ -59,7 +59,7 @@ pub fn resolved_files()
 
 /// Proves that any action may be reported to a builder that may follow those that it represents.
 pub fn any_action_may_follow<B: Build>()
-    ensures { (builder : B) → MayBeTold (B.stands builder) }
+    ensures { (builder : B) → MayBeReported (B.stands builder) }
 {}
 
 /// Proves that the list of all intrinsic functions has those that a name is looked up among.

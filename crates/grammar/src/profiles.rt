@@ -82,7 +82,7 @@ impl Profile {
     /// Returns the most instructions of a program, with the NOP that ends its code.
     pub fn instructions(self) -> u16
         ensures value { result ≡ self.instructions }
-        ensures known { IsProfile self }
+        ensures is_profile { IsProfile self }
     {
         self.instructions
     }
@@ -90,7 +90,7 @@ impl Profile {
     /// Returns the words of a robot's stack.
     pub fn words(self) -> u16
         ensures value { result ≡ self.words }
-        ensures known { IsProfile self }
+        ensures is_profile { IsProfile self }
     {
         self.words
     }
@@ -98,7 +98,7 @@ impl Profile {
     /// Returns the most frames that are open at once.
     pub fn frames(self) -> u16
         ensures value { result ≡ self.frames }
-        ensures known { IsProfile self }
+        ensures is_profile { IsProfile self }
     {
         self.frames
     }
@@ -106,7 +106,7 @@ impl Profile {
     /// Reports whether `&&` and `||` leave out their right side.
     pub fn short_circuit(self) -> bool
         ensures value { result ≡ self.short_circuit }
-        ensures known { IsProfile self }
+        ensures is_profile { IsProfile self }
     {
         self.short_circuit
     }

@@ -127,12 +127,12 @@ impl Scope {
     #[inline(always)]
     #[tactic(auto, using(crate::proofs::ScopeLaws::names))]
     pub fn resolve_variable(&mut self, name: &Name) -> Result<Var, Code>
-        ensures known { IfOk result (λ v. (v ≡ variable_of name.now self.old)
+        ensures learned { IfOk result (λ v. (v ≡ variable_of name.now self.old)
             × ((line : ℕ) → LearnsName Mentioned name.now line self.old self.new)) }
         ensures within { IfOk result (IsVariable MOST_NAMES MOST_NAMES) }
         ensures refused { IfErr result (λ c. RefusesName Mentioned name.now self.old c) }
     {
-        match self.known_variable(name) {
+        match self.variable_in_scope(name) {
             Some(var) => Ok(var),
             None => self.add_local(name),
         }
@@ -141,7 +141,7 @@ impl Scope {
     /// Declares a local. A name that is declared again names the same variable.
     #[tactic(auto, using(crate::proofs::ScopeLaws::names))]
     pub fn declare_local(&mut self, name: &Name) -> Result<(), Code>
-        ensures known { OnOk result ((line : ℕ) → LearnsName Local name.now line self.old self.new) }
+        ensures learned { OnOk result ((line : ℕ) → LearnsName Local name.now line self.old self.new) }
         ensures refused { IfErr result (λ c. RefusesName Local name.now self.old c) }
     {
         if !self.is_local_new(name) {
@@ -154,7 +154,7 @@ impl Scope {
     /// Adds a parameter of the list. A name that is there already is a fault.
     #[tactic(auto, using(crate::proofs::ScopeLaws::names))]
     pub fn declare_parameter(&mut self, name: &Name) -> Result<(), Code>
-        ensures known { OnOk result ((line : ℕ) → LearnsName Parameter name.now line self.old self.new) }
+        ensures learned { OnOk result ((line : ℕ) → LearnsName Parameter name.now line self.old self.new) }
         ensures refused { IfErr result (λ c. RefusesName Parameter name.now self.old c) }
     {
         if !self.is_local_new(name) {
@@ -167,7 +167,7 @@ impl Scope {
 
     /// Declares a parameter after the list, in which it has to be.
     pub fn declare_parameter_type(&self, name: &Name) -> Result<(), Code>
-        ensures known { OnOk result ((line : ℕ) → LearnsName Typed name.now line self.now self.now) }
+        ensures learned { OnOk result ((line : ℕ) → LearnsName Typed name.now line self.now self.now) }
         ensures refused { IfErr result (λ c. RefusesName Typed name.now self.now c) }
     {
         if self.is_local_new(name) {
@@ -180,7 +180,7 @@ impl Scope {
     /// Declares an external. A name that is declared again names the same variable.
     #[tactic(auto, using(crate::proofs::ScopeLaws::names))]
     pub fn declare_external(&mut self, name: &Name) -> Result<(), Code>
-        ensures known { OnOk result ((line : ℕ) → LearnsName External name.now line self.old self.new) }
+        ensures learned { OnOk result ((line : ℕ) → LearnsName External name.now line self.old self.new) }
         ensures refused { IfErr result (λ c. RefusesName External name.now self.old c) }
     {
         if self.is_external_new(name) {
@@ -193,7 +193,7 @@ impl Scope {
     /// Resolves a called name. A function of the file that is new is in scope from here on, by the line of this name.
     #[tactic(auto, using(crate::proofs::ScopeLaws::names))]
     pub fn resolve_call(&mut self, name: &Name, line: u32) -> Result<Callee, Code>
-        ensures known { IfOk result (λ callee. (callee ≡ callee_of name.now self.old)
+        ensures learned { IfOk result (λ callee. (callee ≡ callee_of name.now self.old)
             × LearnsName Called name.now line self.old self.new) }
         ensures within { IfOk result (IsCallable MOST_NAMES) }
         ensures refused { IfErr result (λ c. RefusesName Called name.now self.old c) }
@@ -201,25 +201,25 @@ impl Scope {
         if let Some(intrinsic) = intrinsic_named(name) {
             return Ok(Callee::Intrinsic(intrinsic));
         }
-        let known = self.function_number(name);
-        let number = self.number_or_next(known, name, line)?;
+        let found = self.function_number(name);
+        let number = self.number_or_next(found, name, line)?;
         Ok(Callee::Function(number))
     }
 
     /// Begins the definition of a function at this name, on this line, and returns the function's number.
     pub fn begin_definition(&mut self, name: &Name, line: u32) -> Result<u8, Code>
         ensures number { IfOk result (λ n. (n ≡ number_or_next name.now self.old) × (n < MOST_NAMES)) }
-        ensures known { OnOk result (LearnsName Defined name.now line self.old self.new) }
+        ensures learned { OnOk result (LearnsName Defined name.now line self.old self.new) }
         ensures refused { IfErr result (λ c. RefusesName Defined name.now self.old c) }
     {
         if intrinsic_named(name).is_some() {
             return Err(Code::IntrinsicRedefined);
         }
-        let known = self.function_number(name);
-        if self.has_begun(known) {
+        let found = self.function_number(name);
+        if self.has_begun(found) {
             return Err(Code::FunctionDefinedTwice);
         }
-        let number = self.number_or_next(known, name, line)?;
+        let number = self.number_or_next(found, name, line)?;
         self.note_begun(number, name);
         Ok(number)
     }
@@ -280,7 +280,7 @@ impl Scope {
 
     /// Returns the variable of a name: one of the function's, or else an external.
     #[inline(always)]
-    fn known_variable(&self, name: &Name) -> Option<Var>
+    fn variable_in_scope(&self, name: &Name) -> Option<Var>
         ensures value { result ≡ variable_named name.now self.now }
         ensures within { IfSome result (IsVariable MOST_NAMES MOST_NAMES) }
     {
@@ -293,15 +293,15 @@ impl Scope {
 
     /// Returns the number of a function of the file, which is the next one if it is new.
     #[tactic(auto, using(crate::proofs::ScopeLaws::calls))]
-    fn number_or_next(&mut self, known: Option<usize>, name: &Name, line: u32) -> Result<u8, Code>
+    fn number_or_next(&mut self, found: Option<usize>, name: &Name, line: u32) -> Result<u8, Code>
         requires own { intrinsic_named name.now ≡ None }
-        requires number { known ≡ function_number name.now self.old }
-        requires within { IfSome known (λ n. n < MOST_NAMES) }
+        requires number { found ≡ function_number name.now self.old }
+        requires within { IfSome found (λ n. n < MOST_NAMES) }
         ensures number { IfOk result (λ n. (n ≡ number_or_next name.now self.old) × (n < MOST_NAMES)) }
-        ensures known { OnOk result (LearnsName Called name.now line self.old self.new) }
+        ensures learned { OnOk result (LearnsName Called name.now line self.old self.new) }
         ensures refused { IfErr result (λ c. RefusesName Called name.now self.old c) }
     {
-        if let Some(number) = known {
+        if let Some(number) = found {
             return Ok(number as u8);
         }
         if self.has_most_functions() {
@@ -343,10 +343,10 @@ impl Scope {
     }
 
     /// Reports whether a definition of this function began before. A function that wasn't mentioned has no number.
-    fn has_begun(&self, known: Option<usize>) -> bool
-        ensures { result ≡ list_any (λ k. k == unwrap_or known (length self.now.functions)) self.now.begun }
+    fn has_begun(&self, found: Option<usize>) -> bool
+        ensures { result ≡ list_any (λ k. k == unwrap_or found (length self.now.functions)) self.now.begun }
     {
-        match known {
+        match found {
             Some(number) => is_among(self.begun.as_slice(), number),
             None => false,
         }

@@ -6,9 +6,9 @@ use Rattle.tokens.specs.declared.located_tokens.Token.{Token}
 use Rattle.tokens.specs.declared.located_tokens.Token.TheVariants as token
 use Rattle.grammar.specs.Grammar as grammar
 use Rattle.grammar.specs.Grammar.{Exactly, Part, Make, Declarations, ElsePart, Back, Decide, choice, is_lexical_error}
-use Rattle.grammar_laws.specs.Written.{Sign, Minus, Step, Up, Expression, Constant, Variable, Binary, Signed, Assign, StepBefore, StepBehind, Call, NoMore, Argument, Statement, Evaluate, Statements, Done, Next}
+use Rattle.grammar_laws.specs.Written.{Sign, Minus, Increment, Up, Expression, Constant, Variable, Binary, Signed, Assign, PreIncrement, PostIncrement, Call, NoMore, Argument, Statement, Evaluate, Statements, Done, Next}
 use Rattle.grammar.specs.Operators.{binary_punctuator}
-use Rattle.grammar_laws.specs.Spelling.{sign_punctuator, step_punctuator, spell, spell_statement, spell_statements}
+use Rattle.grammar_laws.specs.Spelling.{sign_punctuator, spelled_increment, spell, spell_statement, spell_statements}
 use Rattle.grammar_laws.proofs.Leading.{first, second}
 use Rattle.grammar_laws.proofs.Parts.{spell_part}
 
@@ -61,13 +61,13 @@ begins_sign sign = record {
   gives_back = λ after. refl;
 }
 
-begins_step : (step : Step) → BeginsExpression (token.Punctuator (step_punctuator step))
-begins_step Up = record {
+begins_increment : (increment : Increment) → BeginsExpression (token.Punctuator (spelled_increment increment))
+begins_increment Up = record {
   begins = record { sound = refl; no_declaration = λ after. refl; no_else = λ after. refl; one_more = λ after. refl };
   evaluates = λ after. refl;
   gives_back = λ after. refl;
 }
-begins_step step = record {
+begins_increment increment = record {
   begins = record { sound = refl; no_declaration = λ after. refl; no_else = λ after. refl; one_more = λ after. refl };
   evaluates = λ after. refl;
   gives_back = λ after. refl;
@@ -86,8 +86,8 @@ expression_first (Binary o a b) rest =
     (part_first a (token.Punctuator (binary_punctuator o) ∷ spell_part b ++ rest))
 expression_first (Signed sign e) rest = begins_sign sign
 expression_first (Assign o name e) rest = begins_name name
-expression_first (StepBefore step name) rest = begins_step step
-expression_first (StepBehind step name) rest = begins_name name
+expression_first (PreIncrement increment name) rest = begins_increment increment
+expression_first (PostIncrement increment name) rest = begins_name name
 expression_first (Call name NoMore) rest = begins_name name
 expression_first (Call name (Argument e more)) rest = begins_name name
 

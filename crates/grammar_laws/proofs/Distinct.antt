@@ -6,7 +6,7 @@ use Rattle.std.specs.List.{position_from}
 use Rattle.std.specs.Prelude.{Option, Some, None, not, is_none, slice_get, if◌then◌else◌}
 use Rattle.std.specs.Str.{bytes_eq}
 use Rattle.grammar.specs.Scope.{number_of_name}
-use Rattle.grammar_laws.specs.Numbering.{is_among, without, distinct}
+use Rattle.grammar_laws.specs.Numbering.{is_among, all_but, distinct}
 
 -- Names that are tested to be the same.
 
@@ -28,7 +28,7 @@ turned x y = by (bytes_eq x y) (bytes_eq y x) refl refl
 -- Members.
 
 among_without : (y x : List ℕ) (zs : List (List ℕ)) →
-    is_among y (without x zs) ≡ (if bytes_eq x y then false else is_among y zs)
+    is_among y (all_but x zs) ≡ (if bytes_eq x y then false else is_among y zs)
 among_without y x [] = by (bytes_eq x y)
   where
     by : (b : Bool) → false ≡ (if b then false else false)
@@ -37,8 +37,8 @@ among_without y x [] = by (bytes_eq x y)
 among_without y x (z ∷ zs) = by (bytes_eq x z) (bytes_eq x y) (bytes_eq y z) refl refl refl (among_without y x zs)
   where
     by : (a b c : Bool) → bytes_eq x z ≡ a → bytes_eq x y ≡ b → bytes_eq y z ≡ c →
-        is_among y (without x zs) ≡ (if bytes_eq x y then false else is_among y zs) →
-        is_among y (if a then without x zs else z ∷ without x zs) ≡
+        is_among y (all_but x zs) ≡ (if bytes_eq x y then false else is_among y zs) →
+        is_among y (if a then all_but x zs else z ∷ all_but x zs) ≡
         (if b then false else (if c then true else is_among y zs))
     by true true c e f g again = again ∙ rw f refl
     by true false true e f g again =
@@ -55,20 +55,20 @@ among_distinct y [] = refl
 among_distinct y (x ∷ xs) = by (bytes_eq y x) refl (among_distinct y xs)
   where
     by : (b : Bool) → bytes_eq y x ≡ b → is_among y (distinct xs) ≡ is_among y xs →
-        (if b then true else is_among y (without x (distinct xs))) ≡ (if b then true else is_among y xs)
+        (if b then true else is_among y (all_but x (distinct xs))) ≡ (if b then true else is_among y xs)
     by true e again = refl
     by false e again = among_without y x (distinct xs) ∙ rw (turned x y ∙ e) again
 
 -- A name more.
 
-without_last : (x : List ℕ) (zs : List (List ℕ)) (y : List ℕ) →
-    without x (zs ++ y ∷ []) ≡ without x zs ++ (if bytes_eq x y then [] else y ∷ [])
-without_last x [] y = refl
-without_last x (z ∷ zs) y = by (bytes_eq x z) (without_last x zs y)
+all_but_last : (x : List ℕ) (zs : List (List ℕ)) (y : List ℕ) →
+    all_but x (zs ++ y ∷ []) ≡ all_but x zs ++ (if bytes_eq x y then [] else y ∷ [])
+all_but_last x [] y = refl
+all_but_last x (z ∷ zs) y = by (bytes_eq x z) (all_but_last x zs y)
   where
-    by : (b : Bool) → without x (zs ++ y ∷ []) ≡ without x zs ++ (if bytes_eq x y then [] else y ∷ []) →
-        (if b then without x (zs ++ y ∷ []) else z ∷ without x (zs ++ y ∷ [])) ≡
-        (if b then without x zs else z ∷ without x zs) ++ (if bytes_eq x y then [] else y ∷ [])
+    by : (b : Bool) → all_but x (zs ++ y ∷ []) ≡ all_but x zs ++ (if bytes_eq x y then [] else y ∷ []) →
+        (if b then all_but x (zs ++ y ∷ []) else z ∷ all_but x (zs ++ y ∷ [])) ≡
+        (if b then all_but x zs else z ∷ all_but x zs) ++ (if bytes_eq x y then [] else y ∷ [])
     by true again = again
     by false again = ap (λ names. z ∷ names) again
 
@@ -79,23 +79,23 @@ distinct_last (x ∷ xs) y = by (is_among y xs) (bytes_eq y x) refl refl (distin
   where
     by : (a b : Bool) → is_among y xs ≡ a → bytes_eq y x ≡ b →
         distinct (xs ++ y ∷ []) ≡ (if is_among y xs then distinct xs else distinct xs ++ y ∷ []) →
-        x ∷ without x (distinct (xs ++ y ∷ [])) ≡
-        (if (if b then true else a) then x ∷ without x (distinct xs) else (x ∷ without x (distinct xs)) ++ y ∷ [])
-    by true true e f again = ap (λ names. x ∷ without x names) (again ∙ rw e refl)
-    by true false e f again = ap (λ names. x ∷ without x names) (again ∙ rw e refl)
-    by false true e f again = ap (λ names. x ∷ without x names) (again ∙ rw e refl)
+        x ∷ all_but x (distinct (xs ++ y ∷ [])) ≡
+        (if (if b then true else a) then x ∷ all_but x (distinct xs) else (x ∷ all_but x (distinct xs)) ++ y ∷ [])
+    by true true e f again = ap (λ names. x ∷ all_but x names) (again ∙ rw e refl)
+    by true false e f again = ap (λ names. x ∷ all_but x names) (again ∙ rw e refl)
+    by false true e f again = ap (λ names. x ∷ all_but x names) (again ∙ rw e refl)
         ∙
         ap (λ names. x ∷ names)
-        (without_last x (distinct xs) y ∙ rw (turned x y ∙ f) (append-nil (without x (distinct xs))))
-    by false false e f again = ap (λ names. x ∷ without x names) (again ∙ rw e refl)
-        ∙ ap (λ names. x ∷ names) (without_last x (distinct xs) y ∙ rw (turned x y ∙ f) refl)
+        (all_but_last x (distinct xs) y ∙ rw (turned x y ∙ f) (append-nil (all_but x (distinct xs))))
+    by false false e f again = ap (λ names. x ∷ all_but x names) (again ∙ rw e refl)
+        ∙ ap (λ names. x ∷ names) (all_but_last x (distinct xs) y ∙ rw (turned x y ∙ f) refl)
 
 -- Indices.
 
 record IsPlace (name : List ℕ) (first : ℕ) (names : List (List ℕ)) (k : ℕ) : Type 0 where
-  place : ℕ
-  at : k ≡ first + place
-  here : slice_get names place ≡ Some name
+  index : ℕ
+  at : k ≡ first + index
+  here : slice_get names index ≡ Some name
 
 abbrev Found : List ℕ → ℕ → List (List ℕ) → Option ℕ → Type 0
 Found name first names (Some k) = IsPlace name first names k
@@ -103,7 +103,7 @@ Found name first names None = is_among name names ≡ false
 
 further : (name x : List ℕ) (first : ℕ) (names : List (List ℕ)) (o : Option ℕ) → bytes_eq name x ≡ false →
     Found name (first + 1) names o → Found name first (x ∷ names) o
-further name x first names (Some k) other f = record { place = suc f.place; at = omega (arith, f.at); here = f.here }
+further name x first names (Some k) other f = record { index = suc f.index; at = omega (arith, f.at); here = f.here }
 further name x first names None other f = rw other f
 
 found_from : (name : List ℕ) (first : ℕ) (names : List (List ℕ)) →
@@ -114,7 +114,7 @@ found_from name first (x ∷ names) = by (bytes_eq name x) refl (found_from name
     by : (b : Bool) → bytes_eq name x ≡ b →
         Found name (first + 1) names (position_from (bytes_eq name) (first + 1) names) →
         Found name first (x ∷ names) (if b then Some first else position_from (bytes_eq name) (first + 1) names)
-    by true e again = record { place = 0; at = omega arith; here = ap (λ n. Some n) (sym (is_same name x e)) }
+    by true e again = record { index = 0; at = omega arith; here = ap (λ n. Some n) (sym (is_same name x e)) }
     by false e again = further name x first names (position_from (bytes_eq name) (first + 1) names) e again
 
 found : (name : List ℕ) (names : List (List ℕ)) → Found name 0 names (number_of_name name names)
@@ -127,7 +127,7 @@ pub number_found : (name : List ℕ) (names : List (List ℕ)) (k : ℕ) → num
     slice_get names k ≡ Some name
 number_found name names k e =
     let f : IsPlace name 0 names k = subst (λ (o : Option ℕ). Found name 0 names o) e (found name names) in
-    let at : k ≡ f.place = omega (arith, f.at) in
+    let at : k ≡ f.index = omega (arith, f.at) in
     ap (slice_get names) at ∙ f.here
 
 pub number_missing : (name : List ℕ) (names : List (List ℕ)) → number_of_name name names ≡ None →

@@ -27,16 +27,16 @@ use Rattle.grammar.proofs.Runs.{append_empty}
 use Rattle.grammar_laws.specs.Emitted.{EmitsABeginning, EmitsAPart, EmitsItsFunctions, IsPart, BeginningsAreNumbered}
 use Rattle.grammar_laws.specs.Emitted.{NextMayFollow}
 use Rattle.grammar_laws.proofs.Completing.{Completes, completes}
-use Rattle.grammar_laws.proofs.TellingLimits.{allowed, unlimited}
-use Rattle.grammar_laws.proofs.TellingSteps.{StateTells, defined_told, stepped_tells}
-use Rattle.grammar_laws.proofs.Telling.{Ends, Tells}
+use Rattle.grammar_laws.proofs.ReportingLimits.{allowed, unlimited}
+use Rattle.grammar_laws.proofs.ReportingSteps.{StateReports, defined_reported, stepped_reports}
+use Rattle.grammar_laws.proofs.Reporting.{Ends, Reports}
 
-pub start_tells : (A : Type 0) (located_tokens : List LocatedToken) → StateTells A (initial_state located_tokens) []
-start_tells A located_tokens = record {
-  told = refl;
+pub start_reports : (A : Type 0) (located_tokens : List LocatedToken) → StateReports A (initial_state located_tokens) []
+start_reports A located_tokens = record {
+  reported = refl;
   fit = λ a. tt;
   on =
-      λ values n k more f. record { told = refl; fit = f };
+      λ values n k more f. record { reported = refl; fit = f };
 }
 
 -- What was emitted is that of the functions defined so far, and a part.
@@ -86,7 +86,7 @@ replaced_part None stack rest values scope ds acts h = tt
 replaced_part (Some items) stack rest values scope ds acts h = h
 
 step_part : (A : Type 0) (stack : List Item) (rest : List LocatedToken) (values : List PartialTree) (scope : Scope)
-    (ds : List Definition) (acts : List Action) → Tells A stack values scope.number scope.current.parameters ds acts →
+    (ds : List Definition) (acts : List Action) → Reports A stack values scope.number scope.current.parameters ds acts →
     HasPart (acts ++ on_item stack (next_token rest) values scope) ds →
     IfPart (stack_step stack (state stack rest values scope ds)) (acts ++ on_item stack (next_token rest) values scope)
 step_part A [] rest values scope ds acts t h = tt
@@ -105,7 +105,7 @@ step_part A (Part symbol ∷ stack) rest values scope ds acts t h =
 step_part A (Make Define ∷ stack) rest values scope ds acts t h =
     record {
       part = [];
-      is = sym (defined_told values scope ds acts t.told)
+      is = sym (defined_reported values scope ds acts t.reported)
           ∙ sym (append-nil (definitions_actions (ds ++ definition_of scope (last_body values) ∷ [])));
     }
 step_part A (Make (Operate o) ∷ stack) rest values scope ds acts t h = no_more _ ds h
@@ -138,7 +138,7 @@ guarded_part : (s : State) (fault : Bool) (o : Option State) (acts more : List A
 guarded_part s true o acts more h k = more_part acts [] s.functions h
 guarded_part s false o acts more h k = kept_part s o (acts ++ more) (more_part acts more s.functions h) k
 
-stepped_part : (A : Type 0) (s : State) (acts : List Action) → StateTells A s acts → HasPart acts s.functions →
+stepped_part : (A : Type 0) (s : State) (acts : List Action) → StateReports A s acts → HasPart acts s.functions →
     HasPart (acts ++ emitted s) (stepped s).functions
 stepped_part A s acts t h =
     guarded_part s (is_lexical_error (next_token s.rest)) (stack_step s.stack s) acts
@@ -149,7 +149,7 @@ stepped_part A s acts t h =
 -- Any steps.
 
 record Emitted (s : State) (acts : List Action) : Type 0 where
-  tells : StateTells ⊥ s acts
+  reports : StateReports ⊥ s acts
   part : HasPart acts s.functions
 
 emits : (n : ℕ) (s : State) (acts : List Action) → Emitted s acts → Emitted (derived n s) (acts ++ emissions n s)
@@ -158,36 +158,36 @@ emits (suc n) s acts h =
     subst (λ (xs : List Action). Emitted (derived n (stepped s)) xs)
     (append_assoc acts (emitted s) (emissions n (stepped s)))
     (emits n (stepped s) (acts ++ emitted s) (record {
-      tells = stepped_tells ⊥ s acts (λ e. unlimited s.stack s.rest s.scope) h.tells;
+      reports = stepped_reports ⊥ s acts (λ e. unlimited s.stack s.rest s.scope) h.reports;
       part =
-          stepped_part ⊥ s acts h.tells h.part;
+          stepped_part ⊥ s acts h.reports h.part;
     }))
 
 emits_from_start : (n : ℕ) (located_tokens : List LocatedToken) →
     Emitted (derived n (initial_state located_tokens)) (emissions n (initial_state located_tokens))
 emits_from_start n located_tokens = emits n (initial_state located_tokens) []
-    (record { tells = start_tells ⊥ located_tokens; part = record { part = []; is = refl } })
+    (record { reports = start_reports ⊥ located_tokens; part = record { part = []; is = refl } })
 
-clean_tells : (profile : Profile) (n : ℕ) (s : State) (acts : List Action) → faults_in profile n s ≡ [] → Sound s →
-    StateTells (Unit {0}) s acts → StateTells (Unit {0}) (derived n s) (acts ++ emissions n s)
-clean_tells profile zero s acts clean sound h = subst (λ (xs : List Action). StateTells (Unit {0}) s xs)
+clean_reports : (profile : Profile) (n : ℕ) (s : State) (acts : List Action) → faults_in profile n s ≡ [] → Sound s →
+    StateReports (Unit {0}) s acts → StateReports (Unit {0}) (derived n s) (acts ++ emissions n s)
+clean_reports profile zero s acts clean sound h = subst (λ (xs : List Action). StateReports (Unit {0}) s xs)
     (sym (append-nil acts)) h
-clean_tells profile (suc n) s acts clean sound h =
+clean_reports profile (suc n) s acts clean sound h =
     let parts = append_empty (faults_at profile s) (faults_in profile n (stepped s)) clean in
-    subst (λ (xs : List Action). StateTells (Unit {0}) (derived n (stepped s)) xs)
+    subst (λ (xs : List Action). StateReports (Unit {0}) (derived n (stepped s)) xs)
     (append_assoc acts (emitted s) (emissions n (stepped s)))
-    (clean_tells profile n (stepped s) (acts ++ emitted s) parts.1 (stepped_sound profile s parts.0 sound)
-    (stepped_tells (Unit {0}) s acts (allowed profile s parts.0 sound) h))
+    (clean_reports profile n (stepped s) (acts ++ emitted s) parts.1 (stepped_sound profile s parts.0 sound)
+    (stepped_reports (Unit {0}) s acts (allowed profile s parts.0 sound) h))
 
 -- The laws.
 
 pub emits_its_functions : EmitsItsFunctions
 emits_its_functions n located_tokens done = sym (ends (derived n (initial_state located_tokens))
-    (emissions n (initial_state located_tokens)) done (emits_from_start n located_tokens).tells).told
+    (emissions n (initial_state located_tokens)) done (emits_from_start n located_tokens).reports).reported
   where
-    ends : (s : State) (acts : List Action) → s.stack ≡ [] → StateTells ⊥ s acts → Ends ⊥ s.functions acts
+    ends : (s : State) (acts : List Action) → s.stack ≡ [] → StateReports ⊥ s acts → Ends ⊥ s.functions acts
     ends s acts e h = subst (λ (stack : List Item).
-        Tells ⊥ stack s.values s.scope.number s.scope.current.parameters s.functions acts) e h
+        Reports ⊥ stack s.values s.scope.number s.scope.current.parameters s.functions acts) e h
 
 definitions_append : (ds more : List Definition) →
     definitions_actions (ds ++ more) ≡ definitions_actions ds ++ definitions_actions more
@@ -215,19 +215,19 @@ emits_a_part n located_tokens =
   where
     whole : (s : State) (acts : List Action) → Emitted s acts → IsPart acts s.functions
     whole s acts e = part_of_one acts s.functions e.part
-        (completes ⊥ s.stack s.values s.scope.number s.scope.current.parameters s.functions acts e.tells)
+        (completes ⊥ s.stack s.values s.scope.number s.scope.current.parameters s.functions acts e.reports)
 
-begins : (s : State) (acts : List Action) → StateTells (Unit {0}) s acts → IsBeginning acts
+begins : (s : State) (acts : List Action) → StateReports (Unit {0}) s acts → IsBeginning acts
 begins s acts h =
     let c : Completes (Unit {0}) s.functions acts =
     completes (Unit {0}) s.stack s.values s.scope.number s.scope.current.parameters s.functions acts h in
-    record { functions = s.functions ++ c.further; tellable = c.fit tt; rest = c.rest; begins = c.begins }
+    record { functions = s.functions ++ c.further; reportable = c.fit tt; rest = c.rest; begins = c.begins }
 
 clean_from_start : (profile : Profile) (n : ℕ) (located_tokens : List LocatedToken) →
     faults_in profile n (initial_state located_tokens) ≡ [] →
-    StateTells (Unit {0}) (derived n (initial_state located_tokens)) (emissions n (initial_state located_tokens))
-clean_from_start profile n located_tokens clean = clean_tells profile n (initial_state located_tokens) [] clean
-    (start_sound located_tokens) (start_tells (Unit {0}) located_tokens)
+    StateReports (Unit {0}) (derived n (initial_state located_tokens)) (emissions n (initial_state located_tokens))
+clean_from_start profile n located_tokens clean = clean_reports profile n (initial_state located_tokens) [] clean
+    (start_sound located_tokens) (start_reports (Unit {0}) located_tokens)
 
 pub emits_a_beginning : EmitsABeginning
 emits_a_beginning profile n located_tokens clean =
@@ -238,7 +238,7 @@ pub next_may_follow : NextMayFollow
 next_may_follow profile other n located_tokens clean quiet =
     begins (stepped (derived n (initial_state located_tokens)))
     (emissions n (initial_state located_tokens) ++ emitted (derived n (initial_state located_tokens)))
-    (stepped_tells (Unit {0}) (derived n (initial_state located_tokens)) (emissions n (initial_state located_tokens))
+    (stepped_reports (Unit {0}) (derived n (initial_state located_tokens)) (emissions n (initial_state located_tokens))
     (allowed other (derived n (initial_state located_tokens)) quiet
     (run_sound profile n (initial_state located_tokens) clean (start_sound located_tokens)))
     (clean_from_start profile n located_tokens clean))

@@ -86,23 +86,23 @@ each_by_number lines ds functions a k less = by (slice_get functions k) refl
         missing (f ∷ fs) e h = let some : slice_get (f ∷ fs) k ≡ Some (get_or (f ∷ fs) k f) =
             slice_get-get_or (f ∷ fs) k f h in cc
 
-file_told : (s : State) (functions : List Function) (main : ℕ) → Sound s →
+file_reported : (s : State) (functions : List Function) (main : ℕ) → Sound s →
     all_defined 0 s.scope.lines s.functions ≡ Ok functions →
     definitions_actions s.functions ≡ actions (made_file s.scope (order_of s.functions) functions main)
-file_told s functions main h found =
+file_reported s functions main h found =
     let a : AreDefined 0 s.scope.lines s.functions functions =
     are_defined 0 s.scope.lines s.functions functions found in
-    let count : length functions ≡ length s.scope.functions = a.count ∙ h.known.lines in
+    let count : length functions ≡ length s.scope.functions = a.count ∙ h.scoped.lines in
     sym (actions_there functions s.functions
-    (there functions s.functions (distinct_of (phase_of s.stack) s.values s.scope s.functions h.known.begun h.tied)
+    (there functions s.functions (distinct_of (phase_of s.stack) s.values s.scope s.functions h.scoped.begun h.tied)
     (λ k i. each_by_number s.scope.lines s.functions functions a k
-    (let low : k < length s.scope.functions = order_below _ _ k s.functions h.known.definitions i in omega
+    (let low : k < length s.scope.functions = order_below _ _ k s.functions h.scoped.definitions i in omega
     (arith, low, count)))))
 
 pub emits_its_file : EmitsItsFile
 emits_its_file profile located_tokens file compiled =
     emits_its_functions (enough_steps located_tokens) located_tokens (last_is_done profile located_tokens c.clean)
-    ∙ file_told (last_state located_tokens) m.all m.place
+    ∙ file_reported (last_state located_tokens) m.all m.number
     (run_sound profile (enough_steps located_tokens) (initial_state located_tokens) c.clean
     (start_sound located_tokens)) m.found
     ∙ ap actions m.is

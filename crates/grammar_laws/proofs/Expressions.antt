@@ -14,10 +14,10 @@ use Rattle.grammar.specs.Grammar.{Item, Exactly, AName, Part, Make, Close, Menti
 use Rattle.grammar.specs.Scope.{Scope, variable_of, callee_of}
 use Rattle.grammar.specs.Tree as tree
 use Rattle.grammar.specs.Tree.{Expr, Args, add_argument}
-use Rattle.grammar_laws.specs.Written.{Sign, Minus, Not, Tilde, Step, Up, Down, Expression, Constant, Variable, Binary, Signed, Assign, StepBefore, StepBehind, Call, Arguments, NoMore, Argument}
+use Rattle.grammar_laws.specs.Written.{Sign, Minus, Not, Tilde, Increment, Up, Down, Expression, Constant, Variable, Binary, Signed, Assign, PreIncrement, PostIncrement, Call, Arguments, NoMore, Argument}
 use Rattle.grammar.specs.Operators.{binary_punctuator, store_punctuator}
-use Rattle.grammar_laws.specs.Spelling.{sign_punctuator, step_punctuator, spell_more}
-use Rattle.grammar_laws.specs.Resolving.{tree_of, trees_of, behind, behind_arguments, mentioned, called, signed, step_op}
+use Rattle.grammar_laws.specs.Spelling.{sign_punctuator, spelled_increment, spell_more}
+use Rattle.grammar_laws.specs.Resolving.{tree_of, trees_of, behind, behind_arguments, mentioned, behind_callee, signed, increment_operator}
 use Rattle.grammar_laws.proofs.Leading.{Leads, then, at, first, second, part, make}
 use Rattle.grammar_laws.proofs.Levels.{tails, down, up, Closing, Round, Comma, closing_punctuator, Operates, operates}
 use Rattle.grammar_laws.proofs.Parts.{IsTaken, IsOperand, operand, a_constant, a_name, operator_ends, closing_ends, spell_part, part_sound, part_begins, part_at_level, part_alone}
@@ -99,57 +99,67 @@ with_sign sign e is c rest stack values scope functions =
 
 -- ++ and --
 
-before_begins : (step : Step) (name : List ℕ) (tokens : List Token) (stack : List Item) (values : List PartialTree)
+before_begins : (increment : Increment) (name : List ℕ) (tokens : List Token) (stack : List Item)
+    (values : List PartialTree)
     (scope : Scope) (functions : List Definition) →
     Leads
-    (at (Part Unary ∷ stack) (token.Punctuator (step_punctuator step) ∷ token.Name name ∷ tokens) values scope
+    (at (Part Unary ∷ stack) (token.Punctuator (spelled_increment increment) ∷ token.Name name ∷ tokens) values scope
     functions)
-    (at (Make (grammar.PrefixIncrement (step_op step)) ∷ stack) tokens (AVariable (variable_of name scope) ∷ values)
+    (at (Make (grammar.PrefixIncrement (increment_operator increment)) ∷ stack) tokens
+    (AVariable (variable_of name scope) ∷ values)
     (mentioned name scope) functions)
 before_begins Up name tokens stack values scope functions = record { steps = 3; leads = refl }
 before_begins Down name tokens stack values scope functions = record { steps = 3; leads = refl }
 
-behind_begins : (step : Step) (name : List ℕ) (tokens : List Token) (stack : List Item) (values : List PartialTree)
+behind_begins : (increment : Increment) (name : List ℕ) (tokens : List Token) (stack : List Item)
+    (values : List PartialTree)
     (scope : Scope) (functions : List Definition) →
     Leads
-    (at (Part Unary ∷ stack) (token.Name name ∷ token.Punctuator (step_punctuator step) ∷ tokens) values scope
+    (at (Part Unary ∷ stack) (token.Name name ∷ token.Punctuator (spelled_increment increment) ∷ tokens) values scope
     functions)
-    (at (Make (grammar.PostfixIncrement (step_op step)) ∷ stack) tokens (AVariable (variable_of name scope) ∷ values)
+    (at (Make (grammar.PostfixIncrement (increment_operator increment)) ∷ stack) tokens
+    (AVariable (variable_of name scope) ∷ values)
     (mentioned name scope) functions)
 behind_begins Up name tokens stack values scope functions = record { steps = 4; leads = refl }
 behind_begins Down name tokens stack values scope functions = record { steps = 4; leads = refl }
 
-no_assignment : (step : Step) (name : List ℕ) →
-    choice grammar.Expression (token.Name name) (token.Punctuator (step_punctuator step)) ≡ Some (Part (Level 1) ∷ [])
+no_assignment : (increment : Increment) (name : List ℕ) →
+    choice grammar.Expression (token.Name name) (token.Punctuator (spelled_increment increment)) ≡
+    Some (Part (Level 1) ∷ [])
 no_assignment Up name = refl
 no_assignment Down name = refl
 
-stepped_before : (step : Step) (name : List ℕ) → IsTaken (StepBefore step name)
-stepped_before step name c rest stack values scope functions =
+pre_incremented : (increment : Increment) (name : List ℕ) → IsTaken (PreIncrement increment name)
+pre_incremented increment name c rest stack values scope functions =
     let tokens : List Token =
-    token.Punctuator (step_punctuator step) ∷ token.Name name ∷ token.Punctuator (closing_punctuator c) ∷ rest in
+    token.Punctuator (spelled_increment increment) ∷ token.Name name ∷ token.Punctuator (closing_punctuator c) ∷ rest in
     let above : List Item = tails 10 1 stack in
-    let whole : Expr = tree_of (StepBefore step name) scope in
+    let whole : Expr = tree_of (PreIncrement increment name) scope in
     then _ _ _ (part grammar.Expression (Part (Level 1) ∷ []) stack tokens values scope functions refl refl)
     (then _ _ _ (down 10 1 stack tokens values scope functions refl refl)
-    (then _ _ _ (before_begins step name (token.Punctuator (closing_punctuator c) ∷ rest) above values scope functions)
     (then _ _ _
-    (make (grammar.PrefixIncrement (step_op step)) above (token.Punctuator (closing_punctuator c) ∷ rest) _
+    (before_begins increment name (token.Punctuator (closing_punctuator c) ∷ rest) above values scope functions)
+    (then _ _ _
+    (make (grammar.PrefixIncrement (increment_operator increment)) above
+    (token.Punctuator (closing_punctuator c) ∷ rest) _
     (AnExpr whole ∷ values) (mentioned name scope) functions refl refl refl refl)
     (up 10 1 c stack rest (AnExpr whole ∷ values) (mentioned name scope) functions))))
 
-stepped_behind : (step : Step) (name : List ℕ) → IsTaken (StepBehind step name)
-stepped_behind step name c rest stack values scope functions =
+post_incremented : (increment : Increment) (name : List ℕ) → IsTaken (PostIncrement increment name)
+post_incremented increment name c rest stack values scope functions =
     let tokens : List Token =
-    token.Name name ∷ token.Punctuator (step_punctuator step) ∷ token.Punctuator (closing_punctuator c) ∷ rest in
+    token.Name name ∷ token.Punctuator (spelled_increment increment) ∷ token.Punctuator (closing_punctuator c) ∷ rest in
     let above : List Item = tails 10 1 stack in
-    let whole : Expr = tree_of (StepBehind step name) scope in
+    let whole : Expr = tree_of (PostIncrement increment name) scope in
     then _ _ _
-    (part grammar.Expression (Part (Level 1) ∷ []) stack tokens values scope functions refl (no_assignment step name))
+    (part grammar.Expression (Part (Level 1) ∷ []) stack tokens values scope functions refl
+    (no_assignment increment name))
     (then _ _ _ (down 10 1 stack tokens values scope functions refl refl)
-    (then _ _ _ (behind_begins step name (token.Punctuator (closing_punctuator c) ∷ rest) above values scope functions)
     (then _ _ _
-    (make (grammar.PostfixIncrement (step_op step)) above (token.Punctuator (closing_punctuator c) ∷ rest) _
+    (behind_begins increment name (token.Punctuator (closing_punctuator c) ∷ rest) above values scope functions)
+    (then _ _ _
+    (make (grammar.PostfixIncrement (increment_operator increment)) above
+    (token.Punctuator (closing_punctuator c) ∷ rest) _
     (AnExpr whole ∷ values) (mentioned name scope) functions refl refl refl refl)
     (up 10 1 c stack rest (AnExpr whole ∷ values) (mentioned name scope) functions))))
 
@@ -168,15 +178,15 @@ assignment_begins o name tokens stack values scope functions = record { steps = 
 assignment : (o : StoreOp) (name : List ℕ) (e : Expression) → IsOperand e → IsTaken (Assign o name e)
 assignment o name e is c rest stack values scope functions =
     let variable : PartialTree = AVariable (variable_of name scope) in
-    let known : Scope = mentioned name scope in
+    let in_scope : Scope = mentioned name scope in
     let whole : Expr = tree_of (Assign o name e) scope in
     then _ _ _
     (assignment_begins o name (spell_part e ++ token.Punctuator (closing_punctuator c) ∷ rest) stack values scope
     functions)
-    (then _ _ _ (part_alone e is c rest (Make (Store o) ∷ Close ∷ stack) (variable ∷ values) known functions)
+    (then _ _ _ (part_alone e is c rest (Make (Store o) ∷ Close ∷ stack) (variable ∷ values) in_scope functions)
     (then _ _ _
     (make (Store o) (Close ∷ stack) (token.Punctuator (closing_punctuator c) ∷ rest) _ (AnExpr whole ∷ values)
-    (behind e known) functions refl refl refl refl)
+    (behind e in_scope) functions refl refl refl refl)
     (record { steps = 1; leads = refl })))
 
 -- a call
@@ -274,7 +284,7 @@ call_begins : (name : List ℕ) (tokens : List Token) (stack : List Item) (value
     (at (Part grammar.Expression ∷ stack) (token.Name name ∷ token.Punctuator punctuator.OpenRound ∷ tokens) values
     scope functions)
     (at (Part grammar.Arguments ∷ Exactly punctuator.CloseRound ∷ Make Invoke ∷ Close ∷ tails 10 1 stack) tokens
-    (ACall (callee_of name scope) tree.NoMore ∷ values) (called name scope) functions)
+    (ACall (callee_of name scope) tree.NoMore ∷ values) (behind_callee name scope) functions)
 call_begins name tokens stack values scope functions = record { steps = 16; leads = refl }
 
 -- from the bracket after the arguments
@@ -306,14 +316,14 @@ call_of_none name c rest stack values scope functions =
     (then _
     (at (Exactly punctuator.CloseRound ∷ Make Invoke ∷ Close ∷ tails 10 1 stack)
     (token.Punctuator punctuator.CloseRound ∷ token.Punctuator (closing_punctuator c) ∷ rest)
-    (ACall (callee_of name scope) tree.NoMore ∷ values) (called name scope) functions) _
+    (ACall (callee_of name scope) tree.NoMore ∷ values) (behind_callee name scope) functions) _
     (record { steps = 1; leads = refl })
-    (call_ends (callee_of name scope) tree.NoMore c rest stack values (called name scope) functions))
+    (call_ends (callee_of name scope) tree.NoMore c rest stack values (behind_callee name scope) functions))
 
 call : (name : List ℕ) (e : Expression) (more : Arguments) → IsOperand e → AreTaken more →
     IsTaken (Call name (Argument e more))
 call name e more is others c rest stack values scope functions =
-    let known : Scope = called name scope in
+    let in_scope : Scope = behind_callee name scope in
     let callee : Callee = callee_of name scope in
     let close : List Token = token.Punctuator punctuator.CloseRound ∷ token.Punctuator (closing_punctuator c) ∷ rest in
     let end : List Item = Exactly punctuator.CloseRound ∷ Make Invoke ∷ Close ∷ tails 10 1 stack in
@@ -325,16 +335,16 @@ call name e more is others c rest stack values scope functions =
     )
     (then _ _ _ (call_begins name inner stack values scope functions)
     (then _ _ _ (part grammar.Arguments (Part grammar.Expression ∷ Make AddArgument ∷ Part MoreArguments ∷ []) end inner
-    (ACall callee tree.NoMore ∷ values) known functions
+    (ACall callee tree.NoMore ∷ values) in_scope functions
     (part_sound e (spell_more more ++ close)) (arguments_begin e (spell_more more ++ close)))
     (then _ _ _
     (passed e is (spell_more more ++ close) (stops more (token.Punctuator (closing_punctuator c) ∷ rest))
-    (Part MoreArguments ∷ end) callee tree.NoMore values known functions)
+    (Part MoreArguments ∷ end) callee tree.NoMore values in_scope functions)
     (then _ _ _
-    (others (token.Punctuator (closing_punctuator c) ∷ rest) end callee (tree.Argument (tree_of e known) tree.NoMore)
-    values (behind e known) functions)
-    (call_ends callee (tree.Argument (tree_of e known) (trees_of more (behind e known))) c rest stack values
-    (behind_arguments more (behind e known)) functions)))))
+    (others (token.Punctuator (closing_punctuator c) ∷ rest) end callee (tree.Argument (tree_of e in_scope) tree.NoMore)
+    values (behind e in_scope) functions)
+    (call_ends callee (tree.Argument (tree_of e in_scope) (trees_of more (behind e in_scope))) c rest stack values
+    (behind_arguments more (behind e in_scope)) functions)))))
 
 mutual
   pub taken : (e : Expression) → IsTaken e
@@ -343,8 +353,8 @@ mutual
   taken (Binary o a b) = binary o a b (operand a (taken a)) (operand b (taken b))
   taken (Signed sign e) = with_sign sign e (operand e (taken e))
   taken (Assign o name e) = assignment o name e (operand e (taken e))
-  taken (StepBefore step name) = stepped_before step name
-  taken (StepBehind step name) = stepped_behind step name
+  taken (PreIncrement increment name) = pre_incremented increment name
+  taken (PostIncrement increment name) = post_incremented increment name
   taken (Call name NoMore) = call_of_none name
   taken (Call name (Argument e more)) = call name e more (operand e (taken e)) (all_taken more)
 

@@ -20,7 +20,7 @@ use Rattle.grammar.specs.Resolved.{IsVariable, IsCallable, InArgs, InExpr}
 use Rattle.grammar.specs.Tree as tree
 use Rattle.grammar.specs.Tree.{Expr, Args, Body, add_argument, join}
 use Rattle.grammar.proofs.Soundness.{join_in}
-use Rattle.grammar_laws.proofs.Telling.{ExprFits, ArgsFit, BodyFits}
+use Rattle.grammar_laws.proofs.Reporting.{ExprFits, ArgsFit, BodyFits}
 
 -- Expressions.
 

@@ -17,12 +17,12 @@ pub mod KnownTexts
 pub mod KnownEmissions
 pub mod ClosedNesting
 pub mod Productions
-pub mod Telling
+pub mod Reporting
 pub mod Fitting
-pub mod TellingProductions
-pub mod TellingOperands
-pub mod TellingSteps
-pub mod TellingLimits
+pub mod ReportingProductions
+pub mod ReportingOperands
+pub mod ReportingSteps
+pub mod ReportingLimits
 pub mod Completing
 pub mod NumberedActions
 pub mod Emitted

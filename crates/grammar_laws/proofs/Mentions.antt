@@ -2,8 +2,8 @@
 use Rattle.std.proofs.Common.{◌≡◌, ℕ, List, refl, ◌∙◌, Bool, true, false}
 use Rattle.std.specs.Prelude.{if◌then◌else◌}
 use Rattle.grammar.specs.Scope.{Scope, with_new_function, with_variable, is_function_new, is_variable_new}
-use Rattle.grammar_laws.specs.Written.{Expression, Constant, Variable, Binary, Signed, Assign, StepBefore, StepBehind, Call, Arguments, NoMore, Argument, Statement, Nothing, Evaluate, If, IfElse, While, Return, ReturnValue, Block, Statements, Done, Next}
-use Rattle.grammar_laws.specs.Resolving.{behind, behind_arguments, mentioned, called, behind_statement, behind_statements}
+use Rattle.grammar_laws.specs.Written.{Expression, Constant, Variable, Binary, Signed, Assign, PreIncrement, PostIncrement, Call, Arguments, NoMore, Argument, Statement, Nothing, Evaluate, If, IfElse, While, Return, ReturnValue, Block, Statements, Done, Next}
+use Rattle.grammar_laws.specs.Resolving.{behind, behind_arguments, mentioned, behind_callee, behind_statement, behind_statements}
 
 pub record Keeps (scope learnt : Scope) : Type 0 where
   pub number : learnt.number ≡ scope.number
@@ -13,8 +13,8 @@ pub record Keeps (scope learnt : Scope) : Type 0 where
 same : (scope : Scope) → Keeps scope scope
 same scope = record { number = refl; name = refl; parameters = refl }
 
-both : (scope known learnt : Scope) → Keeps scope known → Keeps known learnt → Keeps scope learnt
-both scope known learnt k l =
+both : (scope in_scope learnt : Scope) → Keeps scope in_scope → Keeps in_scope learnt → Keeps scope learnt
+both scope in_scope learnt k l =
     record { number = l.number ∙ k.number; name = l.name ∙ k.name; parameters = l.parameters ∙ k.parameters }
 
 either : (b : Bool) (scope learnt : Scope) → Keeps scope learnt → Keeps scope (if b then learnt else scope)
@@ -26,7 +26,7 @@ mention name scope =
     either (is_variable_new name scope) scope (with_variable name scope)
     (record { number = refl; name = refl; parameters = refl })
 
-call : (name : List ℕ) (scope : Scope) → Keeps scope (called name scope)
+call : (name : List ℕ) (scope : Scope) → Keeps scope (behind_callee name scope)
 call name scope =
     either (is_function_new name scope) scope (with_new_function name 0 scope)
     (record { number = refl; name = refl; parameters = refl })
@@ -39,10 +39,10 @@ mutual
   keeps (Signed sign e) scope = keeps e scope
   keeps (Assign o name e) scope =
       both scope (mentioned name scope) _ (mention name scope) (keeps e (mentioned name scope))
-  keeps (StepBefore step name) scope = mention name scope
-  keeps (StepBehind step name) scope = mention name scope
+  keeps (PreIncrement increment name) scope = mention name scope
+  keeps (PostIncrement increment name) scope = mention name scope
   keeps (Call name arguments) scope =
-      both scope (called name scope) _ (call name scope) (all_keep arguments (called name scope))
+      both scope (behind_callee name scope) _ (call name scope) (all_keep arguments (behind_callee name scope))
 
   all_keep : (arguments : Arguments) (scope : Scope) → Keeps scope (behind_arguments arguments scope)
   all_keep NoMore scope = same scope

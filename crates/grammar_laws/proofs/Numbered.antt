@@ -19,7 +19,7 @@ use Rattle.grammar.specs.Tree.{Function, File}
 use Rattle.grammar.proofs.FileLaws.{named_at}
 use Rattle.grammar.proofs.NamedFunctions.{AreNamed, named_of_passes}
 use Rattle.grammar.proofs.Phases.{phase_of}
-use Rattle.grammar.proofs.Indices.{get_append, map_of_places}
+use Rattle.grammar.proofs.Indices.{get_append, map_by_index}
 use Rattle.grammar.proofs.ResolvedLaws.{AreDefined, IsClean, IsMade, are_defined, is_clean, is_made, Sound, Busy, ended, stepped_sound, run_sound, start_sound}
 use Rattle.grammar.proofs.Runs.{append_empty}
 use Rattle.grammar_laws.specs.Numbering.{Says, Ends, History, distinct, function_names}
@@ -319,7 +319,7 @@ stepped_counts profile s h clean sound c = kept_counting s (said s) h (step s) c
     (unexpected_tokens s.stack s.rest (stack_step s.stack s))
     (stack_step s.stack s) clean
     (λ e. step_counts profile s.stack s.rest s.values s.scope s.functions h e
-    (record { known = sound.known; tied = sound.tied }) c))
+    (record { scoped = sound.scoped; tied = sound.tied }) c))
 
 run_counts : (profile : Profile) (n : ℕ) (s : State) (h : History) → faults_in profile n s ≡ [] → Sound s →
     Counts h s.scope s.functions →
@@ -385,7 +385,7 @@ functions_named : (scope : Scope) (ds : List Definition) (functions : List Funct
     AreDefined 0 scope.lines ds functions → AreNamed scope.functions ds →
     length scope.lines ≡ length scope.functions → map names_of_function functions ≡ scope.functions
 functions_named scope ds functions a h lined =
-    map_of_places names_of_function functions scope.functions (a.count ∙ lined)
+    map_by_index names_of_function functions scope.functions (a.count ∙ lined)
     (λ k f e. named_at scope.functions k f ds h (ap (λ n. defined_as n ds) (at k) ∙ a.each k f e))
   where
     at : (k : ℕ) → k ≡ 0 + k
@@ -414,7 +414,7 @@ files profile located_tokens file e =
     in
     let same : map names_of_function m.all ≡ s.scope.functions =
     functions_named s.scope s.functions m.all (are_defined 0 s.scope.lines s.functions m.all m.found) named
-    sound.known.lines in
+    sound.scoped.lines in
     record {
       externals = ap (λ (f : File). f.externals) (sym m.is) ∙
           (agrees_at located_tokens (enough_steps located_tokens)).externals;

@@ -14,7 +14,7 @@ use Rattle.grammar_laws.proofs.Leading.{located_tokens_of}
 abbrev no_line : ℕ → ℕ
 no_line line = 0
 
--- the names known, each mentioned on no line
+-- the names in scope, each mentioned on no line
 abbrev pub bare_scope : Scope → Scope
 bare_scope scope = record scope { lines = map no_line scope.lines }
 

@@ -11,13 +11,13 @@ use Rattle.arith.specs.declared.operators.Op.{Op}
 use Rattle.grammar.specs.declared.operators.StoreOp.{StoreOp}
 use Rattle.grammar.specs.Grammar.{Role, Symbol, Source, Types, Head, More, Parameters, ParameterTypes, FunctionBlock, Block, Declarations, Statements, Statement, ElsePart, Back, Expression, Level, Tail, Unary, Primary, Arguments, MoreArguments, Mentioned, Part, assignment_or, choice, tail_production}
 use Rattle.grammar.specs.Operators.{operator_at, store_of}
-use Rattle.grammar_laws.specs.Scheme.{ActsByRows, ChoosesRows, HasOneRole, IsSymbol, action_rows, actions_after, in_words, listed, of_symbol, plain, role_of, roles_in, roles_of}
+use Rattle.grammar_laws.specs.Scheme.{ActsByRows, ChoosesRows, HasOneRole, IsSymbol, action_rows, actions_after, in_words, found_actions, of_symbol, plain, role_in_production, roles_in, roles_of}
 
 -- the production chosen is the row's, with the semantic actions listed for it
 abbrev Fits : Symbol → Token → Token → Type 0
 Fits symbol next after = (option_map in_words (choice symbol next after) ≡ plain symbol next after)
     × (option_map (actions_after 0) (choice symbol next after)
-    ≡ option_map (listed (of_symbol symbol) action_rows) (plain symbol next after))
+    ≡ option_map (found_actions (of_symbol symbol) action_rows) (plain symbol next after))
 
 source_fits : (next after : Token) → Fits Source next after
 unfolding digits
@@ -233,13 +233,13 @@ expression_role : (o : Option StoreOp) (m : Punctuator) → AreFor Mentioned (ro
 expression_role None m = refl
 expression_role (Some op) m = refl
 
-head_role : (next after : Token) → AreFor (role_of Head after) (roles_of (choice Head next after))
+head_role : (next after : Token) → AreFor (role_in_production Head after) (roles_of (choice Head next after))
 head_role (token.Name name) (token.Punctuator punctuator.OpenRound) = refl
 head_role (token.Name name) after = refl
 head_role next (token.Punctuator punctuator.OpenRound) = refl
 head_role next after = refl
 
-primary_role : (next after : Token) → AreFor (role_of Primary after) (roles_of (choice Primary next after))
+primary_role : (next after : Token) → AreFor (role_in_production Primary after) (roles_of (choice Primary next after))
 primary_role (token.Name name) (token.Punctuator punctuator.OpenRound) = refl
 primary_role (token.Name name) after = refl
 primary_role (token.Punctuator punctuator.OpenRound) after = refl
@@ -257,7 +257,8 @@ statement_role next after = refl
 pub has_one_role : HasOneRole
 has_one_role symbol next after = role symbol next after
   where
-    role : (symbol : Symbol) (next after : Token) → AreFor (role_of symbol after) (roles_of (choice symbol next after))
+    role : (symbol : Symbol) (next after : Token) →
+        AreFor (role_in_production symbol after) (roles_of (choice symbol next after))
     role Source token.End after = refl
     role Source (token.Keyword keyword.Type) after = refl
     role Source next after = refl

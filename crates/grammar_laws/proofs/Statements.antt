@@ -116,7 +116,7 @@ opened c more rest =
 
 decide : (c : Expression) (body : Statements) → AreAdded body → IsAdded (If c body)
 decide c body added rest f stack before values scope functions =
-    let known : Scope = behind_statements body (behind c scope) in
+    let in_scope : Scope = behind_statements body (behind c scope) in
     let parts : List PartialTree =
     ABody (bodies_of body (behind c scope)) ∷ AnExpr (tree_of c scope) ∷ ABody before ∷ values in
     let all : Body = join before (body_of (If c body) scope) in
@@ -128,15 +128,15 @@ decide c body added rest f stack before values scope functions =
     (ABody before ∷ values) scope functions) _
     (record { steps = 3; leads = refl })
     (then _ _ _ (conditioned c body added rest f.sound end (ABody before ∷ values) scope functions)
-    (then _ _ _ (part ElsePart (Make Decide ∷ []) (Close ∷ stack) rest parts known functions f.sound f.no_else)
-    (then _ _ _ (make Decide (Close ∷ stack) rest parts (ABody all ∷ values) known functions f.sound refl refl refl)
-    (close stack rest (ABody all ∷ values) known functions f.sound)))))
+    (then _ _ _ (part ElsePart (Make Decide ∷ []) (Close ∷ stack) rest parts in_scope functions f.sound f.no_else)
+    (then _ _ _ (make Decide (Close ∷ stack) rest parts (ABody all ∷ values) in_scope functions f.sound refl refl refl)
+    (close stack rest (ABody all ∷ values) in_scope functions f.sound)))))
 
 decide_else : (c : Expression) (body other : Statements) → AreAdded body → AreAdded other →
     IsAdded (IfElse c body other)
 decide_else c body other added added_other rest f stack before values scope functions =
-    let known : Scope = behind_statements body (behind c scope) in
-    let learnt : Scope = behind_statements other known in
+    let in_scope : Scope = behind_statements body (behind c scope) in
+    let learnt : Scope = behind_statements other in_scope in
     let parts : List PartialTree =
     ABody (bodies_of body (behind c scope)) ∷ AnExpr (tree_of c scope) ∷ ABody before ∷ values in
     let all : Body = join before (body_of (IfElse c body other) scope) in
@@ -154,21 +154,23 @@ decide_else c body other added added_other rest f stack before values scope func
     (record { steps = 3; leads = refl })
     (then _ _ _ (conditioned c body added rest_else refl end (ABody before ∷ values) scope functions)
     (then _
-    (at (Make Empty ∷ Part grammar.Statement ∷ Make DecideElse ∷ Close ∷ stack) (second_body ++ rest) parts known
+    (at (Make Empty ∷ Part grammar.Statement ∷ Make DecideElse ∷ Close ∷ stack) (second_body ++ rest) parts in_scope
     functions) _
     (record { steps = 2; leads = refl })
     (then _ _ _
     (make Empty (Part grammar.Statement ∷ Make DecideElse ∷ Close ∷ stack) (second_body ++ rest) parts
-    (ABody tree.Done ∷ parts) known functions refl refl refl refl)
-    (then _ _ _ (block other added_other rest f.sound (Make DecideElse ∷ Close ∷ stack) tree.Done parts known functions)
+    (ABody tree.Done ∷ parts) in_scope functions refl refl refl refl)
     (then _ _ _
-    (make DecideElse (Close ∷ stack) rest (ABody (bodies_of other known) ∷ parts) (ABody all ∷ values) learnt functions
+    (block other added_other rest f.sound (Make DecideElse ∷ Close ∷ stack) tree.Done parts in_scope functions)
+    (then _ _ _
+    (make DecideElse (Close ∷ stack) rest (ABody (bodies_of other in_scope) ∷ parts) (ABody all ∷ values) learnt
+    functions
     f.sound refl refl refl)
     (close stack rest (ABody all ∷ values) learnt functions f.sound)))))))
 
 repeat : (c : Expression) (body : Statements) → AreAdded body → IsAdded (While c body)
 repeat c body added rest f stack before values scope functions =
-    let known : Scope = behind_statements body (behind c scope) in
+    let in_scope : Scope = behind_statements body (behind c scope) in
     let parts : List PartialTree =
     ABody (bodies_of body (behind c scope)) ∷ AnExpr (tree_of c scope) ∷ ABody before ∷ values in
     let all : Body = join before (body_of (While c body) scope) in
@@ -180,8 +182,8 @@ repeat c body added rest f stack before values scope functions =
     (ABody before ∷ values) scope functions) _
     (record { steps = 3; leads = refl })
     (then _ _ _ (conditioned c body added rest f.sound end (ABody before ∷ values) scope functions)
-    (then _ _ _ (make Repeat (Close ∷ stack) rest parts (ABody all ∷ values) known functions f.sound refl refl refl)
-    (close stack rest (ABody all ∷ values) known functions f.sound))))
+    (then _ _ _ (make Repeat (Close ∷ stack) rest parts (ABody all ∷ values) in_scope functions f.sound refl refl refl)
+    (close stack rest (ABody all ∷ values) in_scope functions f.sound))))
 
 -- the semicolon after a return
 return_ends : (e : Expr) (rest : List Token) → is_lexical_error (first rest) ≡ false →

@@ -12,7 +12,7 @@ use Rattle.grammar.specs.declared.operators.StoreOp.TheVariants as store_op
 use Rattle.grammar.specs.KnownSources.{a, b, f, x, scan, number, return, ro, rc, co, cc, end, comma, equals}
 use Rattle.grammar.specs.Tree as tree
 use Rattle.grammar.specs.Tree.{Expr, Args, Body}
-use Rattle.grammar_laws.specs.Written.{Minus, Up, Expression, Constant, Variable, Binary, Signed, Assign, StepBehind}
+use Rattle.grammar_laws.specs.Written.{Minus, Up, Expression, Constant, Variable, Binary, Signed, Assign, PostIncrement}
 use Rattle.grammar_laws.specs.Written.{Call, NoMore, Argument, Statement, Evaluate, IfElse, While, Return, Done, Next}
 use Rattle.grammar_laws.specs.Spelling.{spell, spell_statement, in_main}
 use Rattle.grammar_laws.specs.Resolving.{tree_of, body_of}
@@ -42,7 +42,7 @@ difference_tree = tree.Assign store_op.Set (var.Local 0)
 abbrev pub calls : Expression
 calls =
     Binary op.Or
-    (Call (codes "f") (Argument (Variable (codes "x")) (Argument (StepBehind Up (codes "x")) NoMore)))
+    (Call (codes "f") (Argument (Variable (codes "x")) (Argument (PostIncrement Up (codes "x")) NoMore)))
     (Signed Minus (Call (codes "scan") NoMore))
 
 -- (f(x, (x++))) || (-(scan()))

@@ -23,14 +23,14 @@ is_among name [] = false
 is_among name (other ∷ names) = if bytes_eq name other then true else is_among name names
 
 -- the names but for this one
-abbrev pub without : List ℕ → List (List ℕ) → List (List ℕ)
-without name [] = []
-without name (other ∷ names) = if bytes_eq name other then without name names else other ∷ without name names
+abbrev pub all_but : List ℕ → List (List ℕ) → List (List ℕ)
+all_but name [] = []
+all_but name (other ∷ names) = if bytes_eq name other then all_but name names else other ∷ all_but name names
 
 -- each name once, at its first occurrence
 abbrev pub distinct : List (List ℕ) → List (List ℕ)
 distinct [] = []
-distinct (name ∷ names) = name ∷ without name (distinct names)
+distinct (name ∷ names) = name ∷ all_but name (distinct names)
 
 -- the number of a name is its index among the distinct names
 abbrev pub HasNumber : List (List ℕ) → List ℕ → ℕ → Type 0

@@ -7,8 +7,8 @@ use Rattle.grammar.specs.Grammar.{Called, Mentioned}
 use Rattle.grammar.specs.Scope.{Scope, scope_after_name, variable_of, callee_of}
 use Rattle.grammar.specs.Tree as tree
 use Rattle.grammar.specs.Tree.{Expr, Args, Body, join}
-use Rattle.grammar_laws.specs.Written.{Sign, Minus, Not, Tilde, Step, Up, Down, Expression, Constant, Variable, Binary}
-use Rattle.grammar_laws.specs.Written.{Signed, Assign, StepBefore, StepBehind, Call, Arguments, NoMore, Argument}
+use Rattle.grammar_laws.specs.Written.{Sign, Minus, Not, Tilde, Increment, Up, Down, Expression, Constant, Variable, Binary}
+use Rattle.grammar_laws.specs.Written.{Signed, Assign, PreIncrement, PostIncrement, Call, Arguments, NoMore, Argument}
 use Rattle.grammar_laws.specs.Written.{Statement, Nothing, Evaluate, If, IfElse, While, Return, ReturnValue, Block}
 use Rattle.grammar_laws.specs.Written.{Statements, Done, Next}
 
@@ -17,8 +17,8 @@ abbrev pub mentioned : List ℕ → Scope → Scope
 mentioned name scope = scope_after_name Mentioned name 0 scope
 
 -- the scope after the name of a call; lines are left aside, so it is mentioned on line 0
-abbrev pub called : List ℕ → Scope → Scope
-called name scope = scope_after_name Called name 0 scope
+abbrev pub behind_callee : List ℕ → Scope → Scope
+behind_callee name scope = scope_after_name Called name 0 scope
 
 -- the scope after an expression
 abbrev mutual
@@ -28,9 +28,9 @@ abbrev mutual
   behind (Binary o a b) scope = behind b (behind a scope)
   behind (Signed sign e) scope = behind e scope
   behind (Assign o name e) scope = behind e (mentioned name scope)
-  behind (StepBefore step name) scope = mentioned name scope
-  behind (StepBehind step name) scope = mentioned name scope
-  behind (Call name arguments) scope = behind_arguments arguments (called name scope)
+  behind (PreIncrement increment name) scope = mentioned name scope
+  behind (PostIncrement increment name) scope = mentioned name scope
+  behind (Call name arguments) scope = behind_arguments arguments (behind_callee name scope)
 
   pub behind_arguments : Arguments → Scope → Scope
   behind_arguments NoMore scope = scope
@@ -42,9 +42,9 @@ signed Minus e = tree.Binary op.Subtract (tree.Constant (pos 0)) e
 signed Not e = tree.Binary op.Equal e (tree.Constant (pos 0))
 signed Tilde e = tree.Binary op.BitXor e (tree.Constant (negsuc 0))
 
-abbrev pub step_op : Step → StoreOp
-step_op Up = store_op.Add
-step_op Down = store_op.Subtract
+abbrev pub increment_operator : Increment → StoreOp
+increment_operator Up = store_op.Add
+increment_operator Down = store_op.Subtract
 
 -- an expression's tree, in the scope before it
 abbrev mutual
@@ -54,9 +54,10 @@ abbrev mutual
   tree_of (Binary o a b) scope = tree.Binary o (tree_of a scope) (tree_of b (behind a scope))
   tree_of (Signed sign e) scope = signed sign (tree_of e scope)
   tree_of (Assign o name e) scope = tree.Assign o (variable_of name scope) (tree_of e (mentioned name scope))
-  tree_of (StepBefore step name) scope = tree.Assign (step_op step) (variable_of name scope) (tree.Constant (pos 1))
-  tree_of (StepBehind step name) scope = tree.Postfix (step_op step) (variable_of name scope)
-  tree_of (Call name arguments) scope = tree.Call (callee_of name scope) (trees_of arguments (called name scope))
+  tree_of (PreIncrement increment name) scope =
+      tree.Assign (increment_operator increment) (variable_of name scope) (tree.Constant (pos 1))
+  tree_of (PostIncrement increment name) scope = tree.Postfix (increment_operator increment) (variable_of name scope)
+  tree_of (Call name arguments) scope = tree.Call (callee_of name scope) (trees_of arguments (behind_callee name scope))
 
   pub trees_of : Arguments → Scope → Args
   trees_of NoMore scope = tree.NoMore

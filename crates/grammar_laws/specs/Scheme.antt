@@ -81,16 +81,16 @@ action_rows =
     ∷ []
 
 -- what the names in a production of this symbol are there for, if this token is after the next
-abbrev pub role_of : Symbol → Token → Role
-role_of Source after = Defined
-role_of Head (token.Punctuator punctuator.OpenRound) = Defined
-role_of Head after = External
-role_of (More role) after = role
-role_of Parameters after = Parameter
-role_of ParameterTypes after = Typed
-role_of Declarations after = Local
-role_of Primary (token.Punctuator punctuator.OpenRound) = Called
-role_of symbol after = Mentioned
+abbrev pub role_in_production : Symbol → Token → Role
+role_in_production Source after = Defined
+role_in_production Head (token.Punctuator punctuator.OpenRound) = Defined
+role_in_production Head after = External
+role_in_production (More role) after = role
+role_in_production Parameters after = Parameter
+role_in_production ParameterTypes after = Typed
+role_in_production Declarations after = Local
+role_in_production Primary (token.Punctuator punctuator.OpenRound) = Called
+role_in_production symbol after = Mentioned
 
 -- how the rows name keywords, symbols and tokens
 abbrev pub keyword : Keyword → List ℕ
@@ -160,11 +160,11 @@ found symbol next after (row ∷ rows) =
     else found symbol next after rows
 
 -- the semantic actions that the rows have for this production of the symbol
-abbrev pub listed : List ℕ → List ActionRow → List ℕ → List (ℕ × Item)
-listed symbol [] production = []
-listed symbol (row ∷ rows) production =
+abbrev pub found_actions : List ℕ → List ActionRow → List ℕ → List (ℕ × Item)
+found_actions symbol [] production = []
+found_actions symbol (row ∷ rows) production =
     if bytes_eq symbol (codes row.0) && bytes_eq production (codes row.1) then row.2
-    else listed symbol rows production
+    else found_actions symbol rows production
 
 -- the semantic actions in these items of a production, which come after its first n words
 abbrev pub actions_after : ℕ → List Item → List (ℕ × Item)
@@ -199,13 +199,13 @@ ChoosesRows = (symbol : Symbol) (next after : Token) → IsSymbol symbol
 abbrev pub ActsByRows : Type 0
 ActsByRows = (symbol : Symbol) (next after : Token) → IsSymbol symbol
     → option_map (actions_after 0) (choice symbol next after)
-    ≡ option_map (listed (of_symbol symbol) action_rows) (plain symbol next after)
+    ≡ option_map (found_actions (of_symbol symbol) action_rows) (plain symbol next after)
 
 abbrev pub roles_of : Production → List Role
 roles_of None = []
 roles_of (Some items) = roles_in items
 
--- the names in what `choice` answers are there for what `role_of` says
+-- the names in what `choice` answers are there for what `role_in_production` says
 abbrev pub HasOneRole : Type 0
 HasOneRole = (symbol : Symbol) (next after : Token) → let roles = roles_of (choice symbol next after) in
-    roles ≡ replicate (length roles) (role_of symbol after)
+    roles ≡ replicate (length roles) (role_in_production symbol after)

@@ -6,8 +6,8 @@ use Rattle.tokens.specs.declared.located_tokens.Token.{Token}
 use Rattle.tokens.specs.declared.located_tokens.Token.TheVariants as token
 use Rattle.tokens.specs.declared.located_tokens.Keyword.TheVariants as keyword
 use Rattle.grammar.specs.Operators.{binary_punctuator, store_punctuator}
-use Rattle.grammar_laws.specs.Written.{Sign, Minus, Not, Tilde, Step, Up, Down, Expression, Constant, Variable, Binary}
-use Rattle.grammar_laws.specs.Written.{Signed, Assign, StepBefore, StepBehind, Call, Arguments, NoMore, Argument}
+use Rattle.grammar_laws.specs.Written.{Sign, Minus, Not, Tilde, Increment, Up, Down, Expression, Constant, Variable, Binary}
+use Rattle.grammar_laws.specs.Written.{Signed, Assign, PreIncrement, PostIncrement, Call, Arguments, NoMore, Argument}
 use Rattle.grammar_laws.specs.Written.{Statement, Nothing, Evaluate, If, IfElse, While, Return, ReturnValue, Block}
 use Rattle.grammar_laws.specs.Written.{Statements, Done, Next}
 
@@ -16,9 +16,9 @@ sign_punctuator Minus = punctuator.Minus
 sign_punctuator Not = punctuator.Not
 sign_punctuator Tilde = punctuator.Tilde
 
-abbrev pub step_punctuator : Step → Punctuator
-step_punctuator Up = punctuator.PlusPlus
-step_punctuator Down = punctuator.MinusMinus
+abbrev pub spelled_increment : Increment → Punctuator
+spelled_increment Up = punctuator.PlusPlus
+spelled_increment Down = punctuator.MinusMinus
 
 -- ( .. )
 abbrev pub brackets : List Token → List Token
@@ -42,8 +42,8 @@ abbrev mutual
   spell (Binary o a b) = as_part a (spell a) ++ token.Punctuator (binary_punctuator o) ∷ as_part b (spell b)
   spell (Signed sign e) = token.Punctuator (sign_punctuator sign) ∷ as_part e (spell e)
   spell (Assign o name e) = token.Name name ∷ token.Punctuator (store_punctuator o) ∷ as_part e (spell e)
-  spell (StepBefore step name) = token.Punctuator (step_punctuator step) ∷ token.Name name ∷ []
-  spell (StepBehind step name) = token.Name name ∷ token.Punctuator (step_punctuator step) ∷ []
+  spell (PreIncrement increment name) = token.Punctuator (spelled_increment increment) ∷ token.Name name ∷ []
+  spell (PostIncrement increment name) = token.Name name ∷ token.Punctuator (spelled_increment increment) ∷ []
   spell (Call name NoMore) = token.Name name ∷ brackets []
   spell (Call name (Argument e rest)) = token.Name name ∷ brackets (as_part e (spell e) ++ spell_more rest)
 

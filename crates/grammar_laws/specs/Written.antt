@@ -10,9 +10,9 @@ pub data Sign : Type 0 where
   Tilde : Sign
 
 -- ++ adds 1, -- subtracts 1
-pub data Step : Type 0 where
-  Up : Step
-  Down : Step
+pub data Increment : Type 0 where
+  Up : Increment
+  Down : Increment
 
 mutual
   -- an expression; its brackets are added when it is spelled
@@ -22,8 +22,8 @@ mutual
     Binary : (op : Op) (left right : Expression) → Expression
     Signed : (sign : Sign) (operand : Expression) → Expression
     Assign : (op : StoreOp) (name : List ℕ) (right : Expression) → Expression
-    StepBefore : (step : Step) (name : List ℕ) → Expression  -- ++x, --x
-    StepBehind : (step : Step) (name : List ℕ) → Expression  -- x++, x--
+    PreIncrement : (increment : Increment) (name : List ℕ) → Expression  -- ++x, --x
+    PostIncrement : (increment : Increment) (name : List ℕ) → Expression  -- x++, x--
     Call : (name : List ℕ) (arguments : Arguments) → Expression
 
   -- the arguments of a call

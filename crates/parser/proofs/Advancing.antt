@@ -20,7 +20,7 @@ use Rattle.parser.specs.Stopping.{Stop, StopsInside, stop_with}
 use Rattle.grammar.specs.Profile.{Profile}
 use Rattle.parser.specs.Segment.{Derives, FailsAt, Refused, TakesTokens}
 use Rattle.parser.proofs.Segments.{refused_map, told_goes, Begins, functions_back, near_told, stops_back, stops_here, told_begins}
-use Rattle.parser.specs.Progress.{HasReported, ReadsOn, StopsPart, StopsTelling}
+use Rattle.parser.specs.Progress.{HasReported, ReadsOn, StopsPart, StopsReporting}
 use Rattle.tokens.specs.Cursors.{IsNearTo}
 
 pub definitions_actions-append : (ds es : List Definition) →
@@ -71,49 +71,50 @@ advances_then before mid after front between pending at now there a b = record {
       ap (λ (xs : List Action). acts ++ xs) (sym (definitions_actions-append a.more b.more)))
       (b.added profile _ (a.added profile acts h));
   passes = λ rest g profile functions h.
-      let told : mid profile (definitions_actions (functions ++ a.more)) =
+      let reported : mid profile (definitions_actions (functions ++ a.more)) =
       subst (λ (xs : List Action). mid profile xs) (sym (definitions_actions-append functions a.more))
       (a.added profile _ h) in
       rw (append_assoc a.consumed b.consumed rest, sym (append_assoc functions a.more b.more))
       (then profile _ _ _ (a.passes (b.consumed ++ rest) (b.follows rest g) profile functions h)
-      (b.passes rest g profile (functions ++ a.more) told));
+      (b.passes rest g profile (functions ++ a.more) reported));
 }
 
 -- Where a parse stops.
 
 -- where it stops goes back along a segment without faults
-pub telling_back : (after : Representation) (profile : Profile) (s t : State) (stop : Stop)
+pub reporting_back : (after : Representation) (profile : Profile) (s t : State) (stop : Stop)
     (consumed : List LocatedToken) →
     s.rest ≡ consumed ++ t.rest → DerivesWithoutFault profile s t →
-    StopsTelling after profile t stop → StopsTelling after profile s stop
-telling_back after profile s t stop consumed is p h = record {
+    StopsReporting after profile t stop → StopsReporting after profile s stop
+reporting_back after profile s t stop consumed is p h = record {
   stops = stops_back profile s t stop consumed is p h.stops;
-  told =
+  reported =
       λ device. subst (λ (fs : List Definition). HasReported after profile fs)
-      (sym (functions_back profile s t stop consumed is p h.stops)) (h.told device);
+      (sym (functions_back profile s t stop consumed is p h.stops)) (h.reported device);
 }
 
 -- before a further function is defined
-pub telling_inside : (after : Representation) (profile : Profile) (s : State) (stop : Stop) →
+pub reporting_inside : (after : Representation) (profile : Profile) (s : State) (stop : Stop) →
     (parse_fault.Device ≡ stop.fault → HasReported after profile s.functions) → StopsInside profile s stop →
-    StopsTelling after profile s stop
-telling_inside after profile s stop told h = record {
+    StopsReporting after profile s stop
+reporting_inside after profile s stop reported h = record {
   stops = h.stops;
-  told = λ device. subst (λ (fs : List Definition). HasReported after profile fs) (sym h.functions) (told device);
+  reported =
+      λ device. subst (λ (fs : List Definition). HasReported after profile fs) (sym h.functions) (reported device);
 }
 
-pub told_alone : (after : Representation) (profile : Profile) (functions : List Definition) →
+pub reported_alone : (after : Representation) (profile : Profile) (functions : List Definition) →
     after profile (definitions_actions functions) → HasReported after profile functions
-told_alone after profile functions h =
+reported_alone after profile functions h =
     record {
       more = [];
       stands = subst (λ (xs : List Action). after profile xs) (sym (append-nil (definitions_actions functions))) h;
     }
 
-pub told_grown : (before after : Representation) (profile : Profile) (functions : List Definition) →
+pub reported_grown : (before after : Representation) (profile : Profile) (functions : List Definition) →
     HasGrown before after →
     before profile (definitions_actions functions) → HasReported after profile functions
-told_grown before after profile functions grown h = record { more = grown.more; stands = grown.added profile _ h }
+reported_grown before after profile functions grown h = record { more = grown.more; stands = grown.added profile _ h }
 
 -- a fault after a part of a parse
 pub stops_then : (before mid after : Representation) (front between : List Item) (at now : UnreadPosition) (d : Stop) →
@@ -121,13 +122,13 @@ pub stops_then : (before mid after : Representation) (front between : List Item)
     StopsPart before after front at d
 stops_then before mid after front between at now d a stops located_tokens is profile functions h =
     let t : TakesTokens a.consumed located_tokens now = a.told located_tokens is in
-    let told : mid profile (definitions_actions (functions ++ a.more)) =
+    let reported : mid profile (definitions_actions (functions ++ a.more)) =
     subst (λ (xs : List Action). mid profile xs) (sym (definitions_actions-append functions a.more))
     (a.added profile _ h) in
     rw t.is
-    (telling_back after profile _ _ d a.consumed refl
+    (reporting_back after profile _ _ d a.consumed refl
     (a.passes t.rest (told_goes now t.rest t.shows) profile functions h)
-    (stops t.rest t.shows profile (functions ++ a.more) told))
+    (stops t.rest t.shows profile (functions ++ a.more) reported))
 
 -- a segment between functions
 pub segment_advances : (before : Representation) (front pending stack : List Item) (at there : UnreadPosition) →
@@ -153,7 +154,7 @@ pub segment_stops : (before : Representation) (front stack : List Item) (at : Un
     nested_count stack ≡ 0 →
     FailsAt 0 front [] at d → StopsPart before before (front ++ stack) at d
 segment_stops before front stack at d depths fails located_tokens is profile functions h =
-    telling_inside before profile _ d (λ device. told_alone before profile functions h)
+    reporting_inside before profile _ d (λ device. reported_alone before profile functions h)
     (fails located_tokens is profile stack [] functions depths)
 
 -- a refusal after a part of a parse
@@ -179,5 +180,5 @@ reading_fails_at_next before after front at d used near fails located_tokens is 
     record {
       stops = stops_here profile (state front located_tokens [] (scope_at at) functions)
           (stop_with (parse_fault.Source d) used) here (near_told at located_tokens used is near);
-      told = λ device. absurd (cc);
+      reported = λ device. absurd (cc);
     }

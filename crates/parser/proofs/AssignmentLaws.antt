@@ -31,7 +31,7 @@ use Rattle.parser.proofs.Segments.{exit, exit_item, joined}
 use Rattle.parser.specs.Expressions.{AddsExpr, Parses, ParsesLevels}
 use Rattle.parser.proofs.NameLaws.{behind_name_is}
 use Rattle.parser.proofs.Parts.{MakesOnly}
-use Rattle.parser.proofs.Productions.{Chooses, EntersLevel, chosen, chosen_within, item_done, makes_and_closes, punctuator_ends, punctuator_past, name_too_deep, same_self}
+use Rattle.parser.proofs.Productions.{Chooses, IsNested, chosen, chosen_within, item_done, makes_and_closes, punctuator_ends, punctuator_past, name_too_deep, same_self}
 use Rattle.parser.proofs.ReportingLaws.{next_follows}
 use Rattle.parser.proofs.OperandLaws.{IsNamed, after_name, is_named, named_sound, tree_follows}
 use Rattle.grammar.proofs.RepresentationLaws.{appends_both}
@@ -149,9 +149,9 @@ store_chooses at o a s = record {
       (store_choice a.named.name s.m o s.store);
 }
 
-store_enters_level : (at : UnreadPosition) (o : StoreOp) (a : IsAssignment at o) (s : SpellsStore o (after_at at)) →
-    EntersLevel at Expression
-store_enters_level at o a s after more =
+store_is_nested : (at : UnreadPosition) (o : StoreOp) (a : IsAssignment at o) (s : SpellsStore o (after_at at)) →
+    IsNested at Expression
+store_is_nested at o a s after more =
     let n : (next_at at).token ≡ token.Name a.named.name = a.named.is in
     rw (n, after_name at after a.named more, s.is) (store_enters a.named.name s.m o s.store)
 
@@ -165,7 +165,7 @@ store_too_deep at used near depth o a deep =
     let n : (next_at at).token ≡ token.Name a.named.name = a.named.is in
     name_too_deep at used near depth Expression Mentioned a.named.name
     (Exactly s.m ∷ Part Expression ∷ Make (Store o) ∷ Close ∷ []) (store_chooses at o a s)
-    (store_enters_level at o a s) (rw n refl) deep
+    (store_is_nested at o a s) (rw n refl) deep
 
 store_stands : (at : UnreadPosition) (depth : ℕ) (o : StoreOp) (a : IsAssignment at o) → depth < 64 →
     (s : SpellsStore o (after_at at)) →
@@ -273,6 +273,6 @@ assignment_adds before mid after at now next there depth o v a shallow item goes
 pub store_follows : (before now : Representation) (depth : ℕ) (o : StoreOp) (v : Var) (e : Expr) → depth < 64 →
     HasRoom before (room depth 1) → IsVariable 64 64 v → InExpr 64 64 64 e → nesting e ≤ room (depth + 1) 1 →
     AppendsAll before now (expr_actions e) → MayFollow now (StoreVariable v o)
-store_follows before now depth o v e shallow h variable numbered narrow told =
+store_follows before now depth o v e shallow h variable numbered narrow reported =
     next_follows before now (expr_actions e) (StoreVariable v o) []
-    (tree_follows before (room depth 1) (Assign o v e) h (variable, numbered) (omega arith)) told
+    (tree_follows before (room depth 1) (Assign o v e) h (variable, numbered) (omega arith)) reported

@@ -37,7 +37,7 @@ use Rattle.parser.specs.Declarations.{header_items}
 use Rattle.parser.proofs.Growing.{grown_behind}
 use Rattle.parser.proofs.Segments.{Begins, fails_then, goes_begins, halts, joined, refused_map, stay, told_begins, told_goes, near_told, stops_here}
 use Rattle.parser.specs.Progress.{AddsBlock, ReadsOn, ClosesFunction, IsTooMuch, RefusesEnd, StopsPart, at_brace, at_definition, at_source}
-use Rattle.parser.proofs.Advancing.{definitions_actions-append, telling_back, telling_inside, told_alone, told_grown}
+use Rattle.parser.proofs.Advancing.{definitions_actions-append, reporting_back, reporting_inside, reported_alone, reported_grown}
 use Rattle.tokens.specs.Cursors.{IsNearTo}
 
 -- up to the block
@@ -57,7 +57,7 @@ braced before after at now there h b =
 
 -- How long the code is.
 
--- the code of functions and one more is what was told up to its return
+-- the code of functions and one more is what was reported up to its return
 code_with : (p : Profile) (functions : List Definition) (scope : Scope) (body : Body) (parameters number : ℕ) →
     definitions_length p (functions ++ definition_of scope body ∷ []) ≡
     code_length p
@@ -66,7 +66,7 @@ code_with : (p : Profile) (functions : List Definition) (scope : Scope) (body : 
 code_with p functions scope body parameters number =
     let d : Definition = definition_of scope body in
     let finish : List Action = last_return ++ EndFunction (length scope.current.variables) ∷ [] in
-    let told : List Action = definitions_actions functions ++ BeginFunction number parameters ∷ [] in
+    let reported : List Action = definitions_actions functions ++ BeginFunction number parameters ∷ [] in
     sym (definitions_lengths p (functions ++ d ∷ []))
     ∙ ap (code_length p) (definitions_actions-append functions (d ∷ []))
     ∙ code_length-append p (definitions_actions functions) (function_actions d.number d.function ++ [])
@@ -75,8 +75,8 @@ code_with p functions scope body parameters number =
       arith,
       code_length-append p (function_actions d.number d.function) [],
       code_length-append p (body_actions body) finish,
-      code_length-append p (told ++ body_actions body) last_return,
-      code_length-append p told (body_actions body),
+      code_length-append p (reported ++ body_actions body) last_return,
+      code_length-append p reported (body_actions body),
       code_length-append p (definitions_actions functions) (BeginFunction number parameters ∷ []),
     )
 
@@ -90,13 +90,13 @@ past_limit profile n m e h = grind (arith, nat_tests)
 
 -- A function that was read.
 
--- what the builder was told of it
-pub told_function : (first second third fourth : Representation) (number parameters variables : ℕ) (body : Body) →
+-- what was reported of it
+pub reported_function : (first second third fourth : Representation) (number parameters variables : ℕ) (body : Body) →
     AppendsAll first second (BeginFunction number parameters ∷ []) → AppendsAll second third (body_actions body) →
     AppendsAll third fourth (last_return ++ EndFunction variables ∷ []) →
     AppendsAll first fourth
     (BeginFunction number parameters ∷ (body_actions body ++ (last_return ++ EndFunction variables ∷ [])))
-told_function first second third fourth number parameters variables body a b c profile acts h =
+reported_function first second third fourth number parameters variables body a b c profile acts h =
     subst (λ (xs : List Action). fourth profile xs)
     (append_assoc (acts ++ BeginFunction number parameters ∷ []) (body_actions body)
     (last_return ++ EndFunction variables ∷ []) ∙
@@ -110,11 +110,11 @@ pub record IsSame (n p v : ℕ) (scope : Scope) : Type 0 where
   pub parameters : scope.current.parameters ≡ p
   pub variables : length scope.current.variables ≡ v
 
-function_told : (number parameters variables : ℕ) (scope : Scope) (body : Body) →
+function_reported : (number parameters variables : ℕ) (scope : Scope) (body : Body) →
     IsSame number parameters variables scope →
     definitions_actions (definition_of scope body ∷ []) ≡
     BeginFunction number parameters ∷ (body_actions body ++ (last_return ++ EndFunction variables ∷ []))
-function_told number parameters variables scope body s = rw (append-nil, s.number, s.parameters, s.variables) refl
+function_reported number parameters variables scope body s = rw (append-nil, s.number, s.parameters, s.variables) refl
 
 short_enough : (profile : Profile) (second third fourth : Representation) (functions : List Definition) (scope : Scope)
     (body : Body) (number parameters variables : ℕ) → AppendsAll second third (body_actions body) →
@@ -125,14 +125,14 @@ short_enough profile second third fourth functions scope body number parameters 
     within_limit profile _ _ (code_with profile functions scope body parameters number)
     (c.fits profile _ (b profile _ h))
 
-define_step : (profile : Profile) (located_tokens : List LocatedToken) (known learnt : Scope)
+define_step : (profile : Profile) (located_tokens : List LocatedToken) (in_scope learnt : Scope)
     (functions : List Definition) (body : Body) (stack : List Item) (next : LocatedToken) (tail : List LocatedToken) →
-    located_tokens ≡ next ∷ tail → is_lexical_error next.token ≡ false → learnt ≡ end_definition known →
-    is_too_long profile (functions ++ definition_of known body ∷ []) ≡ false →
-    DerivesWithoutFault profile (state (Make Define ∷ stack) located_tokens (ABody body ∷ []) known functions)
-    (state stack located_tokens [] learnt (functions ++ definition_of known body ∷ []))
-define_step profile located_tokens known learnt functions body stack next tail e sound ended short =
-    rw (e, ended) (make profile Define stack (next ∷ tail) (ABody body ∷ []) known functions sound (rw short refl))
+    located_tokens ≡ next ∷ tail → is_lexical_error next.token ≡ false → learnt ≡ end_definition in_scope →
+    is_too_long profile (functions ++ definition_of in_scope body ∷ []) ≡ false →
+    DerivesWithoutFault profile (state (Make Define ∷ stack) located_tokens (ABody body ∷ []) in_scope functions)
+    (state stack located_tokens [] learnt (functions ++ definition_of in_scope body ∷ []))
+define_step profile located_tokens in_scope learnt functions body stack next tail e sound ended short =
+    rw (e, ended) (make profile Define stack (next ∷ tail) (ABody body ∷ []) in_scope functions sound (rw short refl))
 
 close_step : (profile : Profile) (located_tokens : List LocatedToken) (scope : Scope) (functions : List Definition)
     (stack : List Item) (next : LocatedToken) (tail : List LocatedToken) → located_tokens ≡ next ∷ tail →
@@ -188,7 +188,7 @@ pub function_advances : (first second third fourth : Representation) (at now bra
     DerivesItem (Exactly punctuator.CloseCurly) [] [] ended there → is_lexical_error (next_at brace).token ≡ false →
     is_lexical_error (next_at there).token ≡ false →
     ReadsOn first fourth at_definition at_source at there
-function_advances first second third fourth at now brace ended there number parameters variables h b same s told c e
+function_advances first second third fourth at now brace ended there number parameters variables h b same s reported c e
     sound_brace sound =
     let d : Derives 0 definition_items at_brace [] (ABody b.tree ∷ []) at brace =
     braced second third at now brace h b in
@@ -211,8 +211,9 @@ function_advances first second third fourth at now brace ended there number para
           (d.follows _ (goes_ended brace ended _ s ((e 1).follows rest g)));
       added =
           λ profile acts k. subst (λ (xs : List Action). fourth profile (acts ++ xs))
-          (sym (function_told number parameters variables (scope_at brace) b.tree same))
-          (told_function first second third fourth number parameters variables b.tree told b.added c.added profile
+          (sym (function_reported number parameters variables (scope_at brace) b.tree same))
+          (reported_function first second third fourth number parameters variables b.tree reported b.added c.added
+          profile
           acts k);
       passes = λ rest g profile functions k.
           let between : List LocatedToken = (e 1).consumed ++ rest in
@@ -221,7 +222,7 @@ function_advances first second third fourth at now brace ended there number para
           let y : Begins there.lookahead.cursor rest = goes_begins there rest g in
           let short : is_too_long profile (functions ++ f ∷ []) ≡ false =
           short_enough profile second third fourth functions (scope_at brace) b.tree number parameters variables
-          b.added c (told profile _ k) in
+          b.added c (reported profile _ k) in
           rw (append_assoc d.consumed (e 1).consumed rest)
           (then profile _ _ _ (d.passes between goes profile at_source [] functions refl)
           (then profile _ _ _
@@ -237,7 +238,7 @@ function_advances first second third fourth at now brace ended there number para
 heading_stops : (before : Representation) (at : UnreadPosition) (d : Stop) → FailsAt 0 header_items [] at d →
     StopsPart before before at_definition at d
 heading_stops before at d fails located_tokens is profile functions h =
-    telling_inside before profile _ d (λ device. told_alone before profile functions h)
+    reporting_inside before profile _ d (λ device. reported_alone before profile functions h)
     (fails located_tokens is profile (Part FunctionBlock ∷ at_source) [] functions refl)
 
 pub heading_refused : (used : ℕ) (before : Representation) (at : UnreadPosition) (f : ParseFault) (more : Type 0) →
@@ -250,7 +251,7 @@ block_stops : (before after : Representation) (at now : UnreadPosition) (d : Sto
     (parse_fault.Device ≡ d.fault → HasGrown before after) → FailsAt 0 (Part FunctionBlock ∷ []) [] now d →
     StopsPart before after at_definition at d
 block_stops before after at now d h grown fails located_tokens is profile functions k =
-    telling_inside after profile _ d (λ device. told_grown before after profile functions (grown device) k)
+    reporting_inside after profile _ d (λ device. reported_grown before after profile functions (grown device) k)
     (fails_then 0 definition_items (Part FunctionBlock ∷ []) [] [] at now d (headed at now h) fails located_tokens is
     profile at_source [] functions refl)
 
@@ -260,7 +261,7 @@ pub block_refused : (used : ℕ) (before second after : Representation) (at now 
     AppendsAll before second (BeginFunction number parameters ∷ []) → (parse_fault.Device ≡ f → HasGrown second after) →
     Refused (FailsAt 0 (Part FunctionBlock ∷ []) [] now) denied used f →
     Refused (StopsPart before after at_definition at) denied used f
-block_refused used before second after at now number parameters f denied h told = by_fault f
+block_refused used before second after at now number parameters f denied h reported = by_fault f
   where
     by_fault : (f : ParseFault) → (parse_fault.Device ≡ f → HasGrown second after) →
         Refused (FailsAt 0 (Part FunctionBlock ∷ []) [] now) denied used f →
@@ -269,7 +270,7 @@ block_refused used before second after at now number parameters f denied h told 
         block_stops before after at now (stop_with (parse_fault.Source d) used) h (λ device. absurd (cc)) fails
     by_fault parse_fault.Device grown fails =
         block_stops before after at now (stop_with parse_fault.Device used) h
-        (λ device. grown_behind before second after _ told (grown refl)) fails
+        (λ device. grown_behind before second after _ reported (grown refl)) fails
     by_fault parse_fault.Memory grown fails =
         (fails.0, block_stops before after at now (stop_with parse_fault.Memory used) h (λ device. absurd (cc)) fails.1)
 
@@ -280,7 +281,7 @@ pub definition_halts : (before after : Representation) (pending : List Item) (le
     Derives 0 definition_items pending [] left at now → IsNearTo now.lookahead.cursor used →
     StopsPart before after at_definition at (stop_with parse_fault.Memory used)
 definition_halts before after pending left at now used d near located_tokens is profile functions k =
-    telling_inside after profile _ (stop_with parse_fault.Memory used) (λ device. absurd (cc))
+    reporting_inside after profile _ (stop_with parse_fault.Memory used) (λ device. absurd (cc))
     (halts 0 definition_items pending [] left at now used d near located_tokens is profile at_source [] functions
     refl)
 
@@ -291,7 +292,7 @@ too_much_stops : (first second third after : Representation) (at now brace : Unr
     AppendsAll first second (BeginFunction number parameters ∷ []) → is_lexical_error (next_at brace).token ≡ false →
     is_punctuator punctuator.CloseCurly (next_at brace).token ≡ true → IsTooMuch third (next_at brace).line d →
     StopsPart first after at_definition at (stop_with (parse_fault.Source d) used)
-too_much_stops first second third after at now brace number parameters d used near h b told sound closed much
+too_much_stops first second third after at now brace number parameters d used near h b reported sound closed much
     located_tokens is profile functions k =
     let s : Derives 0 definition_items at_brace [] (ABody b.tree ∷ []) at brace =
     braced second third at now brace h b in
@@ -299,7 +300,7 @@ too_much_stops first second third after at now brace number parameters d used ne
     let x : Begins brace.lookahead.cursor t.rest = told_begins brace t.rest t.shows in
     let long : is_too_long profile (functions ++ definition_of (scope_at brace) b.tree ∷ []) ≡ true =
     past_limit profile _ _ (code_with profile functions (scope_at brace) b.tree parameters number)
-    (much.over profile _ (b.added profile _ (told profile _ k))) in
+    (much.over profile _ (b.added profile _ (reported profile _ k))) in
     let fails : Fails profile (state (at_brace ++ at_source) t.rest (ABody b.tree ∷ []) (scope_at brace) functions)
     (diagnostic (next_at brace).line fault_code.TooMuchCode) =
     rw x.is
@@ -310,9 +311,9 @@ too_much_stops first second third after at now brace number parameters d used ne
     stops_here profile (state (at_brace ++ at_source) t.rest (ABody b.tree ∷ []) (scope_at brace) functions)
     (stop_with (parse_fault.Source d) used) (rw much.is fails) (near_told brace t.rest used t.shows near) in
     rw t.is
-    (telling_back after profile _ _ _ s.consumed refl
+    (reporting_back after profile _ _ _ s.consumed refl
     (s.passes t.rest (told_goes brace t.rest t.shows) profile at_source [] functions refl)
-    (record { stops = stop; told = λ device. absurd (cc) }))
+    (record { stops = stop; reported = λ device. absurd (cc) }))
 
 pub too_much_refused : (used : ℕ) (first second third after : Representation) (at now brace : UnreadPosition)
     (number parameters : ℕ)
@@ -322,13 +323,14 @@ pub too_much_refused : (used : ℕ) (first second third after : Representation) 
     is_punctuator punctuator.CloseCurly (next_at brace).token ≡ true →
     RefusesEnd third (next_at brace).line denied f →
     Refused (StopsPart first after at_definition at) denied used f
-too_much_refused used first second third after at now brace number parameters f denied near h b told sound closed =
+too_much_refused used first second third after at now brace number parameters f denied near h b reported sound closed =
     by_fault f
   where
     by_fault : (f : ParseFault) → RefusesEnd third (next_at brace).line denied f →
         Refused (StopsPart first after at_definition at) denied used f
     by_fault (parse_fault.Source d) much =
-        too_much_stops first second third after at now brace number parameters d used near h b told sound closed much
+        too_much_stops first second third after at now brace number parameters d used near h b reported sound closed
+        much
     by_fault parse_fault.Device never = absurd never
     by_fault parse_fault.Memory asks = (
       asks,
@@ -336,8 +338,8 @@ too_much_refused used first second third after at now brace number parameters f 
           (braced second third at now brace h b) near,
     )
 
--- The closing brace itself is always there, but the token after it may be a lexical error. The builder was told the
--- function.
+-- The closing brace itself is always there, but the token after it may be a lexical error. The function was
+-- reported to the builder.
 brace_stops : (first second third fourth : Representation) (at now brace ended : UnreadPosition)
     (number parameters variables : ℕ)
     (d : Stop) →
@@ -346,7 +348,7 @@ brace_stops : (first second third fourth : Representation) (at now brace ended :
     AppendsAll first second (BeginFunction number parameters ∷ []) → ClosesFunction third fourth variables →
     is_lexical_error (next_at brace).token ≡ false →
     FailsItem (Exactly punctuator.CloseCurly) ended d → StopsPart first fourth at_definition at d
-brace_stops first second third fourth at now brace ended number parameters variables d h b same s told c sound fails
+brace_stops first second third fourth at now brace ended number parameters variables d h b same s reported c sound fails
     located_tokens is profile functions k =
     let x : Derives 0 definition_items at_brace [] (ABody b.tree ∷ []) at brace =
     braced second third at now brace h b in
@@ -355,20 +357,21 @@ brace_stops first second third fourth at now brace ended number parameters varia
     let f : Definition = definition_of (scope_at brace) b.tree in
     let short : is_too_long profile (functions ++ f ∷ []) ≡ false =
     short_enough profile second third fourth functions (scope_at brace) b.tree number parameters variables b.added c
-    (told profile _ k) in
+    (reported profile _ k) in
     let all : fourth profile (definitions_actions (functions ++ f ∷ [])) =
     subst (λ (xs : List Action). fourth profile xs)
     (ap (λ (xs : List Action). definitions_actions functions ++ xs)
-    (sym (function_told number parameters variables (scope_at brace) b.tree same)) ∙
+    (sym (function_reported number parameters variables (scope_at brace) b.tree same)) ∙
     sym (definitions_actions-append functions (f ∷ [])))
-    (told_function first second third fourth number parameters variables b.tree told b.added c.added profile _ k) in
+    (reported_function first second third fourth number parameters variables b.tree reported b.added c.added profile _
+    k) in
     rw t.is
-    (telling_back fourth profile _ _ _ x.consumed refl
+    (reporting_back fourth profile _ _ _ x.consumed refl
     (x.passes t.rest (told_goes brace t.rest t.shows) profile at_source [] functions refl)
-    (telling_back fourth profile _ _ _ [] refl
+    (reporting_back fourth profile _ _ _ [] refl
     (define_step profile t.rest (scope_at brace) (scope_at ended) functions b.tree
     (Exactly punctuator.CloseCurly ∷ Close ∷ at_source) (next_at brace) y.tail y.is sound s.scope short)
-    (telling_inside fourth profile _ d (λ device. told_alone fourth profile (functions ++ f ∷ []) all)
+    (reporting_inside fourth profile _ d (λ device. reported_alone fourth profile (functions ++ f ∷ []) all)
     (fails 1 t.rest (tokens_ended brace ended s ∙ t.shows) profile (Close ∷ at_source) [] (functions ++ f ∷ []) refl))))
 
 pub brace_refused : (used : ℕ) (first second third fourth : Representation) (at now brace ended : UnreadPosition)
@@ -379,10 +382,10 @@ pub brace_refused : (used : ℕ) (first second third fourth : Representation) (a
     is_lexical_error (next_at brace).token ≡ false →
     Refused (FailsItem (Exactly punctuator.CloseCurly) ended) ⊥ used f →
     Refused (StopsPart first fourth at_definition at) more used f
-brace_refused used first second third fourth at now brace ended number parameters variables f more h b same s told c
+brace_refused used first second third fourth at now brace ended number parameters variables f more h b same s reported c
     sound =
     refused_map used _ _ ⊥ more f
-    (λ d. brace_stops first second third fourth at now brace ended number parameters variables d h b same s told c
+    (λ d. brace_stops first second third fourth at now brace ended number parameters variables d h b same s reported c
     sound) (λ never. absurd never)
 
 -- A closing brace is no lexical error.

@@ -34,7 +34,7 @@ use Rattle.grammar.proofs.RepresentationLaws.{appends_both, appends_none}
 use Rattle.grammar.proofs.Joins.{join_done, join_assoc}
 use Rattle.tokens.specs.Cursors.{IsNearTo}
 
--- a level is open below these items
+-- a nested production is open below these items
 deeper : (depth : ℕ) (stack : List Item) → nested_count stack ≡ depth → nested_count stack + 1 ≡ depth + 1
 deeper depth stack same = ap (λ n. n + 1) same
 
@@ -215,7 +215,7 @@ while_too_deep at used near depth sound is deep b =
     word_too_deep at used near depth Statement keyword.While (in_brackets ++ behind_while) (ABody b ∷ []) sound
     (while_chosen _ is) is (while_enters _ is) deep
 
--- the items after the first statement keep one level open
+-- the items after the first statement keep one nested production open
 abbrev pub ClosesOne : List Item → Type 0
 ClosesOne items = (stack : List Item) → nested_count (items ++ stack) ≡ nested_count stack + 1
 
@@ -385,11 +385,11 @@ pub else_adds : (at now there : UnreadPosition) (before mid after : Representati
     is_keyword keyword.Else (next_at at).token ≡ true → GoesPast at now → is_lexical_error (next_at now).token ≡ false →
     Appends before mid BetweenBranches → AddsBody mid after depth (Part Statement ∷ []) [] now there →
     is_lexical_error (next_at there).token ≡ false → AddsElse before after depth at there
-else_adds at now there before mid after depth sound is goes sound_behind told t sound_there = record {
+else_adds at now there before mid after depth sound is goes sound_behind reported t sound_there = record {
   tree = Some t.tree;
   numbered = t.numbered;
   narrow = t.narrow;
-  added = appends_both before mid after (BetweenBranches ∷ []) (body_actions t.tree) told t.added;
+  added = appends_both before mid after (BetweenBranches ∷ []) (body_actions t.tree) reported t.added;
   derives =
       λ s c b. joined depth depth (Part ElsePart ∷ []) (Make DecideElse ∷ []) [] [] (before_else s c b)
       (ABody t.tree ∷ before_else s c b) (ABody (join b (IfElseStatement c s t.tree Done)) ∷ []) [] at there there
@@ -413,13 +413,14 @@ pub repetition_adds : (at now later there : UnreadPosition) (before m1 m2 m3 m4 
     is_lexical_error (next_at later).token ≡ false → Appends m2 m3 WhileTest →
     AddsBody m3 m4 (depth + 1) (Part Statement ∷ []) [] later there → is_lexical_error (next_at there).token ≡ false →
     Appends m4 after EndWhile → AddsBody before after depth (Part Statement ∷ []) [] at there
-repetition_adds at now later there before m1 m2 m3 m4 after depth shallow begun told c sound tested s sound_behind ended
+repetition_adds at now later there before m1 m2 m3 m4 after depth shallow begun reported c sound tested s sound_behind
+    ended
     =
     record {
       tree = While c.tree s.tree Done;
       numbered = (c.numbered, s.numbered, tt);
       narrow = omega (arith, shallow, c.narrow, s.narrow);
-      added = appends_both before m1 after (BeginWhile ∷ []) _ told
+      added = appends_both before m1 after (BeginWhile ∷ []) _ reported
           (appends_both m1 m2 after (expr_actions c.tree) _ c.added
           (appends_both m2 m3 after (WhileTest ∷ []) _ tested
           (appends_both m3 m4 after (body_actions s.tree) (EndWhile ∷ []) s.added ended)));

@@ -57,9 +57,9 @@ fewer_ahead (suc n) count (x ∷ xs) h =
     rw (p.0, fewer_ahead n count xs p.1) refl
 
 -- a token ends by this offset if the one after it does
-ends_sooner : (place count : ℕ) (x y : LocatedToken) (ys : List LocatedToken) → IsCut place (x ∷ y ∷ ys) →
+ends_sooner : (offset count : ℕ) (x y : LocatedToken) (ys : List LocatedToken) → IsCut offset (x ∷ y ∷ ys) →
     ends_by count y ≡ true → ends_by count x ≡ true
-ends_sooner place count x y ys cut h = by (is_last x.token) refl
+ends_sooner offset count x y ys cut h = by (is_last x.token) refl
   where
     by : (last : Bool) → is_last x.token ≡ last → ends_by count x ≡ true
     by true e = let none : y ∷ ys ≡ [] = cut.1.1.0 e in absurd (cc)
@@ -68,40 +68,41 @@ ends_sooner place count x y ys cut h = by (is_last x.token) refl
         both_true (not (is_end y.token)) (nat_le y.end count) h in
         rw (not_end x.token e, sooner_by x.end y.end count cut.1.1.1.0 p.1) refl
 
-more_ahead : (n count place : ℕ) (x : LocatedToken) (xs : List LocatedToken) → IsCut place (x ∷ xs) →
+more_ahead : (n count offset : ℕ) (x : LocatedToken) (xs : List LocatedToken) → IsCut offset (x ∷ xs) →
     has_ahead (suc n) count xs ≡ true → has_ahead (suc n) count (x ∷ xs) ≡ true
-more_ahead n count place x [] cut h = absurd (cc)
-more_ahead n count place x (y ∷ ys) cut h =
+more_ahead n count offset x [] cut h = absurd (cc)
+more_ahead n count offset x (y ∷ ys) cut h =
     let p : (ends_by count y ≡ true) × (has_ahead n count ys ≡ true) =
     both_true (ends_by count y) (has_ahead n count ys) h in
-    rw (ends_sooner place count x y ys cut p.0, fewer_ahead n count (y ∷ ys) h) refl
+    rw (ends_sooner offset count x y ys cut p.0, fewer_ahead n count (y ∷ ys) h) refl
 
-sooner_brace : (count place : ℕ) (x : LocatedToken) (xs : List LocatedToken) → IsCut place (x ∷ xs) →
+sooner_brace : (count offset : ℕ) (x : LocatedToken) (xs : List LocatedToken) → IsCut offset (x ∷ xs) →
     is_behind_brace count xs ≡ true → is_behind_brace count (x ∷ xs) ≡ true
-sooner_brace count place x [] cut h = absurd (cc)
-sooner_brace count place x (y ∷ ys) cut h = more_ahead 2 count x.end y ys cut.1.1.1 h
+sooner_brace count offset x [] cut h = absurd (cc)
+sooner_brace count offset x (y ∷ ys) cut h = more_ahead 2 count x.end y ys cut.1.1.1 h
 
 -- if too little follows a brace, too little follows each later one
-later_brace : (count place : ℕ) (x : LocatedToken) (xs : List LocatedToken) → IsCut place (x ∷ xs) →
+later_brace : (count offset : ℕ) (x : LocatedToken) (xs : List LocatedToken) → IsCut offset (x ∷ xs) →
     is_behind_brace count (x ∷ xs) ≡ false → is_behind_brace count xs ≡ false
-later_brace count place x xs cut h = by (is_behind_brace count xs) refl
+later_brace count offset x xs cut h = by (is_behind_brace count xs) refl
   where
     by : (b : Bool) → is_behind_brace count xs ≡ b → b ≡ false
-    by true e = let other : is_behind_brace count (x ∷ xs) ≡ true = sooner_brace count place x xs cut e in sym other ∙ h
+    by true e =
+        let other : is_behind_brace count (x ∷ xs) ≡ true = sooner_brace count offset x xs cut e in sym other ∙ h
     by false e = refl
 
-later_braces : (count place : ℕ) (before rest : List LocatedToken) → IsCut place (before ++ rest) →
+later_braces : (count offset : ℕ) (before rest : List LocatedToken) → IsCut offset (before ++ rest) →
     is_behind_brace count (before ++ rest) ≡ false → is_behind_brace count rest ≡ false
-later_braces count place [] rest cut h = h
-later_braces count place (x ∷ before) rest cut h =
-    later_braces count x.end before rest cut.1.1.1 (later_brace count place x (before ++ rest) cut h)
+later_braces count offset [] rest cut h = h
+later_braces count offset (x ∷ before) rest cut h =
+    later_braces count x.end before rest cut.1.1.1 (later_brace count offset x (before ++ rest) cut h)
 
 -- no brace from the stop on has three tokens after it that were read
-at_stop : (count place : ℕ) (rest : List LocatedToken) → IsCut place rest → count ≤ reach_of rest →
+at_stop : (count offset : ℕ) (rest : List LocatedToken) → IsCut offset rest → count ≤ reach_of rest →
     is_behind_brace count rest ≡ false
-at_stop count place [] cut h = refl
-at_stop count place (x ∷ []) cut h = refl
-at_stop count place (x ∷ y ∷ ys) cut h = none (ends_by count y) (has_ahead 2 count ys) (beyond_two ys cut.1.1.1.1.1.1)
+at_stop count offset [] cut h = refl
+at_stop count offset (x ∷ []) cut h = refl
+at_stop count offset (x ∷ y ∷ ys) cut h = none (ends_by count y) (has_ahead 2 count ys) (beyond_two ys cut.1.1.1.1.1.1)
   where
     none : (a b : Bool) → b ≡ false → (a && b) ≡ false
     none true b e = e
@@ -138,24 +139,24 @@ pub record IsStepped (count : ℕ) (s : State) : Type 0 where
   pub cut : IsCut position (stepped s).rest
   pub later : is_behind_brace count s.rest ≡ false → is_behind_brace count (stepped s).rest ≡ false
 
-steps_on : (count place : ℕ) (s : State) → IsCut place s.rest → IsStepped count s
-steps_on count place s cut =
+steps_on : (count offset : ℕ) (s : State) → IsCut offset s.rest → IsStepped count s
+steps_on count offset s cut =
     let r : IsRest (derived 1 s).rest s.rest = run_rests 1 s in
-    let c : IsCut place (r.before ++ (stepped s).rest) = subst (IsCut place) r.is cut in
-    let b : IsCutBehind (stepped s).rest = cut_behind place r.before (stepped s).rest c in
+    let c : IsCut offset (r.before ++ (stepped s).rest) = subst (IsCut offset) r.is cut in
+    let b : IsCutBehind (stepped s).rest = cut_behind offset r.before (stepped s).rest c in
     record {
       position = b.position;
       cut = b.is;
       later =
-          λ h. later_braces count place r.before (stepped s).rest c
+          λ h. later_braces count offset r.before (stepped s).rest c
           (subst (λ (xs : List LocatedToken). is_behind_brace count xs ≡ false) r.is h);
     }
 
-none_in : (count n place : ℕ) (s : State) → IsCut place s.rest → is_behind_brace count s.rest ≡ false →
+none_in : (count n offset : ℕ) (s : State) → IsCut offset s.rest → is_behind_brace count s.rest ≡ false →
     built_in count n s ≡ []
-none_in count zero place s cut h = refl
-none_in count (suc n) place s cut h =
-    let t : IsStepped count s = steps_on count place s cut in
+none_in count zero offset s cut h = refl
+none_in count (suc n) offset s cut h =
+    let t : IsStepped count s = steps_on count offset s cut in
     rw (none_of count s h s.stack, none_in count n t.position (stepped s) t.cut (t.later h)) refl
 
 -- What a step of the derivation defines.
@@ -208,60 +209,60 @@ plain count s none keeps =
     record { more = []; functions = kept (is_lexical_error (next_token s.rest)) _ s keeps; built = inl none }
 
 -- a lexical error has nothing after it
-behind_fault : (count place : ℕ) (rest : List LocatedToken) → IsCut place rest →
+behind_fault : (count offset : ℕ) (rest : List LocatedToken) → IsCut offset rest →
     is_lexical_error (next_token rest) ≡ true →
     is_behind_brace count rest ≡ false
-behind_fault count place [] cut e = refl
-behind_fault count place (x ∷ rest) cut e =
+behind_fault count offset [] cut e = refl
+behind_fault count offset (x ∷ rest) cut e =
     let alone : rest ≡ [] = cut.1.1.0 (fault_is_last x.token e) in
     rw alone refl
 
 -- one does
-defined_there : (count place : ℕ) (stack : List Item) (rest : List LocatedToken) (values : List PartialTree)
+defined_there : (count offset : ℕ) (stack : List Item) (rest : List LocatedToken) (values : List PartialTree)
     (scope : Scope)
-    (functions : List Definition) → IsCut place rest →
+    (functions : List Definition) → IsCut offset rest →
     (fault behind : Bool) → is_lexical_error (next_token rest) ≡ fault → is_behind_brace count rest ≡ behind →
     Defines count (state (Make Define ∷ stack) rest values scope functions)
-defined_there count place stack rest values scope functions cut true behind e f =
-    let none : is_behind_brace count rest ≡ false = behind_fault count place rest cut e in
+defined_there count offset stack rest values scope functions cut true behind e f =
+    let none : is_behind_brace count rest ≡ false = behind_fault count offset rest cut e in
     record { more = []; functions = rw e (sym (append-nil functions)); built = inl (rw none refl) }
-defined_there count place stack rest values scope functions cut false true e f =
+defined_there count offset stack rest values scope functions cut false true e f =
     let d : Definition = definition_of scope (last_body values) in
     record {
       more = d ∷ [];
       functions = rw e refl;
       built = inl (rw f (sym (append-nil (function_actions d.number d.function))));
     }
-defined_there count place stack rest values scope functions cut false false e f =
+defined_there count offset stack rest values scope functions cut false false e f =
     record { more = definition_of scope (last_body values) ∷ []; functions = rw e refl; built = inr (rw f refl, f) }
 
-defines : (count place : ℕ) (stack : List Item) (rest : List LocatedToken) (values : List PartialTree) (scope : Scope)
-    (functions : List Definition) → IsCut place rest → Defines count (state stack rest values scope functions)
-defines count place [] rest values scope functions cut = plain count (state [] rest values scope functions) refl tt
-defines count place (Make Define ∷ stack) rest values scope functions cut =
-    defined_there count place stack rest values scope functions cut (is_lexical_error (next_token rest))
+defines : (count offset : ℕ) (stack : List Item) (rest : List LocatedToken) (values : List PartialTree) (scope : Scope)
+    (functions : List Definition) → IsCut offset rest → Defines count (state stack rest values scope functions)
+defines count offset [] rest values scope functions cut = plain count (state [] rest values scope functions) refl tt
+defines count offset (Make Define ∷ stack) rest values scope functions cut =
+    defined_there count offset stack rest values scope functions cut (is_lexical_error (next_token rest))
     (is_behind_brace count rest) refl refl
-defines count place (Make rule ∷ stack) rest values scope functions cut =
+defines count offset (Make rule ∷ stack) rest values scope functions cut =
     plain count (state (Make rule ∷ stack) rest values scope functions) refl refl
-defines count place (Exactly m ∷ stack) rest values scope functions cut =
+defines count offset (Exactly m ∷ stack) rest values scope functions cut =
     plain count (state (Exactly m ∷ stack) rest values scope functions) refl
     (matched_keeps _ stack rest values scope functions)
-defines count place (AKeyword w ∷ stack) rest values scope functions cut =
+defines count offset (AKeyword w ∷ stack) rest values scope functions cut =
     plain count (state (AKeyword w ∷ stack) rest values scope functions) refl
     (matched_keeps _ stack rest values scope functions)
-defines count place (AName role ∷ stack) rest values scope functions cut =
+defines count offset (AName role ∷ stack) rest values scope functions cut =
     plain count (state (AName role ∷ stack) rest values scope functions) refl
     (name_keeps role (name_of_token (next_token rest)) stack rest values scope functions)
-defines count place (AConstant ∷ stack) rest values scope functions cut =
+defines count offset (AConstant ∷ stack) rest values scope functions cut =
     plain count (state (AConstant ∷ stack) rest values scope functions) refl
     (constant_keeps (constant_value (next_token rest)) stack rest values scope functions)
-defines count place (AnEnd ∷ stack) rest values scope functions cut =
+defines count offset (AnEnd ∷ stack) rest values scope functions cut =
     plain count (state (AnEnd ∷ stack) rest values scope functions) refl
     (matched_keeps _ stack rest values scope functions)
-defines count place (Part symbol ∷ stack) rest values scope functions cut =
+defines count offset (Part symbol ∷ stack) rest values scope functions cut =
     plain count (state (Part symbol ∷ stack) rest values scope functions) refl
     (replaced_keeps _ stack rest values scope functions)
-defines count place (Close ∷ stack) rest values scope functions cut =
+defines count offset (Close ∷ stack) rest values scope functions cut =
     plain count (state (Close ∷ stack) rest values scope functions) refl (sym (append-nil functions))
 
 -- What a run defines begins with what is built.
@@ -273,17 +274,17 @@ pub record IsFront (count n : ℕ) (s : State) : Type 0 where
 four : (a b c d : List Action) → (a ++ b) ++ (c ++ d) ≡ a ++ ((b ++ c) ++ d)
 four a b c d = append_assoc a b (c ++ d) ∙ ap (λ (xs : List Action). a ++ xs) (sym (append_assoc b c d))
 
-front_step : (count n place : ℕ) (s : State) → IsCut place s.rest → IsFront count n (stepped s) →
+front_step : (count n offset : ℕ) (s : State) → IsCut offset s.rest → IsFront count n (stepped s) →
     IsFront count (suc n) s
-front_step count n place s cut further =
-    let d : Defines count s = defines count place s.stack s.rest s.values s.scope s.functions cut in
-    let told : definitions_actions (derived n (stepped s)).functions ≡
+front_step count n offset s cut further =
+    let d : Defines count s = defines count offset s.stack s.rest s.values s.scope s.functions cut in
+    let reported : definitions_actions (derived n (stepped s)).functions ≡
     (definitions_actions s.functions ++ definitions_actions d.more) ++
     (built_in count n (stepped s) ++ further.more) =
     further.is ∙
     ap (λ (xs : List Action). xs ++ (built_in count n (stepped s) ++ further.more))
     (ap definitions_actions d.functions ∙ definitions_actions-append s.functions d.more) in
-    by d.more told d.built
+    by d.more reported d.built
   where
     by : (more : List Definition) →
         definitions_actions (derived n (stepped s)).functions ≡
@@ -292,10 +293,10 @@ front_step count n place s cut further =
         (built_of count s.stack s ≡ definitions_actions more) ⊎
         ((built_of count s.stack s ≡ []) × (is_behind_brace count s.rest ≡ false)) →
         IsFront count (suc n) s
-    by more told (inl same) = record {
+    by more reported (inl same) = record {
       more = further.more;
       is =
-          told ∙
+          reported ∙
           four (definitions_actions s.functions) (definitions_actions more) (built_in count n (stepped s))
           further.more
           ∙
@@ -303,15 +304,15 @@ front_step count n place s cut further =
           (λ (xs : List Action). definitions_actions s.functions ++
           ((xs ++ built_in count n (stepped s)) ++ further.more)) (sym same);
     }
-    by more told (inr none) =
-        let t : IsStepped count s = steps_on count place s cut in
+    by more reported (inr none) =
+        let t : IsStepped count s = steps_on count offset s cut in
         let later : built_in count n (stepped s) ≡ [] = none_in count n t.position (stepped s) t.cut (t.later none.1) in
         let nothing : built_of count s.stack s ++ built_in count n (stepped s) ≡ [] =
         rw (none.0, later) refl in
         record {
           more = definitions_actions more ++ further.more;
           is =
-              told ∙
+              reported ∙
               ap
               (λ (xs : List Action). (definitions_actions s.functions ++ definitions_actions more) ++
               (xs ++ further.more)) later
@@ -322,11 +323,11 @@ front_step count n place s cut further =
               (xs ++ (definitions_actions more ++ further.more))) (sym nothing);
         }
 
-front_built : (count n place : ℕ) (s : State) → IsCut place s.rest → IsFront count n s
-front_built count zero place s cut = record { more = []; is = sym (append-nil (definitions_actions s.functions)) }
-front_built count (suc n) place s cut =
-    let t : IsStepped count s = steps_on count place s cut in
-    front_step count n place s cut (front_built count n t.position (stepped s) t.cut)
+front_built : (count n offset : ℕ) (s : State) → IsCut offset s.rest → IsFront count n s
+front_built count zero offset s cut = record { more = []; is = sym (append-nil (definitions_actions s.functions)) }
+front_built count (suc n) offset s cut =
+    let t : IsStepped count s = steps_on count offset s cut in
+    front_step count n offset s cut (front_built count n t.position (stepped s) t.cut)
 
 -- Up to a stop.
 

@@ -28,7 +28,7 @@ use Rattle.parser.specs.Segment.{Derives, DerivesItem, FailsAt, FailsItem, Refus
 use Rattle.parser.proofs.Segments.{exit_item, fails_behind, joined, refused_map, halts}
 use Rattle.parser.specs.Expressions.{AddsArgs, AddsExpr, FailsArgs}
 use Rattle.parser.proofs.Parts.{MakesOnly, make_stands, punctuator_is}
-use Rattle.parser.proofs.Productions.{Chooses, EntersLevel, chosen, chosen_within, item_done, makes_and_closes, punctuator_sound, name_too_deep}
+use Rattle.parser.proofs.Productions.{Chooses, IsNested, chosen, chosen_within, item_done, makes_and_closes, punctuator_sound, name_too_deep}
 use Rattle.parser.proofs.ReportingLaws.{all_follow, next_follows, room_behind, room_behind_args}
 use Rattle.parser.proofs.OperandLaws.{IsNamed, after_name, named_sound, tree_follows}
 use Rattle.tokens.specs.Cursors.{IsNearTo}
@@ -267,7 +267,7 @@ call_chooses at n fits = record {
 
 call_enters : (at : UnreadPosition) → IsNamed (next_at at).token →
     is_punctuator punctuator.OpenRound (after_at at) ≡ true →
-    EntersLevel at Primary
+    IsNested at Primary
 call_enters at n fits after more =
     let t : after_at at ≡ token.Punctuator punctuator.OpenRound =
     punctuator_is punctuator.OpenRound (after_at at) fits in
@@ -434,10 +434,10 @@ begin_follows before depth shallow h =
 
 pub arguments_room : (before begun : Representation) (depth : ℕ) → depth < 64 → HasRoom before (room depth 11) →
     AppendsAll before begun (BeginCall ∷ []) → HasRoom begun (room (depth + 1) 1)
-arguments_room before begun depth shallow h told =
+arguments_room before begun depth shallow h reported =
     let few : open_count (h.outer ∷ h.opened) + room depth 11 ≤ 200 = h.few in
     room_behind before begun (room (depth + 1) 1) (BeginCall ∷ []) (h.outer ∷ h.opened) InCall (h.outer ∷ h.opened)
-    h.stands told
+    h.stands reported
     (act BeginCall (h.outer ∷ h.opened) (InCall ∷ h.outer ∷ h.opened) refl (omega arith)) (omega arith)
 
 pub end_follows : (before begun now : Representation) (depth : ℕ) (callee : Callee) (args : Args) → depth < 64 →

@@ -24,7 +24,7 @@ use Rattle.parser.specs.Progress.{ReadsOn, StopsPart, at_definition, at_source}
 use Rattle.parser.proofs.Advancing.{advances_then, leave, stops_then, segment_advances, segment_stops, reading_fails_at_next}
 use Rattle.tokens.specs.Cursors.{IsNearTo}
 
--- a symbol that enters no level was replaced
+-- a symbol whose production isn't nested was replaced
 symbol_leads : (symbol : Symbol) (items : List Item) (located_token : LocatedToken) (tail : List LocatedToken)
     (at : UnreadPosition) → is_lexical_error located_token.token ≡ false →
     choice symbol located_token.token (next_token tail) ≡ Some items →

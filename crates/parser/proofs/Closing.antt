@@ -1,4 +1,4 @@
--- What a builder may be told of a function: its beginning, the return at its end, and its end.
+-- What may be reported of a function to a builder: its beginning, the return at its end, and its end.
 use Rattle.std.proofs.Common.{◌≡◌, ℕ, pos, ◌+◌, ◌<◌, ◌≤◌, List, [], ◌∷◌, ◌++◌, refl, ◌∙◌, subst, true, false, arith, append_assoc}
 use Rattle.grammar.specs.declared.actions.Action.{Action}
 use Rattle.grammar.specs.declared.actions.Action.TheVariants.{BeginFunction, EndFunction, GiveBack, PushConstant}
@@ -19,35 +19,36 @@ use Rattle.parser.specs.Progress.{ClosesFunction, MayEnd}
 pub may_begin : (before : Representation) (number parameters : ℕ) → LeavesOpen before [] → number < 64 →
     parameters ≤ 64 →
     MayFollow before (BeginFunction number parameters)
-may_begin before number parameters s known few =
+may_begin before number parameters s below few =
     may_follow before [] (InFunction parameters false ∷ []) (BeginFunction number parameters) s
-    (function_begins number parameters known few) (omega arith)
+    (function_begins number parameters below few) (omega arith)
 
 pub begun : (before behind : Representation) (number parameters : ℕ) → LeavesOpen before [] → number < 64 →
     parameters ≤ 64 →
     Appends before behind (BeginFunction number parameters) → LeavesOpen behind (InFunction parameters false ∷ [])
-begun before behind number parameters s known few told =
-    stands_then before behind (BeginFunction number parameters ∷ []) [] (InFunction parameters false ∷ []) told s
+begun before behind number parameters s below few reported =
+    stands_then before behind (BeginFunction number parameters ∷ []) [] (InFunction parameters false ∷ []) reported s
     (follow_one (BeginFunction number parameters) [] (InFunction parameters false ∷ [])
-    (function_begins number parameters known few) (omega arith))
+    (function_begins number parameters below few) (omega arith))
 
-pub has_place : (before : Representation) (parameters : ℕ) → LeavesOpen before (InFunction parameters false ∷ []) →
+pub has_room_for_statements : (before : Representation) (parameters : ℕ) →
+    LeavesOpen before (InFunction parameters false ∷ []) →
     HasStatementRoom before (room 1 1)
-has_place before parameters s =
+has_room_for_statements before parameters s =
     record { opened = InFunction parameters false ∷ []; position = refl; stands = s; few = omega arith }
 
 -- Its statements leave it open.
 pub may_end : (before behind : Representation) (parameters variables : ℕ) (body : Body) →
     LeavesOpen before (InFunction parameters false ∷ []) → AppendsAll before behind (body_actions body) →
     InBody 64 64 64 body → body_nesting body ≤ 200 → parameters ≤ variables → variables ≤ 64 → MayEnd behind variables
-may_end before behind parameters variables body s told numbered narrow within few =
+may_end before behind parameters variables body s reported numbered narrow within few =
     let k : KeepsFunction body parameters false = keeps_function body parameters false in
     record {
       parameters = parameters;
       returned = k.returned;
       stands =
           stands_then before behind (body_actions body) (InFunction parameters false ∷ [])
-          (InFunction parameters k.returned ∷ []) told s
+          (InFunction parameters k.returned ∷ []) reported s
           (leads_to (body_actions body) (InFunction parameters false ∷ []) _
           (InFunction parameters k.returned ∷ []) k.is
           (body_leads body (InFunction parameters false ∷ []) refl numbered (omega arith))).is;
@@ -67,30 +68,30 @@ may_push before variables m =
 pushed : (before behind : Representation) (variables : ℕ) (m : MayEnd before variables) →
     Appends before behind (PushConstant (pos 0)) →
     LeavesOpen behind (AValue (Number (pos 0)) ∷ InFunction m.parameters m.returned ∷ [])
-pushed before behind variables m told =
+pushed before behind variables m reported =
     stands_then before behind (PushConstant (pos 0) ∷ []) (InFunction m.parameters m.returned ∷ [])
-    (AValue (Number (pos 0)) ∷ InFunction m.parameters m.returned ∷ []) told m.stands
+    (AValue (Number (pos 0)) ∷ InFunction m.parameters m.returned ∷ []) reported m.stands
     (follow_one (PushConstant (pos 0)) (InFunction m.parameters m.returned ∷ [])
     (AValue (Number (pos 0)) ∷ InFunction m.parameters m.returned ∷ []) refl (omega arith))
 
 pub may_give : (before behind : Representation) (variables : ℕ) → MayEnd before variables →
     Appends before behind (PushConstant (pos 0)) → MayFollow behind GiveBack
-may_give before behind variables m told =
+may_give before behind variables m reported =
     may_follow behind (AValue (Number (pos 0)) ∷ InFunction m.parameters m.returned ∷ [])
-    (InFunction m.parameters true ∷ []) GiveBack (pushed before behind variables m told) refl (omega arith)
+    (InFunction m.parameters true ∷ []) GiveBack (pushed before behind variables m reported) refl (omega arith)
 
 pub may_finish : (before mid behind : Representation) (variables : ℕ) → MayEnd before variables →
     Appends before mid (PushConstant (pos 0)) → Appends mid behind GiveBack → MayFollow behind (EndFunction variables)
-may_finish before mid behind variables m told given =
+may_finish before mid behind variables m reported given =
     let s : LeavesOpen behind (InFunction m.parameters true ∷ []) =
     stands_then mid behind (GiveBack ∷ []) (AValue (Number (pos 0)) ∷ InFunction m.parameters m.returned ∷ [])
-    (InFunction m.parameters true ∷ []) given (pushed before mid variables m told)
+    (InFunction m.parameters true ∷ []) given (pushed before mid variables m reported)
     (follow_one GiveBack (AValue (Number (pos 0)) ∷ InFunction m.parameters m.returned ∷ [])
     (InFunction m.parameters true ∷ []) refl (omega arith)) in
     may_follow behind (InFunction m.parameters true ∷ []) [] (EndFunction variables) s
     (function_finishes m.parameters variables m.within m.few) (omega arith)
 
--- what was told of its end
+-- what was reported of its end
 pub closes : (before mid between after : Representation) (variables : ℕ) → Appends before mid (PushConstant (pos 0)) →
     Appends mid between GiveBack → Appends between after (EndFunction variables) →
     ((profile : Profile) (acts : List Action) → between profile acts →
@@ -118,6 +119,6 @@ pub closed : (before after : Representation) (number parameters variables : ℕ)
     AppendsAll before after
     (BeginFunction number parameters ∷ (body_actions body ++ (last_return ++ EndFunction variables ∷ []))) →
     LeavesOpen after []
-closed before after number parameters variables body s known within few numbered narrow told =
-    stands_then before after _ [] [] told s
-    (definition_leads number parameters variables body known within few numbered narrow).is
+closed before after number parameters variables body s below within few numbered narrow reported =
+    stands_then before after _ [] [] reported s
+    (definition_leads number parameters variables body below within few numbered narrow).is

@@ -59,7 +59,7 @@ pub operand_fails_at : (used inner depth level : ℕ) (at : UnreadPosition) (den
 operand_fails_at used inner depth level at denied f same h =
     subst (λ (k : ℕ). Refused (FailsOperand k level at) denied used f) same h
 
--- The measure of the cycle of the statements falls: a statement or what follows it is read one level deeper,
+-- The measure of the cycle of the statements falls: a statement or what follows it is read one construct deeper,
 
 pub deeper : (measure depth inner next : ℕ) → (64 - depth) * 16 + 2 ≡ measure → depth < 64 → inner ≡ depth + 1 →
     next ≤ 4 → (64 - inner) * 16 + next < measure

@@ -1,4 +1,4 @@
--- Builders that were told further actions.
+-- Builders to which further actions were reported.
 use Rattle.std.proofs.Common.{◌≡◌, List, [], ◌++◌, sym, subst, append_assoc, append-nil}
 use Rattle.std.specs.Prelude.{Err}
 use Rattle.grammar.specs.declared.build.BuildFault.{BuildFault}
@@ -9,7 +9,7 @@ use Rattle.grammar.specs.declared.actions.Action.{Action}
 use Rattle.grammar.specs.Building.{Representation, AppendsAll, Refuses}
 use Rattle.parser.specs.Growing.{HasGrown}
 
--- a builder that was told nothing
+-- a builder to which nothing was reported
 pub grown_nothing : (before : Representation) → HasGrown before before
 grown_nothing before = record {
   more = [];
@@ -18,7 +18,7 @@ grown_nothing before = record {
 
 -- these actions
 pub grown : (before after : Representation) (more : List Action) → AppendsAll before after more → HasGrown before after
-grown before after more told = record { more = more; added = told }
+grown before after more reported = record { more = more; added = reported }
 
 -- and further ones after them
 pub grown_then : (before mid after : Representation) → HasGrown before mid → HasGrown mid after → HasGrown before after
@@ -33,7 +33,7 @@ grown_then before mid after a b = record {
 pub grown_behind : (before mid after : Representation) (more : List Action) → AppendsAll before mid more →
     HasGrown mid after →
     HasGrown before after
-grown_behind before mid after more told h = grown_then before mid after (grown before mid more told) h
+grown_behind before mid after more reported h = grown_then before mid after (grown before mid more reported) h
 
 -- A builder that was refused memory: what it represents is unknown.
 

@@ -45,39 +45,39 @@ not_open (token.Constant value) after other = refl
 not_open token.End after other = refl
 not_open (token.Fault lexical_error) after other = refl
 
-first_level : (opened : Bool) (n : ℕ) (rest : List LocatedToken) → n ≡ 0 →
+first_nested : (opened : Bool) (n : ℕ) (rest : List LocatedToken) → n ≡ 0 →
     only_if opened (only_if (nat_le most_nested n) (fault rest fault_code.NestedTooDeeply ∷ [])) ≡ []
 unfolding most_nested
-first_level false n rest e = refl
-first_level true n rest e = rw e refl
+first_nested false n rest e = refl
+first_nested true n rest e = rw e refl
 
 brace_leads : (located_token : LocatedToken) → is_punctuator punctuator.OpenCurly located_token.token ≡ true →
-    (known : Scope) (rest : List LocatedToken) →
-    Leads 0 (Part FunctionBlock ∷ []) (Make Empty ∷ inside_items) [] [] known known (located_token ∷ rest) rest
-brace_leads located_token is known rest = record {
+    (in_scope : Scope) (rest : List LocatedToken) →
+    Leads 0 (Part FunctionBlock ∷ []) (Make Empty ∷ inside_items) [] [] in_scope in_scope (located_token ∷ rest) rest
+brace_leads located_token is in_scope rest = record {
   passes = λ profile stack values functions depths.
       let at : located_token.token ≡ token.Punctuator punctuator.OpenCurly =
       punctuator_is punctuator.OpenCurly located_token.token is in
       then profile _ _ _
       (part profile FunctionBlock (Exactly punctuator.OpenCurly ∷ Make Empty ∷ inside_items) stack
-      (located_token ∷ rest) values known functions (rw at refl) (rw at refl)
-      (first_level _ (nested_count stack) (located_token ∷ rest) depths))
+      (located_token ∷ rest) values in_scope functions (rw at refl) (rw at refl)
+      (first_nested _ (nested_count stack) (located_token ∷ rest) depths))
       (punctuator_step profile punctuator.OpenCurly (Make Empty ∷ (inside_items ++ stack)) (located_token ∷ rest)
-      values known functions (rw at refl) is);
+      values in_scope functions (rw at refl) is);
 }
 
 empty_leads : (located_token : LocatedToken) → is_lexical_error located_token.token ≡ false →
-    (known : Scope) (rest : List LocatedToken) →
-    Leads 0 (Make Empty ∷ inside_items) inside_items [] (ABody Done ∷ []) known known (located_token ∷ rest)
+    (in_scope : Scope) (rest : List LocatedToken) →
+    Leads 0 (Make Empty ∷ inside_items) inside_items [] (ABody Done ∷ []) in_scope in_scope (located_token ∷ rest)
     (located_token ∷ rest)
-empty_leads located_token sound known rest = record {
+empty_leads located_token sound in_scope rest = record {
   passes = λ profile stack values functions depths.
       subst
       (λ (fs : List Definition). DerivesWithoutFault profile
-      (state (Make Empty ∷ (inside_items ++ stack)) (located_token ∷ rest) values known functions)
-      (state (inside_items ++ stack) (located_token ∷ rest) (ABody Done ∷ values) known fs))
+      (state (Make Empty ∷ (inside_items ++ stack)) (located_token ∷ rest) values in_scope functions)
+      (state (inside_items ++ stack) (located_token ∷ rest) (ABody Done ∷ values) in_scope fs))
       (append-nil functions)
-      (make profile Empty (inside_items ++ stack) (located_token ∷ rest) values known functions sound refl);
+      (make profile Empty (inside_items ++ stack) (located_token ∷ rest) values in_scope functions sound refl);
 }
 
 pub brace_misfits : (at : UnreadPosition) (used : ℕ) (near : IsNearTo at.lookahead.cursor used) →
@@ -87,27 +87,27 @@ pub brace_misfits : (at : UnreadPosition) (used : ℕ) (near : IsNearTo at.looka
 brace_misfits at used near sound other =
     fails_at_next 0 (Part FunctionBlock ∷ []) [] at _ used near (λ tail b profile stack values functions depths.
     no_part profile FunctionBlock stack (next_at at ∷ tail) values (scope_at at) functions sound
-    (not_open (next_at at).token _ other) (first_level _ (nested_count stack) (next_at at ∷ tail) depths))
+    (not_open (next_at at).token _ other) (first_nested _ (nested_count stack) (next_at at ∷ tail) depths))
 
-pub brace_stops : (cursor : Cursor) (known : Scope) (more : Option (List ℕ)) →
+pub brace_stops : (cursor : Cursor) (in_scope : Scope) (more : Option (List ℕ)) →
     is_punctuator punctuator.OpenCurly cursor.next.token ≡ true → (d : Stop) →
-    StopsAt (position_of (record { cursor = cursor; scope = known }) more) d →
-    FailsAt 0 (Part FunctionBlock ∷ []) [] (position_of (record { cursor = cursor; scope = known }) more) d
-brace_stops cursor known more is d stop =
-    stops cursor known known more d 0 (Part FunctionBlock ∷ []) (Make Empty ∷ inside_items) [] []
-    (λ rest b. brace_leads cursor.next is known rest) stop
+    StopsAt (position_of (record { cursor = cursor; scope = in_scope }) more) d →
+    FailsAt 0 (Part FunctionBlock ∷ []) [] (position_of (record { cursor = cursor; scope = in_scope }) more) d
+brace_stops cursor in_scope more is d stop =
+    stops cursor in_scope in_scope more d 0 (Part FunctionBlock ∷ []) (Make Empty ∷ inside_items) [] []
+    (λ rest b. brace_leads cursor.next is in_scope rest) stop
 
 -- after the opening brace
-pub block_opened : (cursor : Cursor) (known : Scope) (more : Option (List ℕ)) (now : UnreadPosition) →
+pub block_opened : (cursor : Cursor) (in_scope : Scope) (more : Option (List ℕ)) (now : UnreadPosition) →
     is_punctuator punctuator.OpenCurly cursor.next.token ≡ true → is_lexical_error (next_at now).token ≡ false →
-    GoesPast (position_of (record { cursor = cursor; scope = known }) more) now →
+    GoesPast (position_of (record { cursor = cursor; scope = in_scope }) more) now →
     Derives 0 (Part FunctionBlock ∷ []) inside_items [] (ABody Done ∷ [])
-    (position_of (record { cursor = cursor; scope = known }) more) now
-block_opened cursor known more now is sound goes =
+    (position_of (record { cursor = cursor; scope = in_scope }) more) now
+block_opened cursor in_scope more now is sound goes =
     joined 0 0 (Part FunctionBlock ∷ []) (Make Empty ∷ inside_items) inside_items [] [] [] (ABody Done ∷ []) [] _ now
     now
-    (past cursor known known more now 0 (Part FunctionBlock ∷ []) (Make Empty ∷ inside_items) [] [] goes
-    (λ rest b. brace_leads cursor.next is known rest))
+    (past cursor in_scope in_scope more now 0 (Part FunctionBlock ∷ []) (Make Empty ∷ inside_items) [] [] goes
+    (λ rest b. brace_leads cursor.next is in_scope rest))
     (stand now 0 (Make Empty ∷ inside_items) inside_items [] (ABody Done ∷ [])
     (λ tail b. empty_leads (next_at now) sound (scope_at now) tail)) (λ stack same. same)
 
@@ -164,7 +164,7 @@ block_adds before after at now mid there same a d s closed = record {
   numbered = s.numbered;
   narrow = omega (arith, s.narrow);
   added = s.added;
-  kept = subst (λ (known : Scope). KeepsFunction known (scope_at there)) same
+  kept = subst (λ (in_scope : Scope). KeepsFunction in_scope (scope_at there)) same
       (kept_between before after now mid there d s);
   derives =
       joined 0 1 (Part FunctionBlock ∷ []) (Part Statements ∷ []) [] at_brace [] (ABody Done ∷ []) (ABody s.tree ∷ [])

@@ -56,6 +56,6 @@ refused_left before after left denied told to_come parse_fault.Device same h = �
     record { count = built.count; took = built.took; more = built.more; stands = same profile _ built.stands }
 refused_left before after left denied told to_come parse_fault.Memory same h = h
 
--- a level that was opened is closed
+-- a construct that was opened is closed
 pub shut : (depth opened : ℕ) → opened ≡ depth + 1 → opened - 1 ≡ depth
 shut depth opened same = omega arith

@@ -26,7 +26,7 @@ pub mod BodyLaws
 pub mod Openings
 pub mod Rules
 pub mod SimpleLaws
-pub mod Tellings
+pub mod StatementReports
 pub mod Advancing
 pub mod Inside
 pub mod Closing

@@ -18,7 +18,7 @@ use Rattle.parser.proofs.Parts.{Chooses, free_of, part_stands}
 use Rattle.parser.proofs.Segments.{fails_behind, joined, refused_map, stay}
 use Rattle.parser.specs.Declarations.{IsInFunction, declaration_items, declarations_of, names_items}
 
--- the symbol is replaced by these items, whatever follows the next token, and no level is opened
+-- the symbol is replaced by these items, whatever follows the next token, and nothing is nested
 pub record Gives (symbol : Symbol) (next : Token) (items : List Item) : Type 0 where
   pub chosen : Chooses symbol next items
   pub plain : (after : Token) → enters symbol next after ≡ false
@@ -70,17 +70,17 @@ declarations_end kind.TypedParameters t h other = record { chosen = λ after. re
 declarations_end kind.Locals (token.Keyword keyword.Type) h other = absurd (cc)
 declarations_end kind.Locals t h other = record { chosen = λ after. refl; plain = λ after. refl }
 
--- Segments, over items that open no level.
+-- Segments, over items of which none ends a nested production.
 
-abbrev pub AreLevel : List Item → Type 0
-AreLevel below = (stack : List Item) → nested_count (below ++ stack) ≡ nested_count stack
+abbrev pub LeaveNesting : List Item → Type 0
+LeaveNesting below = (stack : List Item) → nested_count (below ++ stack) ≡ nested_count stack
 
 -- one segment after another, with items left below it
-pub goes_on : (depth : ℕ) (front mid pending below : List Item) (at now there : UnreadPosition) → AreLevel below →
+pub goes_on : (depth : ℕ) (front mid pending below : List Item) (at now there : UnreadPosition) → LeaveNesting below →
     Derives depth front (mid ++ below) [] [] at now → Derives depth mid pending [] [] now there →
     Derives depth front (pending ++ below) [] [] at there
-goes_on depth front mid pending below at now there level a b =
-    joined depth depth front mid pending below [] [] [] [] at now there a b (λ stack same. level stack ∙ same)
+goes_on depth front mid pending below at now there unnested a b =
+    joined depth depth front mid pending below [] [] [] [] at now there a b (λ stack same. unnested stack ∙ same)
 
 -- after a segment the symbol in front is replaced
 pub opens_on : (depth : ℕ) (front : List Item) (symbol : Symbol) (items : List Item) (at now : UnreadPosition) →
@@ -91,15 +91,15 @@ opens_on depth front symbol items at now sound gives a =
     (replaces now depth symbol items sound gives)
 
 -- a refusal after a segment
-pub leaves : (used : ℕ) (front mid below : List Item) (at now : UnreadPosition) (f : ParseFault) → AreLevel below →
+pub leaves : (used : ℕ) (front mid below : List Item) (at now : UnreadPosition) (f : ParseFault) → LeaveNesting below →
     ((depth : ℕ) → Derives depth front (mid ++ below) [] [] at now) →
     Refused (λ d. (depth : ℕ) → FailsAt depth mid [] now d) ⊥ used f →
     Refused (λ d. (depth : ℕ) → FailsAt depth front [] at d) ⊥ used f
-leaves used front mid below at now f level a =
+leaves used front mid below at now f unnested a =
     refused_map used (λ d. (depth : ℕ) → FailsAt depth mid [] now d) (λ d. (depth : ℕ) → FailsAt depth front [] at d) ⊥
     ⊥ f
     (λ d fails depth. fails_behind depth depth front mid below [] [] [] at now d (a depth)
-    (λ stack same. level stack ∙ same) (fails depth)) (λ same. same)
+    (λ stack same. unnested stack ∙ same) (fails depth)) (λ same. same)
 
 -- after a comma of a list
 pub more_behind : (depth : ℕ) (role : Role) (at now there : UnreadPosition) →
@@ -114,23 +114,24 @@ more_behind depth role at now there sound is a b =
     (opens_on depth (Part (More role) ∷ []) (More role) (Exactly punctuator.Comma ∷ AName role ∷ Part (More role) ∷ [])
     at now sound (names_more role (next_at now).token is) a) b
 
--- from these items to those, however many levels are open
+-- from these items to those, however many constructs are open
 abbrev pub Goes : List Item → List Item → UnreadPosition → UnreadPosition → Type 0
 Goes front pending at there = (depth : ℕ) → Derives depth front pending [] [] at there
 
 -- the first item
-pub starts : (item : Item) (below : List Item) (at there : UnreadPosition) → AreLevel below →
+pub starts : (item : Item) (below : List Item) (at there : UnreadPosition) → LeaveNesting below →
     DerivesItem item [] [] at there →
     Goes (item ∷ below) below at there
-starts item below at there level b depth =
-    goes_on depth (item ∷ below) (item ∷ []) [] below at at there level (stay at depth (item ∷ below) []) (b depth)
+starts item below at there unnested b depth =
+    goes_on depth (item ∷ below) (item ∷ []) [] below at at there unnested (stay at depth (item ∷ below) []) (b depth)
 
 -- the next item
-pub item_on : (front : List Item) (item : Item) (below : List Item) (at now there : UnreadPosition) → AreLevel below →
+pub item_on : (front : List Item) (item : Item) (below : List Item) (at now there : UnreadPosition) →
+    LeaveNesting below →
     Goes front (item ∷ below) at now → DerivesItem item [] [] now there →
     Goes front below at there
-item_on front item below at now there level a b depth =
-    goes_on depth front (item ∷ []) [] below at now there level (a depth) (b depth)
+item_on front item below at now there unnested a b depth =
+    goes_on depth front (item ∷ []) [] below at now there unnested (a depth) (b depth)
 
 -- The last call's answer, after a segment that left the items that it matches.
 pub handed_on : {A : Type 0} (r : Result A ParseFault) (front mid : List Item) (at now there : ScopedCursor) →

@@ -1,4 +1,4 @@
--- What a name in its role leaves of the names known: the limits hold, and the function that is being defined stays.
+-- What a name in its role leaves of the names in scope: the limits hold, and the function that is being defined stays.
 use Rattle.std.proofs.Common.{◌≡◌, ℕ, ◌+◌, ◌<◌, ◌≤◌, List, [], ◌∷◌, ◌++◌, refl, sym, ◌∙◌, Bool, true, false, arith, length, le_refl, le_trans}
 use Rattle.std.proofs.lemmas.List.{length-append}
 use Rattle.std.specs.Prelude.{if◌then◌else◌}

@@ -26,7 +26,7 @@ use Rattle.parser.specs.declared.unary_ops.IncrementOp.TheVariants as increment_
 use Rattle.parser.specs.Expressions.{AddsExpr}
 use Rattle.parser.specs.UnaryOps.{unary_punctuator, increment_punctuator}
 use Rattle.parser.proofs.Parts.{punctuator_is, close_stands}
-use Rattle.parser.proofs.Productions.{Chooses, EntersLevel, chosen, chosen_within, item_done, punctuator_ends, punctuator_past, punctuator_sound, punctuator_too_deep, none_chosen}
+use Rattle.parser.proofs.Productions.{Chooses, IsNested, chosen, chosen_within, item_done, punctuator_ends, punctuator_past, punctuator_sound, punctuator_too_deep, none_chosen}
 use Rattle.parser.proofs.ReportingLaws.{room_within}
 use Rattle.tokens.specs.Cursors.{IsNearTo}
 
@@ -42,7 +42,7 @@ open_chooses at fits = record {
 }
 
 open_enters : (at : UnreadPosition) → is_punctuator punctuator.OpenRound (next_at at).token ≡ true →
-    EntersLevel at Primary
+    IsNested at Primary
 open_enters at fits after more =
     let t : (next_at at).token ≡ token.Punctuator punctuator.OpenRound =
     punctuator_is punctuator.OpenRound (next_at at).token fits in
@@ -143,28 +143,28 @@ inside_room before depth shallow h = room_within before (room (depth + 1) 1) (ro
 primary_choice : (t after : Token) → ((s : UnaryOp) → is_punctuator (unary_punctuator s) t ≡ false) →
     ((s : IncrementOp) → is_punctuator (increment_punctuator s) t ≡ false) →
     choice Unary t after ≡ Some (Part Primary ∷ [])
-primary_choice (token.Punctuator punctuator.Minus) after signs steps =
+primary_choice (token.Punctuator punctuator.Minus) after signs increments =
     let e : is_punctuator (unary_punctuator unary_op.Negation) (token.Punctuator punctuator.Minus) ≡ false =
     signs unary_op.Negation in
     absurd (cc)
-primary_choice (token.Punctuator punctuator.Not) after signs steps =
+primary_choice (token.Punctuator punctuator.Not) after signs increments =
     let e : is_punctuator (unary_punctuator unary_op.Denial) (token.Punctuator punctuator.Not) ≡ false =
     signs unary_op.Denial in
     absurd (cc)
-primary_choice (token.Punctuator punctuator.Tilde) after signs steps =
+primary_choice (token.Punctuator punctuator.Tilde) after signs increments =
     let e : is_punctuator (unary_punctuator unary_op.Complement) (token.Punctuator punctuator.Tilde) ≡ false =
     signs unary_op.Complement in
     absurd (cc)
-primary_choice (token.Punctuator punctuator.PlusPlus) after signs steps =
+primary_choice (token.Punctuator punctuator.PlusPlus) after signs increments =
     let e : is_punctuator (increment_punctuator increment_op.Increment) (token.Punctuator punctuator.PlusPlus) ≡ false =
-    steps increment_op.Increment in
+    increments increment_op.Increment in
     absurd (cc)
-primary_choice (token.Punctuator punctuator.MinusMinus) after signs steps =
+primary_choice (token.Punctuator punctuator.MinusMinus) after signs increments =
     let e : is_punctuator (increment_punctuator increment_op.Decrement) (token.Punctuator punctuator.MinusMinus) ≡
     false =
-    steps increment_op.Decrement in
+    increments increment_op.Decrement in
     absurd (cc)
-primary_choice t after signs steps = refl
+primary_choice t after signs increments = refl
 
 primary_enters : (t after : Token) → ((s : UnaryOp) → is_punctuator (unary_punctuator s) t ≡ false) →
     enters Unary t after ≡ false
@@ -186,7 +186,7 @@ primary_enters t after signs = refl
 pub record NoOperator (t : Token) : Type 0 where
   pub sound : is_lexical_error t ≡ false
   pub signs : (s : UnaryOp) → is_punctuator (unary_punctuator s) t ≡ false
-  pub steps : (s : IncrementOp) → is_punctuator (increment_punctuator s) t ≡ false
+  pub increments : (s : IncrementOp) → is_punctuator (increment_punctuator s) t ≡ false
 
 no_punctuator : (m : Punctuator) (t : Token) → ((n : Punctuator) → t ≡ token.Punctuator n → ⊥) →
     is_punctuator m t ≡ false
@@ -199,14 +199,14 @@ pub plain_operand : (t : Token) → is_lexical_error t ≡ false → ((n : Punct
 plain_operand t sound none = record {
   sound = sound;
   signs = λ s. no_punctuator (unary_punctuator s) t none;
-  steps = λ s. no_punctuator (increment_punctuator s) t none;
+  increments = λ s. no_punctuator (increment_punctuator s) t none;
 }
 
 primary_stands : (at : UnreadPosition) (depth : ℕ) → NoOperator (next_at at).token →
     Derives depth (Part Unary ∷ []) (Part Primary ∷ []) [] [] at at
 primary_stands at depth n =
     chosen at depth Unary (Part Primary ∷ []) []
-    (record { sound = n.sound; is = λ after more. primary_choice (next_at at).token after n.signs n.steps })
+    (record { sound = n.sound; is = λ after more. primary_choice (next_at at).token after n.signs n.increments })
     (λ after more. primary_enters (next_at at).token after n.signs)
 
 pub primary_refused : (used : ℕ) (at : UnreadPosition) (depth : ℕ) (denied : Type 0) (f : ParseFault) →

@@ -10,7 +10,7 @@ use Rattle.grammar.specs.Following.{AValue, BeforeTest, InBranch, InElse, InLoop
 use Rattle.grammar.specs.Nesting.{body_nesting, nesting}
 use Rattle.grammar.specs.Resolved.{InBody, InExpr}
 use Rattle.grammar.specs.Tree.{ExpressionStatement, Body, IfElseStatement, Done, Expr, Return, IfStatement, While}
-use Rattle.grammar.proofs.FollowingLaws.{Leads, act, also, behind_body, body_leads, chop_settles, done_settles, expr_leads, inside, origin_of, settled, settled_count, settled_place}
+use Rattle.grammar.proofs.FollowingLaws.{Leads, act, also, behind_body, body_leads, chop_settles, done_settles, expr_leads, inside, origin_of, settled, settled_count, settled_context}
 use Rattle.grammar.proofs.RepresentationLaws.{may_follow, stands_then}
 use Rattle.parser.specs.Room.{HasStatementRoom, HasRoom}
 use Rattle.parser.specs.Branches.{HasInside, IsElseNumbered, else_actions, else_nesting}
@@ -26,7 +26,7 @@ keeps_behind : (returned : Bool) (rest : Body) (o : Opened) → may_take_stateme
     (may_take_statement (behind_body rest (settled returned o)) ≡ true) ×
     (open_count (behind_body rest (settled returned o)) ≡ open_count o)
 keeps_behind returned rest o e again =
-    let k : Keeps rest (settled returned o) = again (settled_place returned o e) in
+    let k : Keeps rest (settled returned o) = again (settled_context returned o e) in
     (k.position, k.count ∙ settled_count returned o)
 
 keeps : (b : Body) (o : Opened) → may_take_statement o ≡ true → Keeps b o
@@ -44,9 +44,10 @@ keeps (Return x rest) o e =
     keeps_behind (is_number 0 (origin_of x)) rest o e (λ p. keeps rest (settled (is_number 0 (origin_of x)) o) p) in
     record { position = k.0; count = k.1 }
 
-pub place_behind : (before now : Representation) (n : ℕ) (b : Body) → HasStatementRoom before n → InBody 64 64 64 b →
+pub statement_room_behind : (before now : Representation) (n : ℕ) (b : Body) → HasStatementRoom before n →
+    InBody 64 64 64 b →
     body_nesting b ≤ n → AppendsAll before now (body_actions b) → HasStatementRoom now n
-place_behind before now n b h numbered narrow added =
+statement_room_behind before now n b h numbered narrow added =
     let k : Keeps b h.opened = keeps b h.opened h.position in
     record {
       opened = behind_body b h.opened;
@@ -64,15 +65,15 @@ room_at : (before : Representation) (o : Opened) (n : ℕ) → may_take_statemen
 room_at before [] n e s few = absurd (cc)
 room_at before (x ∷ o) n e s few = record { outer = x; opened = o; stands = s; few = few }
 
-pub place_room : (before : Representation) (n m : ℕ) → m ≤ n → HasStatementRoom before n → HasRoom before m
-place_room before n m less h = room_at before h.opened m h.position h.stands (omega (arith, less, h.few))
+pub value_room : (before : Representation) (n m : ℕ) → m ≤ n → HasStatementRoom before n → HasRoom before m
+value_room before n m less h = room_at before h.opened m h.position h.stands (omega (arith, less, h.few))
 
 value_at : (before now : Representation) (o : Opened) (e : Expr) (n : ℕ) → may_take_statement o ≡ true →
     LeavesOpen before o →
     open_count o + n ≤ 200 → InExpr 64 64 64 e → nesting e ≤ n →
     AppendsAll before now (expr_actions e) → LeavesOpen now (AValue (origin_of e) ∷ o)
-value_at before now [] e n place s few numbered narrow added = absurd (cc)
-value_at before now (x ∷ o) e n place s few numbered narrow added =
+value_at before now [] e n positioned s few numbered narrow added = absurd (cc)
+value_at before now (x ∷ o) e n positioned s few numbered narrow added =
     stands_then before now (expr_actions e) (x ∷ o) _ added s
     (expr_leads e x o numbered (omega (arith, few, narrow))).is
 
@@ -98,11 +99,11 @@ value_inside before now n e h numbered narrow added = record {
 pub inside_room : (inner : Open) (before : Representation) (n : ℕ) → HasInside inner before n → HasRoom before n
 inside_room inner before n h = record { outer = inner; opened = h.opened; stands = h.stands; few = h.few }
 
-pub inside_place : (inner : Open) (before : Representation) (n : ℕ) →
+pub statement_room_inside : (inner : Open) (before : Representation) (n : ℕ) →
     ((o : Opened) → may_take_statement (inner ∷ o) ≡ true) →
     HasInside inner before n → HasStatementRoom before n
-inside_place inner before n places h =
-    record { opened = inner ∷ h.opened; position = places h.opened; stands = h.stands; few = h.few }
+statement_room_inside inner before n positions h =
+    record { opened = inner ∷ h.opened; position = positions h.opened; stands = h.stands; few = h.few }
 
 -- one action ends what is open, and begins something else
 abbrev Turns : Action → Open → Open → Type 0
@@ -150,9 +151,9 @@ IsUnsettled inner = (returned : Bool) (o : Opened) → settled returned (inner �
 pub inside_behind : (inner : Open) (before now : Representation) (n : ℕ) (b : Body) →
     ((o : Opened) → may_take_statement (inner ∷ o) ≡ true) → IsUnsettled inner → HasInside inner before n →
     InBody 64 64 64 b → body_nesting b ≤ n → AppendsAll before now (body_actions b) → HasInside inner now n
-inside_behind inner before now n b places same h numbered narrow added =
+inside_behind inner before now n b positions same h numbered narrow added =
     let leads : Leads (body_actions b) (inner ∷ h.opened) (behind_body b (inner ∷ h.opened)) =
-    body_leads b (inner ∷ h.opened) (places h.opened) numbered (omega (arith, h.few, narrow)) in
+    body_leads b (inner ∷ h.opened) (positions h.opened) numbered (omega (arith, h.few, narrow)) in
     record {
       opened = h.opened;
       position = h.position;
@@ -163,9 +164,10 @@ inside_behind inner before now n b places same h numbered narrow added =
 
 -- Branches.
 
-none_told : (before now : Representation) (inner : Open) (n : ℕ) → HasInside inner before n → AppendsAll before now [] →
+none_reported : (before now : Representation) (inner : Open) (n : ℕ) → HasInside inner before n →
+    AppendsAll before now [] →
     HasInside inner now n
-none_told before now inner n h added = record {
+none_reported before now inner n h added = record {
   opened = h.opened;
   position = h.position;
   stands = stands_then before now [] (inner ∷ h.opened) (inner ∷ h.opened) added h.stands refl;
@@ -176,7 +178,7 @@ pub may_end_if : (before now : Representation) (n : ℕ) (t : Option Body) → H
     IsElseNumbered t →
     else_nesting t ≤ n → AppendsAll before now (else_actions t) → MayFollow now EndIf
 may_end_if before now n None h numbered narrow added =
-    may_end EndIf InBranch false now n (λ o. refl) (none_told before now InBranch n h added)
+    may_end EndIf InBranch false now n (λ o. refl) (none_reported before now InBranch n h added)
 may_end_if before now n (Some t) h numbered narrow added =
     let leads : Leads (else_actions (Some t)) (InBranch ∷ h.opened) (behind_body t (InElse ∷ h.opened)) =
     also ElsePart _ _ (InElse ∷ h.opened) _ refl (omega (arith, h.few))

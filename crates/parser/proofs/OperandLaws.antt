@@ -75,13 +75,14 @@ constant_enters : (at : UnreadPosition) (value : ℕ) → (next_at at).token ≡
 constant_enters at value is after more = rw is refl
 
 constant_leads : (located_token : LocatedToken) (value : ℕ) → located_token.token ≡ token.Constant value →
-    (depth : ℕ) (known : Scope) (rest : List LocatedToken) →
-    Leads depth (AConstant ∷ []) [] [] (AnExpr (Constant (pos value)) ∷ []) known known (located_token ∷ rest) rest
-constant_leads located_token value is depth known rest = record {
+    (depth : ℕ) (in_scope : Scope) (rest : List LocatedToken) →
+    Leads depth (AConstant ∷ []) [] [] (AnExpr (Constant (pos value)) ∷ []) in_scope in_scope (located_token ∷ rest)
+    rest
+constant_leads located_token value is depth in_scope rest = record {
   passes = λ profile stack values functions depths.
       let sound : is_lexical_error located_token.token ≡ false = rw is refl in
       let found : constant_value located_token.token ≡ Some value = rw is refl in
-      constant profile value stack (located_token ∷ rest) values known functions sound found;
+      constant profile value stack (located_token ∷ rest) values in_scope functions sound found;
 }
 
 constant_past : (at there : UnreadPosition) (value : ℕ) → (next_at at).token ≡ token.Constant value →
@@ -111,11 +112,11 @@ pub constant_adds : (before after : Representation) (at there : UnreadPosition) 
     (next_at at).token ≡ token.Constant value → GoesPast at there →
     AppendsAll before after (PushConstant (pos value) ∷ []) → (depth : ℕ) →
     AddsExpr before after depth 11 (Part Primary ∷ []) [] at there
-constant_adds before after at there value is goes told depth = record {
+constant_adds before after at there value is goes reported depth = record {
   tree = Constant (pos value);
   numbered = tt;
   narrow = omega arith;
-  added = told;
+  added = reported;
   derives =
       item_done depth depth (Part Primary ∷ []) AConstant [] [] (AnExpr (Constant (pos value)) ∷ []) [] at at there
       (constant_stands at value is depth) (constant_past at there value is goes depth) (λ stack same. same);
@@ -157,12 +158,12 @@ name_enters_none : (at : UnreadPosition) → IsNamed (next_at at).token →
 name_enters_none at n call after more = rw (n.is, after_name at after n more) (name_enters n.name (after_at at) call)
 
 -- it isn't followed by ++ or --
-abbrev pub NoStep : UnreadPosition → Type 0
-NoStep at = (s : IncrementOp) → is_punctuator (increment_punctuator s) (after_at at) ≡ false
+abbrev pub NoIncrement : UnreadPosition → Type 0
+NoIncrement at = (s : IncrementOp) → is_punctuator (increment_punctuator s) (after_at at) ≡ false
 
 fetch_chooses : (at : UnreadPosition) → IsNamed (next_at at).token →
     is_punctuator punctuator.OpenRound (after_at at) ≡ false →
-    NoStep at → Chooses at Primary (AName Mentioned ∷ Make Fetch ∷ [])
+    NoIncrement at → Chooses at Primary (AName Mentioned ∷ Make Fetch ∷ [])
 fetch_chooses at n call none = record {
   sound = named_sound (next_at at).token n;
   is =
@@ -172,14 +173,14 @@ fetch_chooses at n call none = record {
 
 fetch_stands : (at : UnreadPosition) → IsNamed (next_at at).token →
     is_punctuator punctuator.OpenRound (after_at at) ≡ false →
-    NoStep at → (depth : ℕ) →
+    NoIncrement at → (depth : ℕ) →
     Derives depth (Part Primary ∷ []) (AName Mentioned ∷ Make Fetch ∷ []) [] [] at at
 fetch_stands at n call none depth =
     chosen at depth Primary (AName Mentioned ∷ Make Fetch ∷ []) [] (fetch_chooses at n call none)
     (name_enters_none at n call)
 
 pub fetch_ends : (used : ℕ) (at : UnreadPosition) (more : Type 0) (f : ParseFault) → IsNamed (next_at at).token →
-    is_punctuator punctuator.OpenRound (after_at at) ≡ false → NoStep at →
+    is_punctuator punctuator.OpenRound (after_at at) ≡ false → NoIncrement at →
     Refused (FailsItem (AName Mentioned) at) ⊥ used f → Refused (FailsItem (Part Primary) at) more used f
 fetch_ends used at more f n call none =
     item_exit used (Part Primary) (AName Mentioned) (Make Fetch ∷ []) [] at at more f (fetch_stands at n call none)
@@ -195,15 +196,15 @@ fetch_makes v =
     }
 
 pub fetch_adds : (before after : Representation) (at there : UnreadPosition) (v : Var) → IsNamed (next_at at).token →
-    is_punctuator punctuator.OpenRound (after_at at) ≡ false → NoStep at →
+    is_punctuator punctuator.OpenRound (after_at at) ≡ false → NoIncrement at →
     DerivesItem (AName Mentioned) [] (AVariable v ∷ []) at there → IsVariable 64 64 v →
     is_lexical_error (next_at there).token ≡ false → AppendsAll before after (FetchVariable v ∷ []) → (depth : ℕ) →
     AddsExpr before after depth 11 (Part Primary ∷ []) [] at there
-fetch_adds before after at there v n call none item numbered sound told depth = record {
+fetch_adds before after at there v n call none item numbered sound reported depth = record {
   tree = Variable v;
   numbered = numbered;
   narrow = omega arith;
-  added = told;
+  added = reported;
   derives =
       joined depth depth (Part Primary ∷ []) (Make Fetch ∷ []) [] [] [] (AVariable v ∷ []) (AnExpr (Variable v) ∷ []) []
       at there there

@@ -218,21 +218,21 @@ middle_follows before depth n o t is h =
 
 pub right_has_room : (before now : Representation) (depth n : ℕ) (o : Op) (t : Token) → operator_at n t ≡ Some o →
     HasLeftSide before (room depth n) → AppendsAll before now (middle o) → HasRoom now (room depth (n + 1))
-right_has_room before now depth n o t is h told =
+right_has_room before now depth n o t is h reported =
     let few : open_count (h.outer ∷ h.opened) + room depth n ≤ 200 = h.few in
     let less : right_side o + room depth (n + 1) ≤ room depth n = right_room depth n o t is in
     let same : open_count (right_open o (is_logic o) h.origin ∷ right_below (is_logic o) h.origin (h.outer ∷ h.opened))
     ≡ right_side o + open_count (h.outer ∷ h.opened) =
     right_counts o (is_logic o) refl h.origin h.outer h.opened in
     room_behind before now (room depth (n + 1)) (middle o) (AValue h.origin ∷ h.outer ∷ h.opened)
-    (right_open o (is_logic o) h.origin) (right_below (is_logic o) h.origin (h.outer ∷ h.opened)) h.stands told
+    (right_open o (is_logic o) h.origin) (right_below (is_logic o) h.origin (h.outer ∷ h.opened)) h.stands reported
     (middle_leads o (is_logic o) refl h.origin h.outer h.opened (omega arith)) (omega arith)
 
-pub apply_follows : (before told now : Representation) (depth n : ℕ) (o : Op) (t : Token) (e : Expr) →
-    operator_at n t ≡ Some o → HasLeftSide before (room depth n) → AppendsAll before told (middle o) →
-    InExpr 64 64 64 e → nesting e ≤ room depth (n + 1) → AppendsAll told now (expr_actions e) →
+pub apply_follows : (before reported now : Representation) (depth n : ℕ) (o : Op) (t : Token) (e : Expr) →
+    operator_at n t ≡ Some o → HasLeftSide before (room depth n) → AppendsAll before reported (middle o) →
+    InExpr 64 64 64 e → nesting e ≤ room depth (n + 1) → AppendsAll reported now (expr_actions e) →
     MayFollow now (ApplyBinop o)
-apply_follows before told now depth n o t e is h first numbered narrow second =
+apply_follows before reported now depth n o t e is h first numbered narrow second =
     let few : open_count (h.outer ∷ h.opened) + room depth n ≤ 200 = h.few in
     let less : right_side o + room depth (n + 1) ≤ room depth n = right_room depth n o t is in
     let same : open_count (right_open o (is_logic o) h.origin ∷ right_below (is_logic o) h.origin (h.outer ∷ h.opened))
@@ -247,25 +247,26 @@ apply_follows before told now depth n o t e is h first numbered narrow second =
     numbered (omega arith))
     (apply_leads o (is_logic o) refl h.origin (origin_of e) h.outer h.opened (omega arith))) in
     may_first now (ApplyBinop o) []
-    (may_then told now (expr_actions e) (ApplyBinop o ∷ []) second
-    (may_then before told (middle o) (expr_actions e ++ ApplyBinop o ∷ []) first
+    (may_then reported now (expr_actions e) (ApplyBinop o ∷ []) second
+    (may_then before reported (middle o) (expr_actions e ++ ApplyBinop o ∷ []) first
     (all_follow before (AValue h.origin ∷ h.outer ∷ h.opened) (AValue Computed ∷ h.outer ∷ h.opened)
     (middle o ++ (expr_actions e ++ ApplyBinop o ∷ [])) h.stands leads)))
 
-pub operand_adds : (before told mid after : Representation) (at now there : UnreadPosition) (depth n : ℕ) (o : Op) →
+pub operand_adds : (before reported mid after : Representation) (at now there : UnreadPosition) (depth n : ℕ) (o : Op) →
     operator_at n (next_at at).token ≡ Some o → GoesPast at now →
-    AppendsAll before told (middle o) → AddsExpr told mid depth (n + 1) (Part (Level (n + 1)) ∷ []) [] now there →
+    AppendsAll before reported (middle o) →
+    AddsExpr reported mid depth (n + 1) (Part (Level (n + 1)) ∷ []) [] now there →
     AppendsAll mid after (ApplyBinop o ∷ []) → is_lexical_error (next_at there).token ≡ false →
     AddsOperand before after depth n o at there
-operand_adds before told mid after at now there depth n o is goes first h last sound = record {
+operand_adds before reported mid after at now there depth n o is goes first h last sound = record {
   right = h.tree;
   numbered = h.numbered;
   narrow =
       let small : nesting h.tree ≤ room depth (n + 1) = h.narrow in
       let less : right_side o + room depth (n + 1) ≤ room depth n = right_room depth n o (next_at at).token is in
       omega arith;
-  added = appends_both before told after (middle o) (expr_actions h.tree ++ ApplyBinop o ∷ []) first
-      (appends_both told mid after (expr_actions h.tree) (ApplyBinop o ∷ []) h.added last);
+  added = appends_both before reported after (middle o) (expr_actions h.tree ++ ApplyBinop o ∷ []) first
+      (appends_both reported mid after (expr_actions h.tree) (ApplyBinop o ∷ []) h.added last);
   derives =
       λ left. joined depth depth (Part (Tail n) ∷ []) (Make (Operate o) ∷ []) [] (Part (Tail n) ∷ []) (AnExpr left ∷ [])
       (AnExpr h.tree ∷ AnExpr left ∷ []) (AnExpr (Binary o left h.tree) ∷ []) [] at there there

@@ -48,15 +48,15 @@ word_is w (token.Constant value) is = absurd (cc)
 word_is w token.End is = absurd (cc)
 word_is w (token.Fault lexical_error) is = absurd (cc)
 
--- Levels.
+-- Nesting.
 
--- with `depth` levels open the symbol enters none beyond the last
+-- with `depth` constructs open the symbol's production isn't nested too deeply
 abbrev pub IsFree : ℕ → Symbol → LocatedToken → Type 0
 IsFree depth symbol located_token =
     (stack : List Item) (rest : List LocatedToken) → nested_count stack ≡ depth →
     nesting_faults symbol (state stack (located_token ∷ rest) [] no_names []) ≡ []
 
--- while a level is left there is no fault
+-- while one more may be open there is no fault
 pub within : (opened : Bool) (n : ℕ) (rest : List LocatedToken) → n < 64 →
     only_if opened (only_if (nat_le most_nested n) (fault rest fault_code.NestedTooDeeply ∷ [])) ≡ []
 unfolding most_nested
@@ -66,7 +66,7 @@ within true n rest small = let test : nat_le 64 n ≡ false = below n small in r
     below : (n : ℕ) → n < 64 → nat_le 64 n ≡ false
     below n small = grind (arith, nat_tests)
 
--- a level beyond the last one is a fault
+-- one beyond the most is a fault
 pub beyond : (opened : Bool) (n : ℕ) (rest : List LocatedToken) → opened ≡ true → 64 ≤ n →
     only_if opened (only_if (nat_le most_nested n) (fault rest fault_code.NestedTooDeeply ∷ [])) ≡
     fault rest fault_code.NestedTooDeeply ∷ []
@@ -93,12 +93,13 @@ abbrev pub Chooses : Symbol → Token → List Item → Type 0
 Chooses symbol t items = (after : Token) → choice symbol t after ≡ Some items
 
 part_leads : (located_token : LocatedToken) (depth : ℕ) (symbol : Symbol) (items : List Item) (trees : List PartialTree)
-    (known : Scope) (rest : List LocatedToken) → is_lexical_error located_token.token ≡ false →
+    (in_scope : Scope) (rest : List LocatedToken) → is_lexical_error located_token.token ≡ false →
     Chooses symbol located_token.token items → IsFree depth symbol located_token →
-    Leads depth (Part symbol ∷ []) items trees trees known known (located_token ∷ rest) (located_token ∷ rest)
-part_leads located_token depth symbol items trees known rest sound chosen free = record {
+    Leads depth (Part symbol ∷ []) items trees trees in_scope in_scope (located_token ∷ rest) (located_token ∷ rest)
+part_leads located_token depth symbol items trees in_scope rest sound chosen free = record {
   passes =
-      λ profile stack values functions depths. part profile symbol items stack (located_token ∷ rest) _ known functions
+      λ profile stack values functions depths. part profile symbol items stack (located_token ∷ rest) _ in_scope
+      functions
       sound (chosen (next_token rest)) (free stack rest depths);
 }
 
@@ -110,17 +111,17 @@ part_stands at depth symbol items trees sound chosen free =
     (λ tail b. part_leads (next_at at) depth symbol items trees (scope_at at) tail sound chosen free)
 
 word_leads : (located_token : LocatedToken) (depth : ℕ) (symbol : Symbol) (w : Keyword) (items : List Item)
-    (trees : List PartialTree) (known : Scope) (rest : List LocatedToken) →
+    (trees : List PartialTree) (in_scope : Scope) (rest : List LocatedToken) →
     is_lexical_error located_token.token ≡ false →
     Chooses symbol located_token.token (AKeyword w ∷ items) → is_keyword w located_token.token ≡ true →
     IsFree depth symbol located_token →
-    Leads depth (Part symbol ∷ []) items trees trees known known (located_token ∷ rest) rest
-word_leads located_token depth symbol w items trees known rest sound chosen fits free = record {
+    Leads depth (Part symbol ∷ []) items trees trees in_scope in_scope (located_token ∷ rest) rest
+word_leads located_token depth symbol w items trees in_scope rest sound chosen fits free = record {
   passes = λ profile stack values functions depths.
       then profile _ _ _
-      (part profile symbol (AKeyword w ∷ items) stack (located_token ∷ rest) _ known functions sound
+      (part profile symbol (AKeyword w ∷ items) stack (located_token ∷ rest) _ in_scope functions sound
       (chosen (next_token rest)) (free stack rest depths))
-      (word profile w _ (located_token ∷ rest) _ known functions sound fits);
+      (word profile w _ (located_token ∷ rest) _ in_scope functions sound fits);
 }
 
 pub word_past : (at there : UnreadPosition) (depth : ℕ) (symbol : Symbol) (w : Keyword) (items : List Item)
@@ -144,17 +145,17 @@ word_stops at d depth symbol w items trees sound chosen fits free stop =
     (λ rest b. word_leads (next_at at) depth symbol w items trees (scope_at at) rest sound chosen fits free) stop
 
 punctuator_leads : (located_token : LocatedToken) (depth : ℕ) (symbol : Symbol) (m : Punctuator) (items : List Item)
-    (trees : List PartialTree) (known : Scope) (rest : List LocatedToken) →
+    (trees : List PartialTree) (in_scope : Scope) (rest : List LocatedToken) →
     is_lexical_error located_token.token ≡ false →
     Chooses symbol located_token.token (Exactly m ∷ items) → is_punctuator m located_token.token ≡ true →
     IsFree depth symbol located_token →
-    Leads depth (Part symbol ∷ []) items trees trees known known (located_token ∷ rest) rest
-punctuator_leads located_token depth symbol m items trees known rest sound chosen fits free = record {
+    Leads depth (Part symbol ∷ []) items trees trees in_scope in_scope (located_token ∷ rest) rest
+punctuator_leads located_token depth symbol m items trees in_scope rest sound chosen fits free = record {
   passes = λ profile stack values functions depths.
       then profile _ _ _
-      (part profile symbol (Exactly m ∷ items) stack (located_token ∷ rest) _ known functions sound
+      (part profile symbol (Exactly m ∷ items) stack (located_token ∷ rest) _ in_scope functions sound
       (chosen (next_token rest)) (free stack rest depths))
-      (punctuator profile m _ (located_token ∷ rest) _ known functions sound fits);
+      (punctuator profile m _ (located_token ∷ rest) _ in_scope functions sound fits);
 }
 
 pub punctuator_past : (at there : UnreadPosition) (depth : ℕ) (symbol : Symbol) (m : Punctuator) (items : List Item)
@@ -177,7 +178,7 @@ punctuator_stops at d depth symbol m items trees sound chosen fits free stop =
     stops at.lookahead.cursor (scope_at at) (scope_at at) at.to_come d depth (Part symbol ∷ []) items trees trees
     (λ rest b. punctuator_leads (next_at at) depth symbol m items trees (scope_at at) rest sound chosen fits free) stop
 
--- A level beyond the last one.
+-- Nested too deeply.
 
 pub word_too_deep : (at : UnreadPosition) (n : ℕ) (near : IsNearTo at.lookahead.cursor n) (depth : ℕ) (symbol : Symbol)
     (w : Keyword) (items : List Item) (trees : List PartialTree) → is_lexical_error (next_at at).token ≡ false →
@@ -220,20 +221,21 @@ pub record MakesOnly (rule : SemanticAction) (taken left : List PartialTree) : T
       item_faults profile (Make rule) (state stack rest values scope functions) ≡ []
 
 pub make_leads : (located_token : LocatedToken) (depth : ℕ) (rule : SemanticAction) (taken left : List PartialTree)
-    (known : Scope) (rest : List LocatedToken) → is_lexical_error located_token.token ≡ false →
+    (in_scope : Scope) (rest : List LocatedToken) → is_lexical_error located_token.token ≡ false →
     MakesOnly rule taken left →
-    Leads depth (Make rule ∷ []) [] taken left known known (located_token ∷ rest) (located_token ∷ rest)
-make_leads located_token depth rule taken left known rest sound m = record {
+    Leads depth (Make rule ∷ []) [] taken left in_scope in_scope (located_token ∷ rest) (located_token ∷ rest)
+make_leads located_token depth rule taken left in_scope rest sound m = record {
   passes = λ profile stack values functions depths.
-      let same : state stack (located_token ∷ rest) (trees_after rule (taken ++ values)) (scope_after_action rule known)
-      (functions ++ functions_defined rule (taken ++ values) known) ≡
-      state stack (located_token ∷ rest) (left ++ values) known functions =
-      rw (m.makes values, m.learns known, m.defines (taken ++ values) known, append-nil functions) refl in
+      let same : state stack (located_token ∷ rest) (trees_after rule (taken ++ values))
+      (scope_after_action rule in_scope)
+      (functions ++ functions_defined rule (taken ++ values) in_scope) ≡
+      state stack (located_token ∷ rest) (left ++ values) in_scope functions =
+      rw (m.makes values, m.learns in_scope, m.defines (taken ++ values) in_scope, append-nil functions) refl in
       subst
       (λ (t : State). DerivesWithoutFault profile
-      (state (Make rule ∷ stack) (located_token ∷ rest) (taken ++ values) known functions) t) same
-      (make profile rule stack (located_token ∷ rest) (taken ++ values) known functions sound
-      (m.clean profile stack (located_token ∷ rest) (taken ++ values) known functions));
+      (state (Make rule ∷ stack) (located_token ∷ rest) (taken ++ values) in_scope functions) t) same
+      (make profile rule stack (located_token ∷ rest) (taken ++ values) in_scope functions sound
+      (m.clean profile stack (located_token ∷ rest) (taken ++ values) in_scope functions));
 }
 
 pub make_stands : (at : UnreadPosition) (depth : ℕ) (rule : SemanticAction) (taken left : List PartialTree) →
@@ -243,14 +245,15 @@ make_stands at depth rule taken left sound m =
     stand at depth (Make rule ∷ []) [] taken left
     (λ tail b. make_leads (next_at at) depth rule taken left (scope_at at) tail sound m)
 
-close_leads : (located_token : LocatedToken) (depth : ℕ) (trees : List PartialTree) (known : Scope)
+close_leads : (located_token : LocatedToken) (depth : ℕ) (trees : List PartialTree) (in_scope : Scope)
     (rest : List LocatedToken)
     → is_lexical_error located_token.token ≡ false →
-    Leads depth (Close ∷ []) [] trees trees known known (located_token ∷ rest) (located_token ∷ rest)
-close_leads located_token depth trees known rest sound =
+    Leads depth (Close ∷ []) [] trees trees in_scope in_scope (located_token ∷ rest) (located_token ∷ rest)
+close_leads located_token depth trees in_scope rest sound =
     record {
       passes =
-          λ profile stack values functions depths. close profile stack (located_token ∷ rest) _ known functions sound;
+          λ profile stack values functions depths. close profile stack (located_token ∷ rest) _ in_scope functions
+          sound;
     }
 
 pub close_stands : (at : UnreadPosition) (depth : ℕ) (trees : List PartialTree) →

@@ -1,4 +1,4 @@
--- What a production adds to a segment of the derivation: its choice, its punctuators, the trees made and the level
+-- What a production adds to a segment of the derivation: its choice, its punctuators, the trees made and the nesting
 -- closed.
 use Rattle.std.proofs.Common.{◌≡◌, ℕ, ◌+◌, ◌<◌, ◌≤◌, List, [], ◌∷◌, ◌++◌, refl, ap, Bool, true, false, arith, eqb}
 use Rattle.std.proofs.lemmas.Bool.Decides.{nat_tests}
@@ -71,19 +71,19 @@ pub record Chooses (at : UnreadPosition) (symbol : Symbol) (items : List Item) :
   pub sound : is_lexical_error (next_at at).token ≡ false
   pub is : WithAfter at (λ after. choice symbol (next_at at).token after ≡ Some items)
 
--- the production enters no level
+-- the production isn't nested
 abbrev pub EntersNone : UnreadPosition → Symbol → Type 0
 EntersNone at symbol = WithAfter at (λ after. enters symbol (next_at at).token after ≡ false)
 
 -- it enters one
-abbrev pub EntersLevel : UnreadPosition → Symbol → Type 0
-EntersLevel at symbol = WithAfter at (λ after. enters symbol (next_at at).token after ≡ true)
+abbrev pub IsNested : UnreadPosition → Symbol → Type 0
+IsNested at symbol = WithAfter at (λ after. enters symbol (next_at at).token after ≡ true)
 
 free : (n : ℕ) (opened : Bool) (rest : List LocatedToken) → opened ≡ false →
     only_if opened (only_if (nat_le most_nested n) (fault rest fault_code.NestedTooDeeply ∷ [])) ≡ []
 free n opened rest none = rw none refl
 
--- a production that enters no level is chosen
+-- a production that isn't nested is chosen
 pub chosen : (at : UnreadPosition) (depth : ℕ) (symbol : Symbol) (items : List Item) (kept : List PartialTree) →
     Chooses at symbol items → EntersNone at symbol →
     Derives depth (Part symbol ∷ []) items kept kept at at
@@ -95,7 +95,7 @@ chosen at depth symbol items kept c none = stand at depth (Part symbol ∷ []) i
       (none (next_token tail) (next_behind at tail b)));
 })
 
--- one that may open a level, if there is a level left
+-- one that may be nested, if that many may be open
 pub chosen_within : (at : UnreadPosition) (depth : ℕ) (symbol : Symbol) (items : List Item) → Chooses at symbol items →
     depth < 64 → Derives depth (Part symbol ∷ []) items [] [] at at
 chosen_within at depth symbol items c shallow = stand at depth (Part symbol ∷ []) items [] [] (λ tail b. record {
@@ -106,10 +106,10 @@ chosen_within at depth symbol items c shallow = stand at depth (Part symbol ∷ 
       (rw depths shallow));
 })
 
--- one that would open a level beyond the last one, by a punctuator
+-- one that would be nested too deeply, by a punctuator
 pub punctuator_too_deep : (at : UnreadPosition) (used : ℕ) (near : IsNearTo at.lookahead.cursor used) (depth : ℕ)
     (symbol : Symbol) (m : Punctuator) (items : List Item) → Chooses at symbol (Exactly m ∷ items) →
-    EntersLevel at symbol →
+    IsNested at symbol →
     is_punctuator m (next_at at).token ≡ true → 64 ≤ depth →
     FailsAt depth (Part symbol ∷ []) [] at
     (stop_with (parse_fault.Source (diagnostic (next_at at).line fault_code.NestedTooDeeply)) used)
@@ -123,7 +123,7 @@ punctuator_too_deep at used near depth symbol m items c opened fits deep =
 -- by a name
 pub name_too_deep : (at : UnreadPosition) (used : ℕ) (near : IsNearTo at.lookahead.cursor used) (depth : ℕ)
     (symbol : Symbol)
-    (role : Role) (name : List ℕ) (items : List Item) → Chooses at symbol (AName role ∷ items) → EntersLevel at symbol →
+    (role : Role) (name : List ℕ) (items : List Item) → Chooses at symbol (AName role ∷ items) → IsNested at symbol →
     name_of_token (next_at at).token ≡ Some name → 64 ≤ depth →
     FailsAt depth (Part symbol ∷ []) [] at
     (stop_with (parse_fault.Source (diagnostic (next_at at).line fault_code.NestedTooDeeply)) used)
@@ -151,7 +151,7 @@ none_chosen at used near depth symbol sound none opened =
 
 -- The trees made.
 
--- a tree is made, and the level is closed
+-- a tree is made, and the nested production is closed
 pub makes_and_closes : (at : UnreadPosition) (depth : ℕ) (rule : SemanticAction) (taken left : List PartialTree) →
     is_lexical_error (next_at at).token ≡ false → MakesOnly rule taken left →
     Derives depth (Make rule ∷ Close ∷ []) [] taken left at at

@@ -9,11 +9,11 @@ use Rattle.grammar.proofs.FollowingLaws.{Leads, follow_append, origin_of, pushed
 use Rattle.grammar.proofs.RepresentationLaws.{stands_then, may_first, may_then}
 use Rattle.parser.specs.Room.{HasRoom}
 
--- one after others that were told
+-- one after others that were reported
 pub next_follows : (before now : Representation) (acts : List Action) (action : Action) (more : List Action) →
     MayFollowAll before (acts ++ action ∷ more) → AppendsAll before now acts → MayFollow now action
-next_follows before now acts action more f told =
-    may_first now action more (may_then before now acts (action ∷ more) told f)
+next_follows before now acts action more f reported =
+    may_first now action more (may_then before now acts (action ∷ more) reported f)
 
 -- actions that lead on from what is open
 pub all_follow : (before : Representation) (opened next : Opened) (more : List Action) → LeavesOpen before opened →
@@ -37,10 +37,10 @@ pub room_behind : (before now : Representation) (n : ℕ) (acts : List Action) (
     (next : Opened) →
     LeavesOpen before opened → AppendsAll before now acts →
     Leads acts opened (inner ∷ next) → open_count (inner ∷ next) + n ≤ 200 → HasRoom now n
-room_behind before now n acts opened inner next s told leads small = record {
+room_behind before now n acts opened inner next s reported leads small = record {
   outer = inner;
   opened = next;
-  stands = stands_then before now acts opened (inner ∷ next) told s leads.is;
+  stands = stands_then before now acts opened (inner ∷ next) reported s leads.is;
   few = small;
 }
 

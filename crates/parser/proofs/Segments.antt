@@ -76,12 +76,12 @@ told_begins at located_tokens e = goes_begins at located_tokens (told_goes at lo
 
 -- Steps of the derivation.
 
--- these items in front, with these trees on top and these names known, pass to those, whatever is below and after
-pub record Leads (depth : ℕ) (front pending : List Item) (taken left : List PartialTree) (known learnt : Scope)
+-- these items in front, with these trees on top and these names in scope, pass to those, whatever is below and after
+pub record Leads (depth : ℕ) (front pending : List Item) (taken left : List PartialTree) (in_scope learnt : Scope)
     (located_tokens rest : List LocatedToken) : Type 0 where
   pub passes : (profile : Profile) (stack : List Item) (values : List PartialTree) (functions : List Definition) →
       nested_count stack ≡ depth →
-      DerivesWithoutFault profile (state (front ++ stack) located_tokens (taken ++ values) known functions)
+      DerivesWithoutFault profile (state (front ++ stack) located_tokens (taken ++ values) in_scope functions)
       (state (pending ++ stack) rest (left ++ values) learnt functions)
 
 -- no token is passed
@@ -120,43 +120,43 @@ behind_past cursor learnt more there goes rest g = record {
   is = λ last. g.is ∙ rw goes.next refl;
 }
 
-follows_past : (cursor : Cursor) (known learnt : Scope) (more : Option (List ℕ)) (there : UnreadPosition) →
+follows_past : (cursor : Cursor) (in_scope learnt : Scope) (more : Option (List ℕ)) (there : UnreadPosition) →
     GoesPast (position_of (record { cursor = cursor; scope = learnt }) more) there →
     (rest : List LocatedToken) → MayContinue there rest →
-    MayContinue (position_of (record { cursor = cursor; scope = known }) more) (cursor.next ∷ rest)
-follows_past cursor known learnt more there goes rest g =
+    MayContinue (position_of (record { cursor = cursor; scope = in_scope }) more) (cursor.next ∷ rest)
+follows_past cursor in_scope learnt more there goes rest g =
     let last : is_last cursor.next.token ≡ false = goes.more in
     record {
       behind = followed_by there.lookahead.cursor.after g.behind;
       is = rw last (ap (λ (ls : List LocatedToken). cursor.next ∷ ls) (g.is ∙ rw goes.next refl));
     }
 
-takes_past : (cursor : Cursor) (known learnt : Scope) (more : Option (List ℕ)) (there : UnreadPosition) →
+takes_past : (cursor : Cursor) (in_scope learnt : Scope) (more : Option (List ℕ)) (there : UnreadPosition) →
     GoesPast (position_of (record { cursor = cursor; scope = learnt }) more) there →
     (located_tokens : List LocatedToken) →
-    tokens_at (position_of (record { cursor = cursor; scope = known }) more) ≡ Some located_tokens →
+    tokens_at (position_of (record { cursor = cursor; scope = in_scope }) more) ≡ Some located_tokens →
     TakesTokens (cursor.next ∷ []) located_tokens there
-takes_past cursor known learnt more there goes located_tokens is =
+takes_past cursor in_scope learnt more there goes located_tokens is =
     let b : Begins cursor located_tokens =
-    told_begins (position_of (record { cursor = cursor; scope = known }) more) located_tokens is in
+    told_begins (position_of (record { cursor = cursor; scope = in_scope }) more) located_tokens is in
     record { rest = b.tail; is = b.is; shows = goes.told cursor.next b.tail (is ∙ ap Some b.is) }
 
--- one token is passed, after which these names are known
-pub past : (cursor : Cursor) (known learnt : Scope) (more : Option (List ℕ)) (there : UnreadPosition) (depth : ℕ)
+-- one token is passed, after which these names are in scope
+pub past : (cursor : Cursor) (in_scope learnt : Scope) (more : Option (List ℕ)) (there : UnreadPosition) (depth : ℕ)
     (front pending : List Item) (taken left : List PartialTree) →
     GoesPast (position_of (record { cursor = cursor; scope = learnt }) more) there →
     ((rest : List LocatedToken) → IsBehind cursor rest →
-    Leads depth front pending taken left known learnt (cursor.next ∷ rest) rest) →
-    Derives depth front pending taken left (position_of (record { cursor = cursor; scope = known }) more) there
-past cursor known learnt more there depth front pending taken left goes leads = record {
+    Leads depth front pending taken left in_scope learnt (cursor.next ∷ rest) rest) →
+    Derives depth front pending taken left (position_of (record { cursor = cursor; scope = in_scope }) more) there
+past cursor in_scope learnt more there depth front pending taken left goes leads = record {
   consumed = cursor.next ∷ [];
-  told = takes_past cursor known learnt more there goes;
-  follows = follows_past cursor known learnt more there goes;
+  told = takes_past cursor in_scope learnt more there goes;
+  follows = follows_past cursor in_scope learnt more there goes;
   passes = λ rest g profile stack values functions depths.
       let b : IsBehind cursor rest = behind_past cursor learnt more there goes rest g in
       subst
       (λ (s : Scope). DerivesWithoutFault profile
-      (state (front ++ stack) (cursor.next ∷ rest) (taken ++ values) known functions)
+      (state (front ++ stack) (cursor.next ∷ rest) (taken ++ values) in_scope functions)
       (state (pending ++ stack) rest (left ++ values) s functions))
       (sym goes.scope) ((leads rest b).passes profile stack values functions depths);
 }
@@ -286,22 +286,22 @@ fails_at_next depth front taken at d n near fails located_tokens is profile stac
     (stop_with (parse_fault.Source d) n) here bound
 
 -- the token after the one that was passed is a lexical error, or the device failed
-pub stops : (cursor : Cursor) (known learnt : Scope) (more : Option (List ℕ)) (d : Stop) (depth : ℕ)
+pub stops : (cursor : Cursor) (in_scope learnt : Scope) (more : Option (List ℕ)) (d : Stop) (depth : ℕ)
     (front pending : List Item) (taken left : List PartialTree) →
     ((rest : List LocatedToken) → IsBehind cursor rest →
-    Leads depth front pending taken left known learnt (cursor.next ∷ rest) rest) →
+    Leads depth front pending taken left in_scope learnt (cursor.next ∷ rest) rest) →
     StopsAt (position_of (record { cursor = cursor; scope = learnt }) more) d →
-    FailsAt depth front taken (position_of (record { cursor = cursor; scope = known }) more) d
-stops cursor known learnt more d depth front pending taken left leads stop located_tokens is profile stack values
+    FailsAt depth front taken (position_of (record { cursor = cursor; scope = in_scope }) more) d
+stops cursor in_scope learnt more d depth front pending taken left leads stop located_tokens is profile stack values
     functions depths =
     let b : Begins cursor located_tokens =
-    told_begins (position_of (record { cursor = cursor; scope = known }) more) located_tokens is in
+    told_begins (position_of (record { cursor = cursor; scope = in_scope }) more) located_tokens is in
     let behind : b.tail ≡ cursor.after ∷ b.behind.others = b.behind.is stop.more in
     let t : State = state (pending ++ stack) b.tail (left ++ values) learnt functions in
     let fails : IfSource d.fault (Fails profile t) =
     lexical_error_fails d.fault b.tail b.behind.others behind stop.lexical_error in
     let last : d.taken ≤ most_taken d.fault b.tail = stop.taken cursor.next b.tail (is ∙ ap Some b.is) in
-    rw b.is (inside_back profile (state (front ++ stack) (cursor.next ∷ b.tail) (taken ++ values) known functions)
+    rw b.is (inside_back profile (state (front ++ stack) (cursor.next ∷ b.tail) (taken ++ values) in_scope functions)
     t d
     (cursor.next ∷ []) refl refl
     ((leads b.tail b.behind).passes profile stack values functions depths) (inside_here profile t d fails last))

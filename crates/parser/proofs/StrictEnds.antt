@@ -8,17 +8,17 @@ use Rattle.tokens.specs.Tokens.{UnreadSource, ahead_after, at_end, last_located_
 use Rattle.tokens.specs.declared.located_tokens.LexicalError.TheVariants.{CommentNotClosed}
 use Rattle.tokens.specs.declared.located_tokens.Token.TheVariants as variant
 use Rattle.tokens.specs.declared.located_tokens.LocatedToken.{LocatedToken}
-use Rattle.tokens.proofs.EndLemmas.{IsInside, tokens_within-by, input_element-inside, over, place-inside}
+use Rattle.tokens.proofs.EndLemmas.{IsInside, tokens_within-by, input_element-inside, over, offset-inside}
 use Rattle.tokens.proofs.LocatedTokensLemmas.{IsPiece, input_element-is_piece, here}
-use Rattle.tokens.proofs.TakenLemmas.{place-ahead_after}
+use Rattle.tokens.proofs.TakenLemmas.{offset-ahead_after}
 use Rattle.grammar.specs.Derivation.{is_end}
 
 -- each token ends after this offset and after the one ahead of it, the source's end perhaps with it; the last is last
 abbrev pub IsCut : ℕ → List LocatedToken → Type 0
-IsCut place [] = Unit {0}
-IsCut place (x ∷ others) =
-    (place ≤ x.end) ×
-    ((is_end x.token ≡ false → place < x.end) × ((is_last x.token ≡ true → others ≡ []) × IsCut x.end others))
+IsCut offset [] = Unit {0}
+IsCut offset (x ∷ others) =
+    (offset ≤ x.end) ×
+    ((is_end x.token ≡ false → offset < x.end) × ((is_last x.token ≡ true → others ≡ []) × IsCut x.end others))
 
 cut_sooner : (p q : ℕ) (xs : List LocatedToken) → q ≤ p → IsCut p xs → IsCut q xs
 cut_sooner p q [] h r = tt
@@ -27,41 +27,41 @@ cut_sooner p q (x ∷ xs) h r = (omega (arith, h, r.0), ((λ other. omega (arith
 -- The last token.
 
 -- the source's end
-closing_end : (place line : ℕ) (end : UnreadSource) → place ≤ end.offset →
-    IsCut place (last_located_token variant.End line end ∷ [])
-closing_end place line end h = by end.too_long
+closing_end : (offset line : ℕ) (end : UnreadSource) → offset ≤ end.offset →
+    IsCut offset (last_located_token variant.End line end ∷ [])
+closing_end offset line end h = by end.too_long
   where
-    by : (t : Bool) → IsCut place (last_located_token variant.End line (here end.line end.offset end.bytes t) ∷ [])
+    by : (t : Bool) → IsCut offset (last_located_token variant.End line (here end.line end.offset end.bytes t) ∷ [])
     by true = (omega (arith, h), ((λ other. omega (arith, h)), ((λ last. refl), tt)))
     by false = (h, ((λ other. absurd (cc)), ((λ last. refl), tt)))
 
 -- a comment that is open there, of which something was passed
-closing_open : (place line : ℕ) (end : UnreadSource) → place < end.offset →
-    IsCut place (last_located_token (variant.Fault CommentNotClosed) line end ∷ [])
-closing_open place line end h = by end.too_long
+closing_open : (offset line : ℕ) (end : UnreadSource) → offset < end.offset →
+    IsCut offset (last_located_token (variant.Fault CommentNotClosed) line end ∷ [])
+closing_open offset line end h = by end.too_long
   where
     by : (t : Bool) →
-        IsCut place
+        IsCut offset
         (last_located_token (variant.Fault CommentNotClosed) line (here end.line end.offset end.bytes t) ∷ [])
     by true = (omega (arith, h), ((λ other. omega (arith, h)), ((λ last. refl), tt)))
     by false = (omega (arith, h), ((λ other. h), ((λ last. refl), tt)))
 
 -- All tokens.
 
-cut_strictly : (n line place : ℕ) (bytes : List ℕ) (too_long : Bool) →
-    IsCut place (tokens_within n (here line place bytes too_long))
-cut_strictly zero line place bytes t = tt
-cut_strictly (suc n) line place [] t =
-    closing_end place line (at_end (here line place [] t)) (place-ahead_after 0 (here line place [] t))
-cut_strictly (suc n) line place (b ∷ bytes) t =
+cut_strictly : (n line offset : ℕ) (bytes : List ℕ) (too_long : Bool) →
+    IsCut offset (tokens_within n (here line offset bytes too_long))
+cut_strictly zero line offset bytes t = tt
+cut_strictly (suc n) line offset [] t =
+    closing_end offset line (at_end (here line offset [] t)) (offset-ahead_after 0 (here line offset [] t))
+cut_strictly (suc n) line offset (b ∷ bytes) t =
     by (input_element (b ∷ bytes)) (input_element-inside (b ∷ bytes)) (input_element-is_piece (b ∷ bytes)) (λ count.
     let p = ahead_after count a in cut_strictly n p.line p.offset p.bytes p.too_long)
   where
     a : UnreadSource
-    a = here line place (b ∷ bytes) t
+    a = here line offset (b ∷ bytes) t
 
-    end_is : (at_end a).offset ≡ place + length (b ∷ bytes)
-    end_is = place-inside (length (b ∷ bytes)) a (omega arith)
+    end_is : (at_end a).offset ≡ offset + length (b ∷ bytes)
+    end_is = offset-inside (length (b ∷ bytes)) a (omega arith)
 
     followed : (last : Bool) (p : ℕ) (xs : List LocatedToken) → IsCut p xs → IsCut p (cond last [] xs)
     followed true p xs r = tt
@@ -72,18 +72,18 @@ cut_strictly (suc n) line place (b ∷ bytes) t =
 
     by : (f : InputElement) → IsInside (b ∷ bytes) f → IsPiece f →
         ((count : ℕ) → IsCut (ahead_after count a).offset (tokens_within n (ahead_after count a))) →
-        IsCut place (tokens_of_element f a (tokens_within n))
-    by Nothing i p h = closing_end place line (at_end a) (omega (arith, end_is))
-    by Unclosed i p h = closing_open place line (at_end a) (omega (arith, end_is))
-    by (Space count) i p h = cut_sooner _ _ _ (place-ahead_after count a) (h count)
+        IsCut offset (tokens_of_element f a (tokens_within n))
+    by Nothing i p h = closing_end offset line (at_end a) (omega (arith, end_is))
+    by Unclosed i p h = closing_open offset line (at_end a) (omega (arith, end_is))
+    by (Space count) i p h = cut_sooner _ _ _ (offset-ahead_after count a) (h count)
     by (Lexeme sign count) i p h = (
       omega arith,
       (
         (λ other. omega (arith, p)),
         (
           (λ last. alone (is_last sign) _ last),
-          followed (is_last sign) (place + count) _
-              (subst (λ (q : ℕ). IsCut q (tokens_within n (ahead_after count a))) (place-inside count a i) (h count)),
+          followed (is_last sign) (offset + count) _
+              (subst (λ (q : ℕ). IsCut q (tokens_within n (ahead_after count a))) (offset-inside count a i) (h count)),
         ),
       ),
     )
@@ -100,9 +100,9 @@ pub record IsCutBehind (rest : List LocatedToken) : Type 0 where
   pub position : ℕ
   pub is : IsCut position rest
 
-pub cut_behind : (place : ℕ) (before rest : List LocatedToken) → IsCut place (before ++ rest) → IsCutBehind rest
-cut_behind place [] rest h = record { position = place; is = h }
-cut_behind place (x ∷ before) rest h = cut_behind x.end before rest h.1.1.1
+pub cut_behind : (offset : ℕ) (before rest : List LocatedToken) → IsCut offset (before ++ rest) → IsCutBehind rest
+cut_behind offset [] rest h = record { position = offset; is = h }
+cut_behind offset (x ∷ before) rest h = cut_behind x.end before rest h.1.1.1
 
 -- No token ends after the longest source and one byte more.
 

@@ -28,7 +28,7 @@ use Rattle.parser.specs.declared.unary_ops.UnaryOp.TheVariants as unary_op
 use Rattle.parser.specs.Expressions.{AddsExpr}
 use Rattle.parser.specs.UnaryOps.{actions_before_operand, actions_after_operand, unary_punctuator, unary_action, unary_tree}
 use Rattle.parser.proofs.Parts.{MakesOnly, punctuator_is}
-use Rattle.parser.proofs.Productions.{Chooses, EntersLevel, chosen_within, item_done, makes_and_closes, punctuator_ends, punctuator_past, punctuator_sound, punctuator_too_deep}
+use Rattle.parser.proofs.Productions.{Chooses, IsNested, chosen_within, item_done, makes_and_closes, punctuator_ends, punctuator_past, punctuator_sound, punctuator_too_deep}
 use Rattle.parser.proofs.ReportingLaws.{all_follow, room_behind}
 use Rattle.grammar.proofs.RepresentationLaws.{appends_both, may_then}
 use Rattle.tokens.specs.Cursors.{IsNearTo}
@@ -57,9 +57,9 @@ sign_chooses at s fits = record {
       (sign_choice s after);
 }
 
-sign_enters_level : (at : UnreadPosition) (s : UnaryOp) → is_punctuator (unary_punctuator s) (next_at at).token ≡ true →
-    EntersLevel at Unary
-sign_enters_level at s fits after more =
+sign_is_nested : (at : UnreadPosition) (s : UnaryOp) → is_punctuator (unary_punctuator s) (next_at at).token ≡ true →
+    IsNested at Unary
+sign_is_nested at s fits after more =
     let t : (next_at at).token ≡ token.Punctuator (unary_punctuator s) =
     punctuator_is (unary_punctuator s) (next_at at).token fits in
     rw t (sign_enters s after)
@@ -94,7 +94,7 @@ pub sign_too_deep : (at : UnreadPosition) (used : ℕ) (near : IsNearTo at.looka
     (stop_with (parse_fault.Source (diagnostic (next_at at).line fault_code.NestedTooDeeply)) used)
 sign_too_deep at used near depth s fits deep =
     punctuator_too_deep at used near depth Unary (unary_punctuator s) (Part Unary ∷ Make (unary_action s) ∷ Close ∷ [])
-    (sign_chooses at s fits) (sign_enters_level at s fits) fits deep
+    (sign_chooses at s fits) (sign_is_nested at s fits) fits deep
 
 sign_stands : (at : UnreadPosition) (depth : ℕ) (s : UnaryOp) →
     is_punctuator (unary_punctuator s) (next_at at).token ≡ true →
@@ -135,7 +135,7 @@ operand_refused used at now depth s denied f fits shallow goes =
     denied denied f
     (sign_past at now depth s fits shallow goes) (λ stack same. ap (λ n. n + 1) same) (λ same. same)
 
--- What is told.
+-- What is reported.
 
 sign_actions : (s : UnaryOp) (e : Expr) →
     expr_actions (unary_tree s e) ≡ actions_before_operand s ++ (expr_actions e ++ actions_after_operand s)
@@ -168,52 +168,53 @@ before_follows before unary_op.Complement n h =
 pub operand_room : (before now : Representation) (s : UnaryOp) (depth : ℕ) → depth < 64 →
     HasRoom before (room depth 11) →
     AppendsAll before now (actions_before_operand s) → HasRoom now (room (depth + 1) 11)
-operand_room before now unary_op.Negation depth shallow h told =
+operand_room before now unary_op.Negation depth shallow h reported =
     let few : open_count (h.outer ∷ h.opened) + room depth 11 ≤ 200 = h.few in
     room_behind before now (room (depth + 1) 11) (PushConstant (pos 0) ∷ []) (h.outer ∷ h.opened)
-    (AValue (Number (pos 0))) (h.outer ∷ h.opened) h.stands told
+    (AValue (Number (pos 0))) (h.outer ∷ h.opened) h.stands reported
     (act (PushConstant (pos 0)) (h.outer ∷ h.opened) (AValue (Number (pos 0)) ∷ h.outer ∷ h.opened) refl (omega arith))
     (omega arith)
-operand_room before now unary_op.Denial depth shallow h told =
+operand_room before now unary_op.Denial depth shallow h reported =
     let few : open_count (h.outer ∷ h.opened) + room depth 11 ≤ 200 = h.few in
-    room_behind before now (room (depth + 1) 11) [] (h.outer ∷ h.opened) h.outer h.opened h.stands told
+    room_behind before now (room (depth + 1) 11) [] (h.outer ∷ h.opened) h.outer h.opened h.stands reported
     (record { is = refl }) (omega arith)
-operand_room before now unary_op.Complement depth shallow h told =
+operand_room before now unary_op.Complement depth shallow h reported =
     let few : open_count (h.outer ∷ h.opened) + room depth 11 ≤ 200 = h.few in
-    room_behind before now (room (depth + 1) 11) [] (h.outer ∷ h.opened) h.outer h.opened h.stands told
+    room_behind before now (room (depth + 1) 11) [] (h.outer ∷ h.opened) h.outer h.opened h.stands reported
     (record { is = refl }) (omega arith)
 
--- the operand was told; what follows it may follow
-pub behind_follows : (before told now : Representation) (s : UnaryOp) (e : Expr) (depth : ℕ) → depth < 64 →
-    HasRoom before (room depth 11) → AppendsAll before told (actions_before_operand s) →
-    InExpr 64 64 64 e → nesting e ≤ room (depth + 1) 11 → AppendsAll told now (expr_actions e) →
+-- the operand was reported; what follows it may follow
+pub behind_follows : (before reported now : Representation) (s : UnaryOp) (e : Expr) (depth : ℕ) → depth < 64 →
+    HasRoom before (room depth 11) → AppendsAll before reported (actions_before_operand s) →
+    InExpr 64 64 64 e → nesting e ≤ room (depth + 1) 11 → AppendsAll reported now (expr_actions e) →
     MayFollowAll now (actions_after_operand s)
-behind_follows before told now s e depth shallow h first numbered narrow second =
+behind_follows before reported now s e depth shallow h first numbered narrow second =
     let few : open_count (h.outer ∷ h.opened) + room depth 11 ≤ 200 = h.few in
     let small : nesting (unary_tree s e) ≤ room (depth + 1) 11 = sign_narrow s e (room (depth + 1) 11) narrow in
     let leads : Leads (expr_actions (unary_tree s e)) (h.outer ∷ h.opened)
     (AValue (origin_of (unary_tree s e)) ∷ h.outer ∷ h.opened) =
     expr_leads (unary_tree s e) h.outer h.opened (sign_numbered s e numbered) (omega arith) in
-    may_then told now (expr_actions e) (actions_after_operand s) second
-    (may_then before told (actions_before_operand s) (expr_actions e ++ actions_after_operand s) first
+    may_then reported now (expr_actions e) (actions_after_operand s) second
+    (may_then before reported (actions_before_operand s) (expr_actions e ++ actions_after_operand s) first
     (subst (λ (xs : List Action). MayFollowAll before xs) (sign_actions s e)
     (all_follow before (h.outer ∷ h.opened) (AValue (origin_of (unary_tree s e)) ∷ h.outer ∷ h.opened)
     (expr_actions (unary_tree s e)) h.stands leads)))
 
-pub sign_adds : (before told mid after : Representation) (at now there : UnreadPosition) (depth : ℕ) (s : UnaryOp) →
+pub sign_adds : (before reported mid after : Representation) (at now there : UnreadPosition) (depth : ℕ) (s : UnaryOp) →
     is_punctuator (unary_punctuator s) (next_at at).token ≡ true → depth < 64 → GoesPast at now →
-    AppendsAll before told (actions_before_operand s) →
-    AddsExpr told mid (depth + 1) 11 (Part Unary ∷ []) [] now there →
+    AppendsAll before reported (actions_before_operand s) →
+    AddsExpr reported mid (depth + 1) 11 (Part Unary ∷ []) [] now there →
     AppendsAll mid after (actions_after_operand s) → is_lexical_error (next_at there).token ≡ false →
     AddsExpr before after depth 11 (Part Unary ∷ []) [] at there
-sign_adds before told mid after at now there depth s fits shallow goes first h last sound = record {
+sign_adds before reported mid after at now there depth s fits shallow goes first h last sound = record {
   tree = unary_tree s h.tree;
   numbered = sign_numbered s h.tree h.numbered;
   narrow = sign_narrow s h.tree (room depth 11)
       (let small : nesting h.tree ≤ room (depth + 1) 11 = h.narrow in omega arith);
   added = subst (λ (xs : List Action). AppendsAll before after xs) (sym (sign_actions s h.tree))
-      (appends_both before told after (actions_before_operand s) (expr_actions h.tree ++ actions_after_operand s) first
-      (appends_both told mid after (expr_actions h.tree) (actions_after_operand s) h.added last));
+      (appends_both before reported after (actions_before_operand s) (expr_actions h.tree ++ actions_after_operand s)
+      first
+      (appends_both reported mid after (expr_actions h.tree) (actions_after_operand s) h.added last));
   derives =
       joined depth depth (Part Unary ∷ []) (Make (unary_action s) ∷ Close ∷ []) [] [] [] (AnExpr h.tree ∷ [])
       (AnExpr (unary_tree s h.tree) ∷ []) [] at there there

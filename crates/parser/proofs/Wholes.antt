@@ -39,7 +39,7 @@ use Rattle.parser.specs.Stopping.{NoFaultBefore, Stop, Stops, stop_with}
 use Rattle.parser.specs.Segment.{Refused, StopsFirst, StopsAtFirst, TakesTokens}
 use Rattle.parser.proofs.Segments.{functions_here, near_told, none_back, none_before, stops_here, told_goes}
 use Rattle.parser.specs.ParsedFiles.{BuildsAhead, FailsBytes, HasBuilt, LeavesUndecided, ParsesToFile, IsNew, ParseIsRefused, StopsTaking, TakesNoMore, TakesUpTo}
-use Rattle.parser.specs.Progress.{ADefinition, AMain, IsComplete, HasReported, LacksDefinition, ReadsOn, StopsPart, StopsTelling, at_source}
+use Rattle.parser.specs.Progress.{ADefinition, AMain, IsComplete, HasReported, LacksDefinition, ReadsOn, StopsPart, StopsReporting, at_source}
 use Rattle.parser.proofs.Built.{IsAmongDefined, built_by_stop}
 
 end_is : (t : Token) → is_end t ≡ true → t ≡ token.End
@@ -139,7 +139,8 @@ whole_file before after told at there names new w complete same closed =
       resolved = f.resolved;
       named = same ∙ f.named;
       main = rw same f.main;
-      built = λ profile h. subst (λ (acts : List Action). after profile acts) (sym f.told) (w.reads.added profile [] h);
+      built =
+          λ profile h. subst (λ (acts : List Action). after profile acts) (sym f.reported) (w.reads.added profile [] h);
       closed = closed;
       is =
           λ bytes shows profile h. compiled_as profile bytes (all_of before after told at there w) (Ok f.file)
@@ -247,7 +248,7 @@ stops_reading : (before after : Representation) (told : Option (List ℕ)) (at :
     (bytes : List ℕ) → told ≡ Some bytes → (profile : Profile) → before profile [] →
     Stops profile (initial_state (tokens bytes)) stop
 stops_reading before after told at stop nothing tells stops bytes shows profile h =
-    subst (λ (known : Scope). Stops profile (state at_source (tokens bytes) [] known []) stop) nothing
+    subst (λ (in_scope : Scope). Stops profile (state at_source (tokens bytes) [] in_scope []) stop) nothing
     (stops (tokens bytes) (tells ∙ ap (option_map tokens) shows) profile [] h).stops
 
 pub stops_taking : (used : ℕ) (before after : Representation) (told to_come : Option (List ℕ)) (at : UnreadPosition)
@@ -302,7 +303,7 @@ whole_takes used before after told to_come at there w near taken bytes shows pro
     let reached : DerivesWithoutFault profile (state at_source (w.reads.consumed ++ t.rest) [] no_names [])
     (state at_source t.rest [] (scope_at there) w.reads.more) =
     subst
-    (λ (known : Scope). DerivesWithoutFault profile (state at_source (w.reads.consumed ++ t.rest) [] known [])
+    (λ (in_scope : Scope). DerivesWithoutFault profile (state at_source (w.reads.consumed ++ t.rest) [] in_scope [])
     (state at_source t.rest [] (scope_at there) w.reads.more)) w.nothing
     (w.reads.passes t.rest (told_goes there t.rest t.shows) profile [] h) in
     let none : NoFaultBefore profile (initial_state (tokens bytes)) t.rest =
@@ -329,17 +330,17 @@ builds_by : (after : Representation) (profile : Profile) (bytes : List ℕ) (to_
     to_come ≡ Some (drop used bytes) →
     HasReported after profile (derived s.steps (initial_state (tokens bytes))).functions →
     HasBuilt after profile bytes to_come
-builds_by after profile bytes to_come used s took told =
+builds_by after profile bytes to_come used s took reported =
     let defined : IsAmongDefined bytes used s.steps =
     built_by_stop bytes used s.steps
     (subst (λ (ls : List LocatedToken). used ≤ reach_of ls) (sym s.comes) (open-within s.rest used s.taken)) in
     record {
       count = used;
       took = took;
-      more = defined.more ++ told.more;
+      more = defined.more ++ reported.more;
       stands = subst (λ (xs : List Action). after profile xs)
-          (ap (λ (xs : List Action). xs ++ told.more) defined.is ∙
-          append_assoc (built bytes used) defined.more told.more) told.stands;
+          (ap (λ (xs : List Action). xs ++ reported.more) defined.is ∙
+          append_assoc (built bytes used) defined.more reported.more) reported.stands;
     }
 
 stops_building : (used : ℕ) (before after : Representation) (told to_come : Option (List ℕ)) (at : UnreadPosition) →
@@ -347,12 +348,12 @@ stops_building : (used : ℕ) (before after : Representation) (told to_come : Op
     HasTaken used told to_come → StopsPart before after at_source at (stop_with parse_fault.Device used) →
     BuildsAhead before after told to_come
 stops_building used before after told to_come at nothing tells taken stops bytes shows profile h =
-    let s : StopsTelling after profile (initial_state (tokens bytes)) (stop_with parse_fault.Device used) =
+    let s : StopsReporting after profile (initial_state (tokens bytes)) (stop_with parse_fault.Device used) =
     subst
-    (λ (known : Scope). StopsTelling after profile (state at_source (tokens bytes) [] known [])
+    (λ (in_scope : Scope). StopsReporting after profile (state at_source (tokens bytes) [] in_scope [])
     (stop_with parse_fault.Device used)) nothing
     (stops (tokens bytes) (tells ∙ ap (option_map tokens) shows) profile [] h) in
-    builds_by after profile bytes to_come used s.stops (taken.took bytes shows) (s.told refl)
+    builds_by after profile bytes to_come used s.stops (taken.took bytes shows) (s.reported refl)
 
 -- what is said if the parse stops
 pub stopped : (used : ℕ) (before after : Representation) (told to_come : Option (List ℕ)) (at : UnreadPosition)
@@ -372,18 +373,19 @@ opening_builds before told to_come used taken stops bytes shows profile h =
     let some : used ≤ undecided_reach_of (tokens bytes) = stops.taken (tokens bytes) (ap (option_map tokens) shows) in
     let s : Stops profile (initial_state (tokens bytes)) (stop_with parse_fault.Device used) =
     stops_here profile (initial_state (tokens bytes)) (stop_with parse_fault.Device used) tt some in
-    builds_by before profile bytes to_come used s (taken.took bytes shows) (first_told before profile bytes used some h)
+    builds_by before profile bytes to_come used s (taken.took bytes shows)
+    (first_reported before profile bytes used some h)
   where
-    first_told : (before : Representation) (profile : Profile) (bytes : List ℕ) (used : ℕ)
+    first_reported : (before : Representation) (profile : Profile) (bytes : List ℕ) (used : ℕ)
         (some : used ≤ undecided_reach_of (tokens bytes)) → before profile [] →
         HasReported before profile
         (derived (stops_here profile (initial_state (tokens bytes)) (stop_with parse_fault.Device used) tt some).steps
         (initial_state (tokens bytes))).functions
-    first_told before profile bytes used some h =
+    first_reported before profile bytes used some h =
         rw (functions_here profile (initial_state (tokens bytes)) (stop_with parse_fault.Device used) tt some)
         (record { more = []; stands = h })
 
--- the same at the first token, when nothing was told
+-- the same at the first token, when nothing was reported
 pub first_refused : (before : Representation) (told to_come : Option (List ℕ)) (f : ParseFault) (denied : Type 0) →
     StopsAtFirst told to_come f → ParseIsRefused before before denied told to_come f
 first_refused before told to_come (parse_fault.Source d) denied stops = first_fails before told to_come d stops

@@ -58,9 +58,9 @@ pub record HasReported (after : Representation) (profile : Profile) (functions :
   pub stands : after profile (definitions_actions functions ++ more)
 
 -- The derivation from s stops so. If the device failed, the functions defined up to there were reported to the builder.
-pub record StopsTelling (after : Representation) (profile : Profile) (s : State) (stop : Stop) : Type 0 where
+pub record StopsReporting (after : Representation) (profile : Profile) (s : State) (stop : Stop) : Type 0 where
   pub stops : Stops profile s stop
-  pub told : parse_fault.Device ≡ stop.fault → HasReported after profile (derived stops.steps s).functions
+  pub reported : parse_fault.Device ≡ stop.fault → HasReported after profile (derived stops.steps s).functions
 
 -- if the tokens are known, the derivation from these items on stops so
 abbrev pub StopsPart : (before after : Representation) → List Item → UnreadPosition → Stop → Type 0
@@ -68,7 +68,7 @@ StopsPart before after front here stop =
     (located_tokens : List LocatedToken) → tokens_at here ≡ Some located_tokens
     → (profile : Profile) (functions : List Definition) →
     before profile (definitions_actions functions) →
-    StopsTelling after profile (state front located_tokens [] (scope_at here) functions) stop
+    StopsReporting after profile (state front located_tokens [] (scope_at here) functions) stop
 
 -- between the parts of a file
 abbrev pub at_source : List Item

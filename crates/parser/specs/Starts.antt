@@ -45,6 +45,6 @@ pub record StartsVariable (at : ScopedCursor) : Type 0 where
   pub plain : is_punctuator punctuator.OpenRound (token_after at) ≡ false
 
 -- a name and `++` or `--`
-pub record StartsPostfix (step : IncrementOp) (at : ScopedCursor) : Type 0 where
+pub record StartsPostfix (increment : IncrementOp) (at : ScopedCursor) : Type 0 where
   pub named : StartsName at
-  pub is : is_punctuator (increment_punctuator step) (token_after at) ≡ true
+  pub is : is_punctuator (increment_punctuator increment) (token_after at) ≡ true

@@ -126,8 +126,8 @@ impl<F: Feed, B: Build> Parser<'_, '_, '_, F, B> {
     {
         if let Some(sign) = unary_op_of(&self.tokens.peek().token) {
             self.unary_operation(sign)?;
-        } else if let Some(step) = increment_op_of(&self.tokens.peek().token) {
-            self.prefix_increment(step)?;
+        } else if let Some(increment) = increment_op_of(&self.tokens.peek().token) {
+            self.prefix_increment(increment)?;
         } else {
             self.primary()?;
         }
@@ -144,11 +144,11 @@ impl<F: Feed, B: Build> Parser<'_, '_, '_, F, B> {
     {
         self.check_nesting()?;
         self.tokens.advance()?;
-        sign.tell_before_operand(self.builder)?;
+        sign.report_before_operand(self.builder)?;
         self.depth += 1;
         self.unary()?;
         self.depth -= 1;
-        Ok(sign.tell_after_operand(self.builder)?)
+        Ok(sign.report_after_operand(self.builder)?)
     }
 
     /// `primary → constant`, `name ( args )`, `name operator`, `name` and `( expr )`
@@ -241,7 +241,7 @@ fn assignment_operator<F: Feed>(parser: &ScopedCursor<'_, '_, F>) -> Option<Stor
 /// Reports to the builder what comes between the sides of `&&` or `||`, and nothing for other operators.
 fn report_middle<B: Build>(build: &mut B, op: Op) -> Result<(), BuildFault>
     requires follow { MayFollowAll (B.stands build.old) (middle op) }
-    ensures told { OnOk result (AppendsAll (B.stands build.old) (B.stands build.new) (middle op)) }
+    ensures reported { OnOk result (AppendsAll (B.stands build.old) (B.stands build.new) (middle op)) }
     ensures memory { Refuses result B.denied }
 {
     if op.is_logic() {

@@ -33,8 +33,8 @@ impl<F: Feed, B: Build> Parser<'_, '_, '_, F, B> {
         ensures parses { ParsesOperandAlone result B.denied B.stands Primary self.old self.new }
         ensures kept { Proceeds result self.old self.new }
     {
-        if let Some(step) = increment_op_of(self.tokens.after()) {
-            self.postfix_increment(step)?;
+        if let Some(increment) = increment_op_of(self.tokens.after()) {
+            self.postfix_increment(increment)?;
             return Ok(());
         }
         let var = self.tokens.expect_variable()?;
@@ -43,8 +43,8 @@ impl<F: Feed, B: Build> Parser<'_, '_, '_, F, B> {
 
     /// `primary → name operator`
     #[inline(never)]
-    fn postfix_increment(&mut self, step: IncrementOp) -> Result<(), ParseFault>
-        requires at { IsAt B.stands HasRoom 11 (StartsPostfix step) self.old }
+    fn postfix_increment(&mut self, increment: IncrementOp) -> Result<(), ParseFault>
+        requires at { IsAt B.stands HasRoom 11 (StartsPostfix increment) self.old }
         ensures parses { ParsesOperandAlone result B.denied B.stands Primary self.old self.new }
         ensures kept { Proceeds result self.old self.new }
     {
@@ -52,16 +52,16 @@ impl<F: Feed, B: Build> Parser<'_, '_, '_, F, B> {
         self.builder.act(Action::FetchVariable(var))?;
         self.builder.act(Action::PushConstant(1))?;
         self.builder
-            .act(Action::StoreVariable(var, step.store_op()))?;
+            .act(Action::StoreVariable(var, increment.store_op()))?;
         self.builder.act(Action::Chop)?;
-        self.tokens.expect(step.punctuator())?;
+        self.tokens.expect(increment.punctuator())?;
         Ok(())
     }
 
     /// `level11 → operator name`
     #[inline(never)]
-    pub fn prefix_increment(&mut self, step: IncrementOp) -> Result<(), ParseFault>
-        requires at { IsAt B.stands HasRoom 11 (IsNextPunctuator (increment_punctuator step)) self.old }
+    pub fn prefix_increment(&mut self, increment: IncrementOp) -> Result<(), ParseFault>
+        requires at { IsAt B.stands HasRoom 11 (IsNextPunctuator (increment_punctuator increment)) self.old }
         ensures parses { ParsesOperandAlone result B.denied B.stands Unary self.old self.new }
         ensures kept { Proceeds result self.old self.new }
     {
@@ -70,7 +70,7 @@ impl<F: Feed, B: Build> Parser<'_, '_, '_, F, B> {
         self.builder.act(Action::PushConstant(1))?;
         Ok(
             self.builder
-                .act(Action::StoreVariable(var, step.store_op()))?,
+                .act(Action::StoreVariable(var, increment.store_op()))?,
         )
     }
 }

@@ -92,7 +92,7 @@ impl<'s, 'a, F: Feed> ScopedCursor<'s, 'a, F> {
     pub fn new(cursor: Cursor, scope: &'s mut Scope, feed: &'a mut F) -> ScopedCursor<'s, 'a, F>
         requires ready { IsReadable cursor }
         requires known { KnowsEnd (beyond cursor) (F.device feed.old).ended }
-        ensures place { result.position ≡ position_of (record { cursor = cursor; scope = scope.old }) (F.device feed.old).to_come }
+        ensures position { result.position ≡ position_of (record { cursor = cursor; scope = scope.old }) (F.device feed.old).to_come }
         ensures account { result.account ≡ (F.device feed.old).account }
         ensures scope { result.borrows.0 ≡ scope.entry.ghost_name }
         ensures device { result.borrows.1 ≡ feed.entry.ghost_name }
@@ -314,11 +314,11 @@ fn next_name(cursor: &Cursor) -> Result<&Name, ParseFault>
 /// Returns what a scope answered about the name that is the next token, or else the refusal of this token.
 #[inline(always)]
 fn or_refusal<T>(answer: Result<T, Code>, next: &LocatedToken) -> Result<T, ParseFault>
-    ensures ok { IfOk result (λ known. answer ≡ Ok known) }
+    ensures ok { IfOk result (λ resolved. answer ≡ Ok resolved) }
     ensures refused { IfErr result (λ fault. NameIsRefused answer next.now fault) }
 {
     match answer {
-        Ok(known) => Ok(known),
+        Ok(resolved) => Ok(resolved),
         Err(code) => Err(refusal(next, code)),
     }
 }
@@ -326,7 +326,7 @@ fn or_refusal<T>(answer: Result<T, Code>, next: &LocatedToken) -> Result<T, Pars
 /// Declares a name in a scope.
 #[inline(always)]
 fn declare_in(scope: &mut Scope, name: &Name, declared: Declared) -> Result<(), Code>
-    ensures known { OnOk result ((line : ℕ) → LearnsName (role_of declared) name.now line scope.old scope.new) }
+    ensures learned { OnOk result ((line : ℕ) → LearnsName (role_of declared) name.now line scope.old scope.new) }
     ensures refused { IfErr result (λ c. RefusesName (role_of declared) name.now scope.old c) }
 {
     match declared {

@@ -89,9 +89,9 @@ pub fn parse_into<F: Feed, B: Build>(
     } = reader;
     let (names, device) = parser.into_parts();
     // For the proof alone: what the names, the device and the builder are when their loans end.
-    let _known = &*names;
-    let _held = &*device;
-    let _told = &*build;
+    let _names = &*names;
+    let _device = &*device;
+    let _builder = &*build;
     read?;
     checked?;
     Ok(())

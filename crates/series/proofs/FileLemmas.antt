@@ -26,13 +26,13 @@ file_of_names : (before after : Representation) (contents : Option (List ℕ)) (
     ParsesToFile before after contents kept → ParsesToFile before after contents names
 file_of_names before after contents kept names same file = rw same file
 
--- a parsed file, whose bytes may be known: the maker was told it, and these are its names
+-- a parsed file, whose bytes may be known: it was reported to the maker, and these are its names
 pub record IsGood (maker : Maker) (profile : Profile) (bytes_told : Option (List ℕ)) (names : Pools) : Type 0 where
   pub file : File
-  pub told : MakerRepresentsFile maker profile names file
+  pub reported : MakerRepresentsFile maker profile names file
   pub is : (bytes : List ℕ) → bytes_told ≡ Some bytes → compiled profile bytes ≡ Ok file
 
--- what a new maker was told of a file
+-- what was reported of a file to a new maker
 pub good_file : (before after : Maker) (profile : Profile) (bytes_told : Option (List ℕ)) (kept names : Pools) →
     MakerRepresents before profile [] → names ≡ kept →
     ParsesToFile (λ p acts. MakerRepresents before p acts) (λ p acts. MakerRepresents after p acts) bytes_told kept →
@@ -43,7 +43,7 @@ good_file before after profile bytes_told kept names new same file =
     names same file in
     record {
       file = f.file;
-      told = record { resolved = f.resolved; stands = f.built profile new; named = f.named; main = f.main };
+      reported = record { resolved = f.resolved; stands = f.built profile new; named = f.named; main = f.main };
       is = λ bytes are. f.is bytes are profile new;
     }
 

@@ -14,9 +14,9 @@ use Rattle.listings.specs.Spelling.{instr_text}
 use Rattle.battles.specs.Battle.{is_survivor}
 use Rattle.series.specs.Reports.{report}
 use Rattle.series.specs.Totals.{totals}
-use Rattle.series.specs.KnownOutputs.{KnownOutputs, KnownReports, KnownTexts}
+use Rattle.series.specs.KnownOutputs.{KnownLines, KnownOutputs, KnownReports}
 
-pub texts : KnownTexts
+pub texts : KnownLines
 unfolding digits
 texts = record {
   name_in_folders = refl;

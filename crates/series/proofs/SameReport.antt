@@ -75,14 +75,14 @@ report_is settings sources files k matches good contains =
     rw (matches, good) refl in
     let whole : (output settings sources).pieces ≡ playing settings files =
     ap (λ l. l ++ played settings settings.mode (files_of settings.profile sources)) none ∙ all in
-    let place : k - settings.first < settings.matches = omega (arith, contains.least, contains.most) in
+    let within : k - settings.first < settings.matches = omega (arith, contains.least, contains.most) in
     let number : settings.first + (k - settings.first) ≡ k = omega (arith, contains.least) in
     ap (λ l. slice_get l (k - settings.first)) whole
     ∙
     in_front (reports settings files settings.matches) (text_piece (totals_text settings files) ∷ [])
     (k - settings.first)
     (omega (arith, length-map-range_with_len Report settings.first settings.matches))
-    ∙ report_at Report settings.first settings.matches (k - settings.first) place
+    ∙ report_at Report settings.first settings.matches (k - settings.first) within
     ∙ ap (λ n. Some (Report n)) number
 
 -- whatever the other matches are

@@ -15,7 +15,7 @@ use Rattle.series.specs.Reports.{report}
 use Rattle.sinks.specs.Texts.{file_name, column}
 use Rattle.series.specs.Totals.{score_of, totals}
 
-pub record KnownTexts : Type 0 where
+pub record KnownLines : Type 0 where
   pub name_in_folders : file_name (codes "k/robots/b.r") ≡ codes "b.r"
   pub name_alone : file_name (codes "a.r") ≡ codes "a.r"
   pub name_of_a_folder : file_name (codes "k/") ≡ []

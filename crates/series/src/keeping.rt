@@ -87,7 +87,7 @@ impl TakesPrograms for Keeper {
         let file = self.programs.len();
         let mut program = Program::default();
         maker.finish_into(names, &mut program);
-        self.programs.push(program);
+        self.programs.add_translated(program);
         match self.mode {
             Mode::Listing => put_listing(out, name, names, self.programs.program(file)),
             Mode::Matches => Ok(()),
@@ -102,7 +102,7 @@ pub(crate) struct Lister {
 }
 
 impl Lister {
-    /// Makes a lister, with a place for the program that it lists.
+    /// Makes a lister, with room for the program that it lists.
     pub(crate) fn new() -> Lister {
         Lister {
             program: Program::default(),

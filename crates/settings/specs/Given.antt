@@ -38,9 +38,9 @@ pub record Given : Type 0 where
   pub file_words : List (List ℕ)
 
 -- the number of an option, which has a default; there is none if its text is no number within its limits
-abbrev pub value_of : ℕ → ℕ → ℕ → Option (List ℕ) → Option ℕ
-value_of least most default None = Some default
-value_of least most default (Some text) = value_number least most text
+abbrev pub number_or_default : ℕ → ℕ → ℕ → Option (List ℕ) → Option ℕ
+number_or_default least most default None = Some default
+number_or_default least most default (Some text) = value_number least most text
 
 -- `-c` asks for listings, and else `-m` for matches
 abbrev pub mode_of : Given → Option Mode
@@ -62,11 +62,11 @@ with_number (Some n) next = next n
 -- the numbers that are asked for, if each value is one
 unfoldable pub numbers_of : Given → Option Numbers
 numbers_of given =
-    with_number (value_of 1 most_matches matches_default given.matches) (λ matches.
-    with_number (value_of 1 most_cycles cycles_default given.limit) (λ limit.
-    with_number (value_of 0 most_seed seed_default given.seed) (λ seed.
-    with_number (value_of 1 most_profile profile_default given.profile) (λ profile.
-    with_number (value_of 1 most_first_match first_default given.first) (λ first.
+    with_number (number_or_default 1 most_matches matches_default given.matches) (λ matches.
+    with_number (number_or_default 1 most_cycles cycles_default given.limit) (λ limit.
+    with_number (number_or_default 0 most_seed seed_default given.seed) (λ seed.
+    with_number (number_or_default 1 most_profile profile_default given.profile) (λ profile.
+    with_number (number_or_default 1 most_first_match first_default given.first) (λ first.
     Some (record {
       matches = matches;
       limit = limit;

@@ -1,7 +1,7 @@
 //! What the command line gave, and the settings that follow from it.
 
 ghost use Rattle.std.specs.Prelude.{◌≡◌, ◌<◌, ◌≤◌, length, map, option_map, IfSome};
-ghost use Rattle.settings.specs.Given.{AreWithin, mode_of, numbers_of, settings_given, value_of};
+ghost use Rattle.settings.specs.Given.{AreWithin, mode_of, numbers_of, settings_given, number_or_default};
 
 use crate::faults::UseFault;
 use crate::numbers::value_number;
@@ -91,7 +91,7 @@ fn option_numbers(given: &Given<'_, '_>) -> Option<Numbers>
 fn option_count(given: Option<&str>, most: u32, default: u32) -> Option<u32>
     requires least { 1 ≤ default }
     requires most { default ≤ most }
-    ensures value { result ≡ value_of 1 most default (option_map (λ text. text.now) given.entry) }
+    ensures value { result ≡ number_or_default 1 most default (option_map (λ text. text.now) given.entry) }
     ensures within { IfSome result (λ n. (1 ≤ n) × (n ≤ most)) }
 {
     let number = option_value(given, 1, u64::from(most), u64::from(default))?;
@@ -100,7 +100,7 @@ fn option_count(given: Option<&str>, most: u32, default: u32) -> Option<u32>
 
 /// Returns the value of an option, which has a default.
 fn option_value(given: Option<&str>, least: u64, most: u64, default: u64) -> Option<u64>
-    ensures value { result ≡ value_of least most default (option_map (λ text. text.now) given.entry) }
+    ensures value { result ≡ number_or_default least most default (option_map (λ text. text.now) given.entry) }
     ensures within { least ≤ default → default ≤ most → IfSome result (λ n. (least ≤ n) × (n ≤ most)) }
 {
     match given {

@@ -44,13 +44,13 @@ no_lines test e (b ∷ xs) = by (test b) refl (no_lines test e xs)
     by false h f = refl
 
 -- what lies ahead after some of the bytes at hand
-ahead-window_after : (n line place taken : ℕ) (xs to_come : List ℕ) (beyond : Beyond) → n ≤ length xs →
-    ahead (window_after n (held line place xs taken beyond)) to_come ≡
-    ahead_after n (ahead (held line place xs taken beyond) to_come)
-ahead-window_after zero line place taken xs to_come beyond h = refl
-ahead-window_after (suc n) line place taken [] to_come beyond h = absurd (omega (arith, h))
-ahead-window_after (suc n) line place taken (b ∷ xs) to_come beyond h =
-    ahead-window_after n (line_after b line) (place + 1) taken xs to_come beyond (omega (arith, h))
+ahead-window_after : (n line offset taken : ℕ) (xs to_come : List ℕ) (beyond : Beyond) → n ≤ length xs →
+    ahead (window_after n (held line offset xs taken beyond)) to_come ≡
+    ahead_after n (ahead (held line offset xs taken beyond) to_come)
+ahead-window_after zero line offset taken xs to_come beyond h = refl
+ahead-window_after (suc n) line offset taken [] to_come beyond h = absurd (omega (arith, h))
+ahead-window_after (suc n) line offset taken (b ∷ xs) to_come beyond h =
+    ahead-window_after n (line_after b line) (offset + 1) taken xs to_come beyond (omega (arith, h))
 
 -- a span that ends at hand is passed at once
 pub token_span-at_hand : (test : ℕ → Bool) (token_of : List ℕ → Token) (located_token : LocatedToken)
@@ -69,12 +69,12 @@ token_span-at_hand test token_of located_token here new (Some to_come) n h p x =
     p ∙ window_after-is here.line here.offset here.taken here.beyond (prefix_len test xs) xs (omega (arith, h)) in
     let line : new.line ≡ here.line =
     ap (λ s. s.line) at ∙ ap (λ k. here.line + k) (no_lines test n xs) ∙ omega arith in
-    let place : new.offset ≡ here.offset + prefix_len test xs = ap (λ s. s.offset) at in
+    let offset : new.offset ≡ here.offset + prefix_len test xs = ap (λ s. s.offset) at in
     let run = token_span-within test xs ys h in
     let bytes = take-append-le (prefix_len test xs) xs ys (omega (arith, h)) in
     let same : located (token_of (take (prefix_len test (xs ++ ys)) (xs ++ ys))) (prefix_len test (xs ++ ys))
     (ahead here to_come) ≡ located_token =
-    rw (x, run, bytes, line, place) refl in
+    rw (x, run, bytes, line, offset) refl in
     let window_after =
     ap (λ s. ahead s to_come) p ∙
     ahead-window_after (prefix_len test xs) here.line here.offset here.taken xs to_come here.beyond (omega (arith, h)) ∙

@@ -119,19 +119,19 @@ unfolding grow_by
 extended-three m b c d [] a h = refl
 extended-three m b c d (x ∷ rest) a h = extended-step m (b ∷ c ∷ d ∷ []) x rest a None h (none-of-four b c d x)
 
-punctuator_element-here : (m : Punctuator) (b line place : ℕ) (rest : List ℕ) (too_long : Bool) →
+punctuator_element-here : (m : Punctuator) (b line offset : ℕ) (rest : List ℕ) (too_long : Bool) →
     punctuator_of (b ∷ []) ≡ Some m →
-    tokens_of_element (punctuator_element (longest_punctuator (b ∷ rest))) (here line place (b ∷ rest) too_long)
+    tokens_of_element (punctuator_element (longest_punctuator (b ∷ rest))) (here line offset (b ∷ rest) too_long)
     located_tokens ≡
-    extended m rest (ahead_after_byte (here line place (b ∷ rest) too_long))
+    extended m rest (ahead_after_byte (here line offset (b ∷ rest) too_long))
 unfolding grow_by
-punctuator_element-here m b line place [] t h =
-    let a = here line place (b ∷ []) t in
+punctuator_element-here m b line offset [] t h =
+    let a = here line offset (b ∷ []) t in
     by-longest m b [] a (or-first _ _ m h) ∙ chosen-punctuator_element m a (b ∷ []) [] 1 h refl refl
-punctuator_element-here m b line place (c ∷ []) t h = by (punctuator_of (b ∷ c ∷ [])) refl
+punctuator_element-here m b line offset (c ∷ []) t h = by (punctuator_of (b ∷ c ∷ [])) refl
   where
     a : UnreadSource
-    a = here line place (b ∷ c ∷ []) t
+    a = here line offset (b ∷ c ∷ []) t
 
     by : (o : Option Punctuator) → punctuator_of (b ∷ c ∷ []) ≡ o →
         tokens_of_element (punctuator_element (longest_punctuator (b ∷ c ∷ []))) a located_tokens ≡
@@ -144,10 +144,10 @@ punctuator_element-here m b line place (c ∷ []) t h = by (punctuator_of (b ∷
         by-longest k b (c ∷ []) a (or-first _ _ k e) ∙
         (chosen-punctuator_element k a (b ∷ c ∷ []) [] 2 e refl refl ∙
         sym (extended-step m (b ∷ []) c [] (ahead_after_byte a) (Some k) h e))
-punctuator_element-here m b line place (c ∷ d ∷ rest) t h = by (punctuator_of (b ∷ c ∷ [])) refl
+punctuator_element-here m b line offset (c ∷ d ∷ rest) t h = by (punctuator_of (b ∷ c ∷ [])) refl
   where
     a : UnreadSource
-    a = here line place (b ∷ c ∷ d ∷ rest) t
+    a = here line offset (b ∷ c ∷ d ∷ rest) t
 
     three : (k : Punctuator) (o : Option Punctuator) → punctuator_of (b ∷ c ∷ []) ≡ Some k →
         punctuator_of (b ∷ c ∷ d ∷ []) ≡ o →
@@ -217,14 +217,14 @@ longest-none b (c ∷ d ∷ rest) h =
 blank_line : (b : ℕ) → is_blank b ≡ false → eqb b 10 ≡ false
 blank_line b h = no_line (λ c. not (is_blank c)) b refl (ap not h)
 
-bad-here : (b line place : ℕ) (rest : List ℕ) (too_long : Bool) → eqb b 10 ≡ false →
-    followed (token_ending (variant.Fault BadCharacter) (ahead_after_byte (here line place (b ∷ rest) too_long)))
-    (ahead_after_byte (here line place (b ∷ rest) too_long)) ≡
-    tokens_of_element (punctuator_element None) (here line place (b ∷ rest) too_long) located_tokens
+bad-here : (b line offset : ℕ) (rest : List ℕ) (too_long : Bool) → eqb b 10 ≡ false →
+    followed (token_ending (variant.Fault BadCharacter) (ahead_after_byte (here line offset (b ∷ rest) too_long)))
+    (ahead_after_byte (here line offset (b ∷ rest) too_long)) ≡
+    tokens_of_element (punctuator_element None) (here line offset (b ∷ rest) too_long) located_tokens
 unfolding followed
-bad-here b line place rest t h =
+bad-here b line offset rest t h =
     let l : line_after b line ≡ line = other (eqb b 10) _ _ h in
-    ap (λ n. let x : LocatedToken = record { token = variant.Fault BadCharacter; line = n; end = place + 1 } in x ∷ [])
+    ap (λ n. let x : LocatedToken = record { token = variant.Fault BadCharacter; line = n; end = offset + 1 } in x ∷ [])
     l
 
 -- any other byte is a bad character
@@ -248,36 +248,36 @@ bad-begins b no_blank no_letter no_digit no_slash h a rest e =
 unfoldable pub in_slash : ℕ → UnreadSource → List LocatedToken
 in_slash line a = cond (begins_with 42 a.bytes) (in_comment line (ahead_after_byte a)) (in_punctuator Slash a)
 
-slash-star : (line place : ℕ) (rest : List ℕ) (too_long : Bool) →
-    tokens_of_element (comment_element (up_to_close rest)) (here line place (47 ∷ 42 ∷ rest) too_long) located_tokens ≡
-    in_comment line (ahead_after_byte (ahead_after_byte (here line place (47 ∷ 42 ∷ rest) too_long)))
+slash-star : (line offset : ℕ) (rest : List ℕ) (too_long : Bool) →
+    tokens_of_element (comment_element (up_to_close rest)) (here line offset (47 ∷ 42 ∷ rest) too_long) located_tokens ≡
+    in_comment line (ahead_after_byte (ahead_after_byte (here line offset (47 ∷ 42 ∷ rest) too_long)))
 unfolding in_comment
-slash-star line place rest t = by (up_to_close rest)
+slash-star line offset rest t = by (up_to_close rest)
   where
     by : (o : Option ℕ) →
-        tokens_of_element (comment_element o) (here line place (47 ∷ 42 ∷ rest) t) located_tokens ≡
-        closed_at o line (ahead_after_byte (ahead_after_byte (here line place (47 ∷ 42 ∷ rest) t)))
+        tokens_of_element (comment_element o) (here line offset (47 ∷ 42 ∷ rest) t) located_tokens ≡
+        closed_at o line (ahead_after_byte (ahead_after_byte (here line offset (47 ∷ 42 ∷ rest) t)))
     by None = refl
     by (Some n) = refl
 
-slash-here : (line place : ℕ) (rest : List ℕ) (too_long : Bool) →
-    in_slash line (ahead_after_byte (here line place (47 ∷ rest) too_long)) ≡
-    located_tokens (here line place (47 ∷ rest) too_long)
+slash-here : (line offset : ℕ) (rest : List ℕ) (too_long : Bool) →
+    in_slash line (ahead_after_byte (here line offset (47 ∷ rest) too_long)) ≡
+    located_tokens (here line offset (47 ∷ rest) too_long)
 unfolding in_slash punctuator_of
-slash-here line place [] t = punctuator_element-begins Slash 47 refl (here line place (47 ∷ []) t) [] refl refl
-slash-here line place (b ∷ rest) t = by (eqb b 42) refl
+slash-here line offset [] t = punctuator_element-begins Slash 47 refl (here line offset (47 ∷ []) t) [] refl refl
+slash-here line offset (b ∷ rest) t = by (eqb b 42) refl
   where
     a : UnreadSource
-    a = here line place (47 ∷ b ∷ rest) t
+    a = here line offset (47 ∷ b ∷ rest) t
 
     by : (s : Bool) → eqb b 42 ≡ s →
         cond s (in_comment line (ahead_after_byte (ahead_after_byte a))) (in_punctuator Slash (ahead_after_byte a)) ≡
         located_tokens a
     by true e =
         subst
-        (λ (x : ℕ). in_comment line (ahead_after_byte (ahead_after_byte (here line place (47 ∷ x ∷ rest) t))) ≡
-        located_tokens (here line place (47 ∷ x ∷ rest) t)) (sym (eqb-true b 42 e))
-        (sym (located_tokens-input_element (here line place (47 ∷ 42 ∷ rest) t) ∙ slash-star line place rest t))
+        (λ (x : ℕ). in_comment line (ahead_after_byte (ahead_after_byte (here line offset (47 ∷ x ∷ rest) t))) ≡
+        located_tokens (here line offset (47 ∷ x ∷ rest) t)) (sym (eqb-true b 42 e))
+        (sym (located_tokens-input_element (here line offset (47 ∷ 42 ∷ rest) t) ∙ slash-star line offset rest t))
     by false e =
         punctuator_element-begins Slash 47 refl a (b ∷ rest) refl
         (ap

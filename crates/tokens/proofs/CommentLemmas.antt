@@ -21,24 +21,24 @@ use Rattle.tokens.proofs.LocatedTokensLemmas.{here}
 unfoldable pub in_star : ℕ → UnreadSource → List LocatedToken
 in_star line a = cond (begins_with 47 a.bytes) (located_tokens (ahead_after_byte a)) (in_comment line a)
 
-goes_on : (close : Option ℕ) (began line place b : ℕ) (rest : List ℕ) (too_long : Bool) →
-    closed_at close began (ahead_after_byte (here line place (b ∷ rest) too_long)) ≡
-    closed_at (option_map suc close) began (here line place (b ∷ rest) too_long)
-goes_on None began line place b rest t = refl
-goes_on (Some count) began line place b rest t = refl
+goes_on : (close : Option ℕ) (began line offset b : ℕ) (rest : List ℕ) (too_long : Bool) →
+    closed_at close began (ahead_after_byte (here line offset (b ∷ rest) too_long)) ≡
+    closed_at (option_map suc close) began (here line offset (b ∷ rest) too_long)
+goes_on None began line offset b rest t = refl
+goes_on (Some count) began line offset b rest t = refl
 
-comment_element-passes-here : (began line place b : ℕ) (rest : List ℕ) (too_long : Bool) → eqb b 42 ≡ false →
-    in_comment began (ahead_after_byte (here line place (b ∷ rest) too_long)) ≡
-    in_comment began (here line place (b ∷ rest) too_long)
+comment_element-passes-here : (began line offset b : ℕ) (rest : List ℕ) (too_long : Bool) → eqb b 42 ≡ false →
+    in_comment began (ahead_after_byte (here line offset (b ∷ rest) too_long)) ≡
+    in_comment began (here line offset (b ∷ rest) too_long)
 unfolding in_comment
-comment_element-passes-here began line place b rest t e = by (eqb b 42) e
+comment_element-passes-here began line offset b rest t e = by (eqb b 42) e
   where
     by : (s : Bool) → s ≡ false →
-        in_comment began (ahead_after_byte (here line place (b ∷ rest) t)) ≡
+        in_comment began (ahead_after_byte (here line offset (b ∷ rest) t)) ≡
         closed_at (cond (s && begins_with 47 rest) (Some 2) (option_map suc (up_to_close rest))) began
-        (here line place (b ∷ rest) t)
+        (here line offset (b ∷ rest) t)
     by true e = absurd cc
-    by false e = goes_on (up_to_close rest) began line place b rest t
+    by false e = goes_on (up_to_close rest) began line offset b rest t
 
 -- a byte other than `*` is passed
 pub comment_element-passes : (began b : ℕ) → eqb b 42 ≡ false → (a : UnreadSource) (rest : List ℕ) →
@@ -50,18 +50,18 @@ comment_element-passes began b h a rest e =
     in_comment began (here a.line a.offset xs a.too_long)) (sym e)
     (comment_element-passes-here began a.line a.offset b rest a.too_long h)
 
-star-passes-here : (began line place : ℕ) (rest : List ℕ) (too_long : Bool) →
-    in_star began (ahead_after_byte (here line place (42 ∷ rest) too_long)) ≡
-    in_comment began (here line place (42 ∷ rest) too_long)
+star-passes-here : (began line offset : ℕ) (rest : List ℕ) (too_long : Bool) →
+    in_star began (ahead_after_byte (here line offset (42 ∷ rest) too_long)) ≡
+    in_comment began (here line offset (42 ∷ rest) too_long)
 unfolding in_star in_comment
-star-passes-here began line place rest t = by (begins_with 47 rest)
+star-passes-here began line offset rest t = by (begins_with 47 rest)
   where
     by : (s : Bool) →
-        cond s (located_tokens (ahead_after_byte (ahead_after_byte (here line place (42 ∷ rest) t))))
-        (in_comment began (ahead_after_byte (here line place (42 ∷ rest) t))) ≡
-        closed_at (cond s (Some 2) (option_map suc (up_to_close rest))) began (here line place (42 ∷ rest) t)
+        cond s (located_tokens (ahead_after_byte (ahead_after_byte (here line offset (42 ∷ rest) t))))
+        (in_comment began (ahead_after_byte (here line offset (42 ∷ rest) t))) ≡
+        closed_at (cond s (Some 2) (option_map suc (up_to_close rest))) began (here line offset (42 ∷ rest) t)
     by true = refl
-    by false = goes_on (up_to_close rest) began line place 42 rest t
+    by false = goes_on (up_to_close rest) began line offset 42 rest t
 
 pub star-passes : (began : ℕ) (a : UnreadSource) (rest : List ℕ) → a.bytes ≡ 42 ∷ rest →
     in_star began (ahead_after_byte a) ≡ in_comment began a
@@ -99,28 +99,28 @@ slash-found None e = absurd cc
 slash-found (Some b) e = ap Some (eqb-true b 47 e)
 
 -- plain bytes leave the comment as it is
-plain-here : (began : ℕ) (to_come : Option (List ℕ)) (n line place taken : ℕ) (xs : List ℕ) (beyond : Beyond) →
+plain-here : (began : ℕ) (to_come : Option (List ℕ)) (n line offset taken : ℕ) (xs : List ℕ) (beyond : Beyond) →
     n ≤ prefix_len (λ b. not (eqb b 42)) xs →
-    to_read (in_comment began) (window_after n (held line place xs taken beyond)) to_come ≡
-    to_read (in_comment began) (held line place xs taken beyond) to_come
-plain-here began to_come zero line place taken xs beyond h = refl
-plain-here began to_come (suc n) line place taken [] beyond h = absurd (omega (arith, h))
-plain-here began to_come (suc n) line place taken (b ∷ xs) beyond h =
-    let next = window_after_byte (held line place (b ∷ xs) taken beyond) in
+    to_read (in_comment began) (window_after n (held line offset xs taken beyond)) to_come ≡
+    to_read (in_comment began) (held line offset xs taken beyond) to_come
+plain-here began to_come zero line offset taken xs beyond h = refl
+plain-here began to_come (suc n) line offset taken [] beyond h = absurd (omega (arith, h))
+plain-here began to_come (suc n) line offset taken (b ∷ xs) beyond h =
+    let next = window_after_byte (held line offset (b ∷ xs) taken beyond) in
     by (eqb b 42) refl h (plain-here began to_come n next.line next.offset next.taken xs beyond)
   where
     by : (s : Bool) → eqb b 42 ≡ s → suc n ≤ cond (not s) (1 + prefix_len (λ b. not (eqb b 42)) xs) 0 →
         (n ≤ prefix_len (λ b. not (eqb b 42)) xs →
-        to_read (in_comment began) (window_after n (window_after_byte (held line place (b ∷ xs) taken beyond))) to_come
+        to_read (in_comment began) (window_after n (window_after_byte (held line offset (b ∷ xs) taken beyond))) to_come
         ≡
-        to_read (in_comment began) (window_after_byte (held line place (b ∷ xs) taken beyond)) to_come) →
-        to_read (in_comment began) (window_after (suc n) (held line place (b ∷ xs) taken beyond)) to_come ≡
-        to_read (in_comment began) (held line place (b ∷ xs) taken beyond) to_come
+        to_read (in_comment began) (window_after_byte (held line offset (b ∷ xs) taken beyond)) to_come) →
+        to_read (in_comment began) (window_after (suc n) (held line offset (b ∷ xs) taken beyond)) to_come ≡
+        to_read (in_comment began) (held line offset (b ∷ xs) taken beyond) to_come
     by true e h f = absurd (omega (arith, h))
     by false e h f =
         f (omega (arith, h)) ∙
-        to_read-pass (in_comment began) (in_comment began) (window_after_byte (held line place (b ∷ xs) taken beyond))
-        (held line place (b ∷ xs) taken beyond) to_come (Some b) b refl refl refl (comment_element-passes began b e)
+        to_read-pass (in_comment began) (in_comment began) (window_after_byte (held line offset (b ∷ xs) taken beyond))
+        (held line offset (b ∷ xs) taken beyond) to_come (Some b) b refl refl refl (comment_element-passes began b e)
 
 pub plain-passes : (began : ℕ) (new here : Window) (to_come : Option (List ℕ)) → new ≡ window_after_plain here →
     to_read (in_comment began) new to_come ≡ to_read (in_comment began) here to_come

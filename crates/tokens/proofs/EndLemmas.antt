@@ -17,7 +17,7 @@ use Rattle.tokens.specs.declared.located_tokens.Token.TheVariants as variant
 use Rattle.tokens.specs.declared.located_tokens.LocatedToken.{LocatedToken}
 use Rattle.tokens.proofs.PunctuatorLemmas.{punctuator_of-spelled}
 use Rattle.tokens.proofs.LocatedTokensLemmas.{IsPiece, input_element-is_piece, length-ahead_after, here}
-use Rattle.tokens.proofs.TakenLemmas.{open-located, place-ahead_after, last-window_after, last-open}
+use Rattle.tokens.proofs.TakenLemmas.{open-located, offset-ahead_after, last-window_after, last-open}
 
 -- a token lies within the bytes that begin with it
 abbrev pub IsInside : List ℕ → InputElement → Type 0
@@ -63,23 +63,23 @@ input_element-inside (b ∷ rest) =
     (punctuator_element-inside b rest (longest_punctuator xs)
     (or-inside xs _ _ (spelling-inside 3 xs) (or-inside xs _ _ (spelling-inside 2 xs) (spelling-inside 1 xs)))))))
 
-place-here : (n line place : ℕ) (bytes : List ℕ) (too_long : Bool) → n ≤ length bytes →
-    (ahead_after n (here line place bytes too_long)).offset ≡ place + n
-place-here zero line place xs t h = omega arith
-place-here (suc n) line place [] t h = absurd (omega (arith, h))
-place-here (suc n) line place (x ∷ xs) t h =
-    let b = ahead_after_byte (here line place (x ∷ xs) t) in
-    omega (arith, place-here n b.line b.offset b.bytes b.too_long (omega (arith, h)))
+offset-here : (n line offset : ℕ) (bytes : List ℕ) (too_long : Bool) → n ≤ length bytes →
+    (ahead_after n (here line offset bytes too_long)).offset ≡ offset + n
+offset-here zero line offset xs t h = omega arith
+offset-here (suc n) line offset [] t h = absurd (omega (arith, h))
+offset-here (suc n) line offset (x ∷ xs) t h =
+    let b = ahead_after_byte (here line offset (x ∷ xs) t) in
+    omega (arith, offset-here n b.line b.offset b.bytes b.too_long (omega (arith, h)))
 
-pub place-inside : (n : ℕ) (a : UnreadSource) → n ≤ length a.bytes → (ahead_after n a).offset ≡ a.offset + n
-place-inside n a h = place-here n a.line a.offset a.bytes a.too_long h
+pub offset-inside : (n : ℕ) (a : UnreadSource) → n ≤ length a.bytes → (ahead_after n a).offset ≡ a.offset + n
+offset-inside n a h = offset-here n a.line a.offset a.bytes a.too_long h
 
 long-ahead_after_byte : (a : UnreadSource) → (ahead_after_byte a).too_long ≡ a.too_long
 long-ahead_after_byte a = by a.line a.offset a.bytes a.too_long
   where
-    by : (line place : ℕ) (xs : List ℕ) (t : Bool) → (ahead_after_byte (here line place xs t)).too_long ≡ t
-    by line place [] t = refl
-    by line place (x ∷ xs) t = refl
+    by : (line offset : ℕ) (xs : List ℕ) (t : Bool) → (ahead_after_byte (here line offset xs t)).too_long ≡ t
+    by line offset [] t = refl
+    by line offset (x ∷ xs) t = refl
 
 long-ahead_after : (n : ℕ) (a : UnreadSource) → (ahead_after n a).too_long ≡ a.too_long
 long-ahead_after zero a = refl
@@ -89,11 +89,11 @@ sum-ahead_after_byte : (a : UnreadSource) →
     (ahead_after_byte a).offset + length (ahead_after_byte a).bytes ≡ a.offset + length a.bytes
 sum-ahead_after_byte a = by a.line a.offset a.bytes a.too_long
   where
-    by : (line place : ℕ) (xs : List ℕ) (t : Bool) →
-        (ahead_after_byte (here line place xs t)).offset + length (ahead_after_byte (here line place xs t)).bytes ≡
-        place + length xs
-    by line place [] t = refl
-    by line place (x ∷ xs) t = omega arith
+    by : (line offset : ℕ) (xs : List ℕ) (t : Bool) →
+        (ahead_after_byte (here line offset xs t)).offset + length (ahead_after_byte (here line offset xs t)).bytes ≡
+        offset + length xs
+    by line offset [] t = refl
+    by line offset (x ∷ xs) t = omega arith
 
 sum-ahead_after : (n : ℕ) (a : UnreadSource) →
     (ahead_after n a).offset + length (ahead_after n a).bytes ≡ a.offset + length a.bytes
@@ -117,20 +117,20 @@ tokens_within-rising (suc n) a =
         ((count : ℕ) → IsRising (ahead_after count a).offset (tokens_within n (ahead_after count a))) →
         IsRising a.offset (tokens_of_element f a (tokens_within n))
     by Nothing i h =
-        (omega (arith, last-window_after variant.End a.line (at_end a), place-ahead_after (length a.bytes) a), tt)
+        (omega (arith, last-window_after variant.End a.line (at_end a), offset-ahead_after (length a.bytes) a), tt)
     by Unclosed i h = (
       omega (
         arith,
         last-window_after (variant.Fault CommentNotClosed) a.line (at_end a),
-        place-ahead_after (length a.bytes) a,
+        offset-ahead_after (length a.bytes) a,
       ),
       tt,
     )
-    by (Space count) i h = rising-sooner _ _ _ (place-ahead_after count a) (h count)
+    by (Space count) i h = rising-sooner _ _ _ (offset-ahead_after count a) (h count)
     by (Lexeme sign count) i h = (
       omega arith,
       rest (is_last sign) (a.offset + count) _
-          (subst (λ (p : ℕ). IsRising p (tokens_within n (ahead_after count a))) (place-inside count a i) (h count)),
+          (subst (λ (p : ℕ). IsRising p (tokens_within n (ahead_after count a))) (offset-inside count a i) (h count)),
     )
 
 tokens_within-open : (n : ℕ) (a : UnreadSource) → StaysUndecided a.offset (tokens_within n a)
@@ -151,20 +151,20 @@ tokens_within-open (suc n) a =
         ((count : ℕ) → StaysUndecided (ahead_after count a).offset (tokens_within n (ahead_after count a))) →
         StaysUndecided a.offset (tokens_of_element f a (tokens_within n))
     by Nothing i p h =
-        (omega (arith, last-open variant.End a.line (at_end a) refl, place-ahead_after (length a.bytes) a), tt)
+        (omega (arith, last-open variant.End a.line (at_end a) refl, offset-ahead_after (length a.bytes) a), tt)
     by Unclosed i p h = (
       omega (
         arith,
         last-open (variant.Fault CommentNotClosed) a.line (at_end a) refl,
-        place-ahead_after (length a.bytes) a,
+        offset-ahead_after (length a.bytes) a,
       ),
       tt,
     )
-    by (Space count) i p h = sooner _ _ _ (place-ahead_after count a) (h count)
+    by (Space count) i p h = sooner _ _ _ (offset-ahead_after count a) (h count)
     by (Lexeme sign count) i p h = (
       open-located sign count a p,
       rest (is_last sign) (a.offset + count) _
-          (subst (λ (p : ℕ). StaysUndecided p (tokens_within n (ahead_after count a))) (place-inside count a i)
+          (subst (λ (p : ℕ). StaysUndecided p (tokens_within n (ahead_after count a))) (offset-inside count a i)
           (h count)),
     )
 
@@ -178,8 +178,8 @@ last-by limit line token a h = by (at_end a).too_long (long-ahead_after (length 
   where
     by : (t : Bool) → t ≡ a.too_long →
         (last_located_token token line (here (at_end a).line (at_end a).offset (at_end a).bytes t)).end ≤ limit
-    by true e = omega (arith, place-inside (length a.bytes) a (omega arith), ap over e, h)
-    by false e = omega (arith, place-inside (length a.bytes) a (omega arith), h)
+    by true e = omega (arith, offset-inside (length a.bytes) a (omega arith), ap over e, h)
+    by false e = omega (arith, offset-inside (length a.bytes) a (omega arith), h)
 
 pub tokens_within-by : (n limit : ℕ) (a : UnreadSource) → a.offset + length a.bytes + over a.too_long ≤ limit →
     AllEndBy limit (tokens_within n a)
@@ -208,19 +208,19 @@ tokens_within-by (suc n) limit a h =
     by (Lexeme sign count) i g = (omega (arith, h, i), rest (is_last sign) _ (g count (further count)))
 
 -- there is a first token
-tokens_within-nonempty : (n line place : ℕ) (bytes : List ℕ) (too_long : Bool) → length bytes < n →
+tokens_within-nonempty : (n line offset : ℕ) (bytes : List ℕ) (too_long : Bool) → length bytes < n →
     (first : LocatedToken) × (others : List LocatedToken) ×
-    (tokens_within n (here line place bytes too_long) ≡ first ∷ others)
-tokens_within-nonempty zero line place xs t h = absurd (omega (arith, h))
-tokens_within-nonempty (suc n) line place [] t h = (_, _, refl)
-tokens_within-nonempty (suc n) line place (b ∷ xs) t h =
+    (tokens_within n (here line offset bytes too_long) ≡ first ∷ others)
+tokens_within-nonempty zero line offset xs t h = absurd (omega (arith, h))
+tokens_within-nonempty (suc n) line offset [] t h = (_, _, refl)
+tokens_within-nonempty (suc n) line offset (b ∷ xs) t h =
     by (input_element (b ∷ xs)) (input_element-is_piece (b ∷ xs)) (λ count c.
-    let p = ahead_after count (here line place (b ∷ xs) t) in
-    let e = length-ahead_after count (here line place (b ∷ xs) t) in
+    let p = ahead_after count (here line offset (b ∷ xs) t) in
+    let e = length-ahead_after count (here line offset (b ∷ xs) t) in
     tokens_within-nonempty n p.line p.offset p.bytes p.too_long (omega (arith, e, h, c)))
   where
     a : UnreadSource
-    a = here line place (b ∷ xs) t
+    a = here line offset (b ∷ xs) t
 
     by : (f : InputElement) → IsPiece f →
         ((count : ℕ) → 0 < count →

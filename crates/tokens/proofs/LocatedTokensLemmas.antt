@@ -12,7 +12,7 @@ use Rattle.tokens.specs.declared.located_tokens.LocatedToken.{LocatedToken}
 use Rattle.tokens.proofs.PunctuatorLemmas.{spelling-nonempty}
 
 abbrev pub here : ℕ → ℕ → List ℕ → Bool → UnreadSource
-here line place bytes too_long = record { line = line; offset = place; bytes = bytes; too_long = too_long }
+here line offset bytes too_long = record { line = line; offset = offset; bytes = bytes; too_long = too_long }
 
 -- an input element has at least one byte
 abbrev pub IsPiece : InputElement → Type 0
@@ -63,10 +63,10 @@ input_element-is_piece (b ∷ rest) =
 length-ahead_after_byte : (a : UnreadSource) → length (ahead_after_byte a).bytes ≡ length a.bytes - 1
 length-ahead_after_byte a = by a.line a.offset a.bytes a.too_long
   where
-    by : (line place : ℕ) (xs : List ℕ) (t : Bool) →
-        length (ahead_after_byte (here line place xs t)).bytes ≡ length xs - 1
-    by line place [] t = omega arith
-    by line place (x ∷ xs) t = omega arith
+    by : (line offset : ℕ) (xs : List ℕ) (t : Bool) →
+        length (ahead_after_byte (here line offset xs t)).bytes ≡ length xs - 1
+    by line offset [] t = omega arith
+    by line offset (x ∷ xs) t = omega arith
 
 pub length-ahead_after : (n : ℕ) (a : UnreadSource) → length (ahead_after n a).bytes ≡ length a.bytes - n
 length-ahead_after zero a = omega arith
@@ -82,29 +82,29 @@ tokens_of_element-same (Space count) a others others' p h = h count p
 tokens_of_element-same (Lexeme sign count) a others others' p h = ap (followed_by (located sign count a)) (h count p)
 
 -- more input elements than bytes make no difference
-tokens_within-enough : (m n line place : ℕ) (bytes : List ℕ) (too_long : Bool) → length bytes < m → length bytes < n →
-    tokens_within m (here line place bytes too_long) ≡ tokens_within n (here line place bytes too_long)
-tokens_within-enough zero n line place xs t h k = absurd (omega (arith, h))
-tokens_within-enough (suc m) zero line place xs t h k = absurd (omega (arith, k))
-tokens_within-enough (suc m) (suc n) line place [] t h k = refl
-tokens_within-enough (suc m) (suc n) line place (b ∷ xs) t h k =
-    tokens_of_element-same (input_element (b ∷ xs)) (here line place (b ∷ xs) t) (tokens_within m) (tokens_within n)
+tokens_within-enough : (m n line offset : ℕ) (bytes : List ℕ) (too_long : Bool) → length bytes < m → length bytes < n →
+    tokens_within m (here line offset bytes too_long) ≡ tokens_within n (here line offset bytes too_long)
+tokens_within-enough zero n line offset xs t h k = absurd (omega (arith, h))
+tokens_within-enough (suc m) zero line offset xs t h k = absurd (omega (arith, k))
+tokens_within-enough (suc m) (suc n) line offset [] t h k = refl
+tokens_within-enough (suc m) (suc n) line offset (b ∷ xs) t h k =
+    tokens_of_element-same (input_element (b ∷ xs)) (here line offset (b ∷ xs) t) (tokens_within m) (tokens_within n)
     (input_element-is_piece (b ∷ xs)) (λ count c.
-    let p = ahead_after count (here line place (b ∷ xs) t) in
-    let e = length-ahead_after count (here line place (b ∷ xs) t) in
+    let p = ahead_after count (here line offset (b ∷ xs) t) in
+    let e = length-ahead_after count (here line offset (b ∷ xs) t) in
     tokens_within-enough m n p.line p.offset p.bytes p.too_long (omega (arith, e, h, c)) (omega (arith, e, k, c)))
 
-located_tokens-here : (line place : ℕ) (bytes : List ℕ) (too_long : Bool) →
-    located_tokens (here line place bytes too_long) ≡
-    tokens_of_element (input_element bytes) (here line place bytes too_long) located_tokens
+located_tokens-here : (line offset : ℕ) (bytes : List ℕ) (too_long : Bool) →
+    located_tokens (here line offset bytes too_long) ≡
+    tokens_of_element (input_element bytes) (here line offset bytes too_long) located_tokens
 unfolding located_tokens
-located_tokens-here line place [] t = refl
-located_tokens-here line place (b ∷ xs) t =
-    tokens_of_element-same (input_element (b ∷ xs)) (here line place (b ∷ xs) t) (tokens_within (length (b ∷ xs)))
+located_tokens-here line offset [] t = refl
+located_tokens-here line offset (b ∷ xs) t =
+    tokens_of_element-same (input_element (b ∷ xs)) (here line offset (b ∷ xs) t) (tokens_within (length (b ∷ xs)))
     located_tokens
     (input_element-is_piece (b ∷ xs)) (λ count c.
-    let p = ahead_after count (here line place (b ∷ xs) t) in
-    let e = length-ahead_after count (here line place (b ∷ xs) t) in
+    let p = ahead_after count (here line offset (b ∷ xs) t) in
+    let e = length-ahead_after count (here line offset (b ∷ xs) t) in
     tokens_within-enough (length (b ∷ xs)) (suc (length p.bytes)) p.line p.offset p.bytes p.too_long
     (omega (arith, e, c))
     (omega arith))

@@ -232,76 +232,76 @@ none-of-four b c d x = by (punctuator_of (b ∷ c ∷ d ∷ x ∷ [])) refl
     by None e = e
     by (Some m) e = absurd (omega (arith, ap length (punctuator_of-spelled _ m e), spelling-short m))
 
-further2 : (place : ℕ) → place + 2 ≡ place + 1 + 1
-further2 place = omega arith
+further2 : (offset : ℕ) → offset + 2 ≡ offset + 1 + 1
+further2 offset = omega arith
 
-further3 : (place : ℕ) → place + 3 ≡ place + 1 + 1 + 1
-further3 place = omega arith
+further3 : (offset : ℕ) → offset + 3 ≡ offset + 1 + 1 + 1
+further3 offset = omega arith
 
 -- no punctuator has the byte that ends a line
-located_token-here : (m : Punctuator) (line place : ℕ) (rest : List ℕ) (too_long : Bool) → let a : UnreadSource =
-    record { line = line; offset = place; bytes = spelling m ++ rest; too_long = too_long } in located
+located_token-here : (m : Punctuator) (line offset : ℕ) (rest : List ℕ) (too_long : Bool) → let a : UnreadSource =
+    record { line = line; offset = offset; bytes = spelling m ++ rest; too_long = too_long } in located
     (variant.Punctuator m) (length (spelling m)) a ≡
     token_ending (variant.Punctuator m) (ahead_after (length (spelling m)) a)
-located_token-here Plus line place rest t = refl
-located_token-here Minus line place rest t = refl
-located_token-here Star line place rest t = refl
-located_token-here Slash line place rest t = refl
-located_token-here Percent line place rest t = refl
-located_token-here And line place rest t = refl
-located_token-here Or line place rest t = refl
-located_token-here Xor line place rest t = refl
-located_token-here Tilde line place rest t = refl
-located_token-here Not line place rest t = refl
-located_token-here Less line place rest t = refl
-located_token-here Greater line place rest t = refl
-located_token-here Equals line place rest t = refl
-located_token-here ShiftLeft line place rest t =
-    ap (λ p. record { token = variant.Punctuator ShiftLeft; line = line; end = p }) (further2 place)
-located_token-here ShiftRight line place rest t =
-    ap (λ p. record { token = variant.Punctuator ShiftRight; line = line; end = p }) (further2 place)
-located_token-here LessEquals line place rest t =
-    ap (λ p. record { token = variant.Punctuator LessEquals; line = line; end = p }) (further2 place)
-located_token-here GreaterEquals line place rest t =
-    ap (λ p. record { token = variant.Punctuator GreaterEquals; line = line; end = p }) (further2 place)
-located_token-here EqualsEquals line place rest t =
-    ap (λ p. record { token = variant.Punctuator EqualsEquals; line = line; end = p }) (further2 place)
-located_token-here NotEquals line place rest t =
-    ap (λ p. record { token = variant.Punctuator NotEquals; line = line; end = p }) (further2 place)
-located_token-here AndAnd line place rest t =
-    ap (λ p. record { token = variant.Punctuator AndAnd; line = line; end = p }) (further2 place)
-located_token-here OrOr line place rest t =
-    ap (λ p. record { token = variant.Punctuator OrOr; line = line; end = p }) (further2 place)
-located_token-here PlusPlus line place rest t =
-    ap (λ p. record { token = variant.Punctuator PlusPlus; line = line; end = p }) (further2 place)
-located_token-here MinusMinus line place rest t =
-    ap (λ p. record { token = variant.Punctuator MinusMinus; line = line; end = p }) (further2 place)
-located_token-here PlusEquals line place rest t =
-    ap (λ p. record { token = variant.Punctuator PlusEquals; line = line; end = p }) (further2 place)
-located_token-here MinusEquals line place rest t =
-    ap (λ p. record { token = variant.Punctuator MinusEquals; line = line; end = p }) (further2 place)
-located_token-here StarEquals line place rest t =
-    ap (λ p. record { token = variant.Punctuator StarEquals; line = line; end = p }) (further2 place)
-located_token-here SlashEquals line place rest t =
-    ap (λ p. record { token = variant.Punctuator SlashEquals; line = line; end = p }) (further2 place)
-located_token-here PercentEquals line place rest t =
-    ap (λ p. record { token = variant.Punctuator PercentEquals; line = line; end = p }) (further2 place)
-located_token-here ShiftLeftEquals line place rest t =
-    ap (λ p. record { token = variant.Punctuator ShiftLeftEquals; line = line; end = p }) (further3 place)
-located_token-here ShiftRightEquals line place rest t =
-    ap (λ p. record { token = variant.Punctuator ShiftRightEquals; line = line; end = p }) (further3 place)
-located_token-here AndEquals line place rest t =
-    ap (λ p. record { token = variant.Punctuator AndEquals; line = line; end = p }) (further2 place)
-located_token-here XorEquals line place rest t =
-    ap (λ p. record { token = variant.Punctuator XorEquals; line = line; end = p }) (further2 place)
-located_token-here OrEquals line place rest t =
-    ap (λ p. record { token = variant.Punctuator OrEquals; line = line; end = p }) (further2 place)
-located_token-here OpenRound line place rest t = refl
-located_token-here CloseRound line place rest t = refl
-located_token-here OpenCurly line place rest t = refl
-located_token-here CloseCurly line place rest t = refl
-located_token-here Comma line place rest t = refl
-located_token-here Semicolon line place rest t = refl
+located_token-here Plus line offset rest t = refl
+located_token-here Minus line offset rest t = refl
+located_token-here Star line offset rest t = refl
+located_token-here Slash line offset rest t = refl
+located_token-here Percent line offset rest t = refl
+located_token-here And line offset rest t = refl
+located_token-here Or line offset rest t = refl
+located_token-here Xor line offset rest t = refl
+located_token-here Tilde line offset rest t = refl
+located_token-here Not line offset rest t = refl
+located_token-here Less line offset rest t = refl
+located_token-here Greater line offset rest t = refl
+located_token-here Equals line offset rest t = refl
+located_token-here ShiftLeft line offset rest t =
+    ap (λ p. record { token = variant.Punctuator ShiftLeft; line = line; end = p }) (further2 offset)
+located_token-here ShiftRight line offset rest t =
+    ap (λ p. record { token = variant.Punctuator ShiftRight; line = line; end = p }) (further2 offset)
+located_token-here LessEquals line offset rest t =
+    ap (λ p. record { token = variant.Punctuator LessEquals; line = line; end = p }) (further2 offset)
+located_token-here GreaterEquals line offset rest t =
+    ap (λ p. record { token = variant.Punctuator GreaterEquals; line = line; end = p }) (further2 offset)
+located_token-here EqualsEquals line offset rest t =
+    ap (λ p. record { token = variant.Punctuator EqualsEquals; line = line; end = p }) (further2 offset)
+located_token-here NotEquals line offset rest t =
+    ap (λ p. record { token = variant.Punctuator NotEquals; line = line; end = p }) (further2 offset)
+located_token-here AndAnd line offset rest t =
+    ap (λ p. record { token = variant.Punctuator AndAnd; line = line; end = p }) (further2 offset)
+located_token-here OrOr line offset rest t =
+    ap (λ p. record { token = variant.Punctuator OrOr; line = line; end = p }) (further2 offset)
+located_token-here PlusPlus line offset rest t =
+    ap (λ p. record { token = variant.Punctuator PlusPlus; line = line; end = p }) (further2 offset)
+located_token-here MinusMinus line offset rest t =
+    ap (λ p. record { token = variant.Punctuator MinusMinus; line = line; end = p }) (further2 offset)
+located_token-here PlusEquals line offset rest t =
+    ap (λ p. record { token = variant.Punctuator PlusEquals; line = line; end = p }) (further2 offset)
+located_token-here MinusEquals line offset rest t =
+    ap (λ p. record { token = variant.Punctuator MinusEquals; line = line; end = p }) (further2 offset)
+located_token-here StarEquals line offset rest t =
+    ap (λ p. record { token = variant.Punctuator StarEquals; line = line; end = p }) (further2 offset)
+located_token-here SlashEquals line offset rest t =
+    ap (λ p. record { token = variant.Punctuator SlashEquals; line = line; end = p }) (further2 offset)
+located_token-here PercentEquals line offset rest t =
+    ap (λ p. record { token = variant.Punctuator PercentEquals; line = line; end = p }) (further2 offset)
+located_token-here ShiftLeftEquals line offset rest t =
+    ap (λ p. record { token = variant.Punctuator ShiftLeftEquals; line = line; end = p }) (further3 offset)
+located_token-here ShiftRightEquals line offset rest t =
+    ap (λ p. record { token = variant.Punctuator ShiftRightEquals; line = line; end = p }) (further3 offset)
+located_token-here AndEquals line offset rest t =
+    ap (λ p. record { token = variant.Punctuator AndEquals; line = line; end = p }) (further2 offset)
+located_token-here XorEquals line offset rest t =
+    ap (λ p. record { token = variant.Punctuator XorEquals; line = line; end = p }) (further2 offset)
+located_token-here OrEquals line offset rest t =
+    ap (λ p. record { token = variant.Punctuator OrEquals; line = line; end = p }) (further2 offset)
+located_token-here OpenRound line offset rest t = refl
+located_token-here CloseRound line offset rest t = refl
+located_token-here OpenCurly line offset rest t = refl
+located_token-here CloseCurly line offset rest t = refl
+located_token-here Comma line offset rest t = refl
+located_token-here Semicolon line offset rest t = refl
 
 pub punctuator_element-located_token : (m : Punctuator) (a : UnreadSource) (rest : List ℕ) →
     a.bytes ≡ spelling m ++ rest →

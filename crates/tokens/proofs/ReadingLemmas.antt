@@ -55,7 +55,7 @@ shown-advanced next after located_token new old to_come' to_come not_last e =
     by (Some t) = sym (ap (λ s. Some (cond s [] (followed_by after (located_tokens (ahead old t))))) not_last)
 
 abbrev left : Bool → Bool → ℕ → ℕ
-left next_last after_last place = cond next_last 0 (cond after_last 1 (2 + (1048576 - place)))
+left next_last after_last offset = cond next_last 0 (cond after_last 1 (2 + (1048576 - offset)))
 
 pub most_left-bounded : (r : Cursor) → most_left r ≤ 1048578
 unfolding most_left
@@ -99,10 +99,11 @@ open-end x = by (is_decided_by_last_byte x.token)
     by true = omega arith
     by false = omega arith
 
-reach-first : (place : ℕ) (first : LocatedToken) (others : List LocatedToken) → StaysUndecided place (first ∷ others) →
+reach-first : (offset : ℕ) (first : LocatedToken) (others : List LocatedToken) →
+    StaysUndecided offset (first ∷ others) →
     undecided_until first ≤ undecided_reach_of (first ∷ others)
-reach-first place first [] r = omega arith
-reach-first place first (x ∷ others) r = omega (arith, r.1.0, open-end first)
+reach-first offset first [] r = omega arith
+reach-first offset first (x ∷ others) r = omega (arith, r.1.0, open-end first)
 
 pub opened-stopped : (bytes : List ℕ) (n : ℕ) (window : Window) (to_come : Option (List ℕ)) → window ≡ untouched →
     to_come ≡ Some bytes →
@@ -168,26 +169,27 @@ open-reach [] = omega arith
 open-reach (x ∷ []) = open-end x
 open-reach (x ∷ y ∷ rest) = open-end y
 
-first-last : (place : ℕ) (x : LocatedToken) (others : List LocatedToken) → StaysUndecided place (x ∷ others) →
+first-last : (offset : ℕ) (x : LocatedToken) (others : List LocatedToken) → StaysUndecided offset (x ∷ others) →
     undecided_until x ≤ last_undecided_until (x ∷ others)
-first-last place x [] s = omega arith
-first-last place x (y ∷ others) s = omega (arith, open-end x, s.1.0, first-last x.end y others s.1)
+first-last offset x [] s = omega arith
+first-last offset x (y ∷ others) s = omega (arith, open-end x, s.1.0, first-last x.end y others s.1)
 
-reach-last : (place : ℕ) (rest : List LocatedToken) → StaysUndecided place rest →
+reach-last : (offset : ℕ) (rest : List LocatedToken) → StaysUndecided offset rest →
     undecided_reach_of rest ≤ last_undecided_until rest
-reach-last place [] s = omega arith
-reach-last place (x ∷ []) s = omega arith
-reach-last place (x ∷ y ∷ others) s = first-last x.end y others s.1
+reach-last offset [] s = omega arith
+reach-last offset (x ∷ []) s = omega arith
+reach-last offset (x ∷ y ∷ others) s = first-last x.end y others s.1
 
 last-window_after : (x : LocatedToken) (others : List LocatedToken) →
     last_undecided_until others ≤ last_undecided_until (x ∷ others)
 last-window_after x [] = omega arith
 last-window_after x (y ∷ others) = omega arith
 
-all-last : (place : ℕ) (passed rest : List LocatedToken) → StaysUndecided place (passed ++ rest) →
+all-last : (offset : ℕ) (passed rest : List LocatedToken) → StaysUndecided offset (passed ++ rest) →
     undecided_reach_of rest ≤ last_undecided_until (passed ++ rest)
-all-last place [] rest s = reach-last place rest s
-all-last place (x ∷ passed) rest s = omega (arith, last-window_after x (passed ++ rest), all-last x.end passed rest s.1)
+all-last offset [] rest s = reach-last offset rest s
+all-last offset (x ∷ passed) rest s =
+    omega (arith, last-window_after x (passed ++ rest), all-last x.end passed rest s.1)
 
 -- bytes that leave the second of these tokens undecided end by its end, and leave the source's last token undecided
 pub open-within : (rest : List LocatedToken) (n : ℕ) → n ≤ undecided_reach_of rest → n ≤ reach_of rest

@@ -95,9 +95,9 @@ pub record EndsBehind (made : UnreadSource → List LocatedToken) : Type 0 where
 same_first : (x first : LocatedToken) (xs others : List LocatedToken) → x ∷ xs ≡ first ∷ others → x ≡ first
 same_first x first xs others e = cc
 
-at_most : (place : ℕ) (x first : LocatedToken) (xs others : List LocatedToken) → place ≤ undecided_until x →
-    x ∷ xs ≡ first ∷ others → place ≤ undecided_until first
-at_most place x first xs others h e = omega (arith, h, ap undecided_until (same_first x first xs others e))
+at_most : (offset : ℕ) (x first : LocatedToken) (xs others : List LocatedToken) → offset ≤ undecided_until x →
+    x ∷ xs ≡ first ∷ others → offset ≤ undecided_until first
+at_most offset x first xs others h e = omega (arith, h, ap undecided_until (same_first x first xs others e))
 
 -- a token of at least a byte is undecided at its beginning, and so is any other that isn't decided by its last byte
 pub open-located : (token : Token) (count : ℕ) (a : UnreadSource) → 0 < count →
@@ -116,17 +116,17 @@ open-undecided token count a h = by (is_decided_by_last_byte token) h
     by true h = absurd cc
     by false h = omega arith
 
-place-ahead_after_byte : (a : UnreadSource) → a.offset ≤ (ahead_after_byte a).offset
-place-ahead_after_byte a = by a.line a.offset a.bytes a.too_long
+offset-ahead_after_byte : (a : UnreadSource) → a.offset ≤ (ahead_after_byte a).offset
+offset-ahead_after_byte a = by a.line a.offset a.bytes a.too_long
   where
-    by : (line place : ℕ) (xs : List ℕ) (t : Bool) → let b : UnreadSource =
-        record { line = line; offset = place; bytes = xs; too_long = t } in place ≤ (ahead_after_byte b).offset
-    by line place [] t = omega arith
-    by line place (x ∷ xs) t = omega arith
+    by : (line offset : ℕ) (xs : List ℕ) (t : Bool) → let b : UnreadSource =
+        record { line = line; offset = offset; bytes = xs; too_long = t } in offset ≤ (ahead_after_byte b).offset
+    by line offset [] t = omega arith
+    by line offset (x ∷ xs) t = omega arith
 
-pub place-ahead_after : (n : ℕ) (a : UnreadSource) → a.offset ≤ (ahead_after n a).offset
-place-ahead_after zero a = omega arith
-place-ahead_after (suc n) a = omega (arith, place-ahead_after_byte a, place-ahead_after n (ahead_after_byte a))
+pub offset-ahead_after : (n : ℕ) (a : UnreadSource) → a.offset ≤ (ahead_after n a).offset
+offset-ahead_after zero a = omega arith
+offset-ahead_after (suc n) a = omega (arith, offset-ahead_after_byte a, offset-ahead_after n (ahead_after_byte a))
 
 pub last-open : (token : Token) (line : ℕ) (end : UnreadSource) → is_decided_by_last_byte token ≡ false →
     end.offset ≤ undecided_until (last_located_token token line end)
@@ -159,13 +159,13 @@ last-window_after token line end = by end.too_long
     by true = omega arith
     by false = omega arith
 
-last-ends : (place : ℕ) (token : Token) (line : ℕ) (a : UnreadSource) (first : LocatedToken)
+last-ends : (offset : ℕ) (token : Token) (line : ℕ) (a : UnreadSource) (first : LocatedToken)
     (others : List LocatedToken) →
-    is_decided_by_last_byte token ≡ false → place ≤ a.offset →
-    last_located_token token line (at_end a) ∷ [] ≡ first ∷ others → place ≤ undecided_until first
-last-ends place token line a first others u h e =
-    at_most place _ first [] others
-    (omega (arith, h, last-open token line (at_end a) u, place-ahead_after (length a.bytes) a)) e
+    is_decided_by_last_byte token ≡ false → offset ≤ a.offset →
+    last_located_token token line (at_end a) ∷ [] ≡ first ∷ others → offset ≤ undecided_until first
+last-ends offset token line a first others u h e =
+    at_most offset _ first [] others
+    (omega (arith, h, last-open token line (at_end a) u, offset-ahead_after (length a.bytes) a)) e
 
 tokens_within-ends : (n : ℕ) (a : UnreadSource) (first : LocatedToken) (others : List LocatedToken) →
     tokens_within n a ≡ first ∷ others →
@@ -181,7 +181,7 @@ tokens_within-ends (suc n) a first others e =
         tokens_of_element f a (tokens_within n) ≡ first ∷ others → a.offset ≤ undecided_until first
     by Nothing p h e = last-ends a.offset variant.End a.line a first others refl (omega arith) e
     by Unclosed p h e = last-ends a.offset (variant.Fault CommentNotClosed) a.line a first others refl (omega arith) e
-    by (Space count) p h e = omega (arith, h count e, place-ahead_after count a)
+    by (Space count) p h e = omega (arith, h count e, offset-ahead_after count a)
     by (Lexeme sign count) p h e =
         at_most a.offset (located sign count a) first _ others (open-located sign count a p) e
 
@@ -241,7 +241,7 @@ extended-ends punctuator (b ∷ rest) a first others e =
           | Some longer ↦ extended longer rest (ahead_after_byte a)
         ] ≡ first ∷ others → a.offset ≤ undecided_until first
     by None h e = at_most a.offset (token_ending (variant.Punctuator punctuator) a) first _ others (omega arith) e
-    by (Some longer) h e = omega (arith, h longer e, place-ahead_after_byte a)
+    by (Some longer) h e = omega (arith, h longer e, offset-ahead_after_byte a)
 
 pub in_punctuator-ends : (punctuator : Punctuator) → EndsBehind (in_punctuator punctuator)
 unfolding in_punctuator
@@ -256,19 +256,19 @@ in_comment-ends line = record { ends = λ a first others. by a first others (up_
     by a first others None e =
         last-ends a.offset (variant.Fault CommentNotClosed) line a first others refl (omega arith) e
     by a first others (Some count) e =
-        omega (arith, located_tokens-end.ends (ahead_after count a) first others e, place-ahead_after count a)
+        omega (arith, located_tokens-end.ends (ahead_after count a) first others e, offset-ahead_after count a)
 
-either-ends : (t : Bool) (place : ℕ) (xs ys : List LocatedToken) (first : LocatedToken) (others : List LocatedToken) →
-    (xs ≡ first ∷ others → place ≤ undecided_until first) → (ys ≡ first ∷ others → place ≤ undecided_until first) →
-    cond t xs ys ≡ first ∷ others → place ≤ undecided_until first
-either-ends true place xs ys first others f g e = f e
-either-ends false place xs ys first others f g e = g e
+either-ends : (t : Bool) (offset : ℕ) (xs ys : List LocatedToken) (first : LocatedToken) (others : List LocatedToken) →
+    (xs ≡ first ∷ others → offset ≤ undecided_until first) → (ys ≡ first ∷ others → offset ≤ undecided_until first) →
+    cond t xs ys ≡ first ∷ others → offset ≤ undecided_until first
+either-ends true offset xs ys first others f g e = f e
+either-ends false offset xs ys first others f g e = g e
 
 pub in_star-ends : (line : ℕ) → EndsBehind (in_star line)
 unfolding in_star
 in_star-ends line = record {
   ends = λ a first others. either-ends (begins_with 47 a.bytes) a.offset _ _ first others
-      (λ e. omega (arith, located_tokens-end.ends (ahead_after_byte a) first others e, place-ahead_after_byte a))
+      (λ e. omega (arith, located_tokens-end.ends (ahead_after_byte a) first others e, offset-ahead_after_byte a))
       ((in_comment-ends line).ends a first others);
 }
 
@@ -276,7 +276,7 @@ pub in_slash-ends : (line : ℕ) → EndsBehind (in_slash line)
 unfolding in_slash
 in_slash-ends line = record {
   ends = λ a first others. either-ends (begins_with 42 a.bytes) a.offset _ _ first others
-      (λ e. omega (arith, (in_comment-ends line).ends (ahead_after_byte a) first others e, place-ahead_after_byte a))
+      (λ e. omega (arith, (in_comment-ends line).ends (ahead_after_byte a) first others e, offset-ahead_after_byte a))
       ((in_punctuator-ends Slash).ends a first others);
 }
 

@@ -36,26 +36,26 @@ blank-skipped b blank a rest e =
     (located_tokens-input_element a ∙
     ap (λ f. tokens_of_element f a located_tokens) (ap input_element e ∙ chosen (is_blank b) _ _ blank))
 
-blanks-here : (to_come : Option (List ℕ)) (n line place taken : ℕ) (xs : List ℕ) (beyond : Beyond) →
+blanks-here : (to_come : Option (List ℕ)) (n line offset taken : ℕ) (xs : List ℕ) (beyond : Beyond) →
     n ≤ prefix_len is_blank xs →
-    to_read located_tokens (window_after n (held line place xs taken beyond)) to_come ≡
-    to_read located_tokens (held line place xs taken beyond) to_come
-blanks-here to_come zero line place taken xs beyond h = refl
-blanks-here to_come (suc n) line place taken [] beyond h = absurd (omega (arith, h))
-blanks-here to_come (suc n) line place taken (b ∷ xs) beyond h =
-    let next = window_after_byte (held line place (b ∷ xs) taken beyond) in
+    to_read located_tokens (window_after n (held line offset xs taken beyond)) to_come ≡
+    to_read located_tokens (held line offset xs taken beyond) to_come
+blanks-here to_come zero line offset taken xs beyond h = refl
+blanks-here to_come (suc n) line offset taken [] beyond h = absurd (omega (arith, h))
+blanks-here to_come (suc n) line offset taken (b ∷ xs) beyond h =
+    let next = window_after_byte (held line offset (b ∷ xs) taken beyond) in
     by (is_blank b) refl h (blanks-here to_come n next.line next.offset next.taken xs beyond)
   where
     by : (s : Bool) → is_blank b ≡ s → suc n ≤ cond s (1 + prefix_len is_blank xs) 0 →
         (n ≤ prefix_len is_blank xs →
-        to_read located_tokens (window_after n (window_after_byte (held line place (b ∷ xs) taken beyond))) to_come ≡
-        to_read located_tokens (window_after_byte (held line place (b ∷ xs) taken beyond)) to_come) →
-        to_read located_tokens (window_after (suc n) (held line place (b ∷ xs) taken beyond)) to_come ≡
-        to_read located_tokens (held line place (b ∷ xs) taken beyond) to_come
+        to_read located_tokens (window_after n (window_after_byte (held line offset (b ∷ xs) taken beyond))) to_come ≡
+        to_read located_tokens (window_after_byte (held line offset (b ∷ xs) taken beyond)) to_come) →
+        to_read located_tokens (window_after (suc n) (held line offset (b ∷ xs) taken beyond)) to_come ≡
+        to_read located_tokens (held line offset (b ∷ xs) taken beyond) to_come
     by true e h f =
         f (omega (arith, h)) ∙
-        to_read-pass located_tokens located_tokens (window_after_byte (held line place (b ∷ xs) taken beyond))
-        (held line place (b ∷ xs) taken beyond) to_come (Some b) b refl refl refl (blank-skipped b e)
+        to_read-pass located_tokens located_tokens (window_after_byte (held line offset (b ∷ xs) taken beyond))
+        (held line offset (b ∷ xs) taken beyond) to_come (Some b) b refl refl refl (blank-skipped b e)
     by false e h f = absurd (omega (arith, h))
 
 -- the blanks at hand are skipped
@@ -92,25 +92,25 @@ prefix_len-passes : (test : ℕ → Bool) (b : ℕ) (rest : List ℕ) → test b
 prefix_len-passes test b rest e = chosen (test b) _ _ e ∙ omega arith
 
 -- a span goes on
-token_span-goes_on-here : (test : ℕ → Bool) (token_of : List ℕ → Token) (line place b : ℕ) (rest : List ℕ)
+token_span-goes_on-here : (test : ℕ → Bool) (token_of : List ℕ → Token) (line offset b : ℕ) (rest : List ℕ)
     (too_long : Bool) →
     test b ≡ true → eqb b 10 ≡ false →
-    in_token_span test (λ more. token_of (b ∷ more)) (ahead_after_byte (here line place (b ∷ rest) too_long)) ≡
-    in_token_span test token_of (here line place (b ∷ rest) too_long)
+    in_token_span test (λ more. token_of (b ∷ more)) (ahead_after_byte (here line offset (b ∷ rest) too_long)) ≡
+    in_token_span test token_of (here line offset (b ∷ rest) too_long)
 unfolding in_token_span
-token_span-goes_on-here test token_of line place b rest t passes no_line =
+token_span-goes_on-here test token_of line offset b rest t passes no_line =
     let e = prefix_len-passes test b rest passes in
     let l : line_after b line ≡ line = other (eqb b 10) _ _ no_line in
-    let p : place + 1 + prefix_len test rest ≡ place + suc (prefix_len test rest) = omega arith in
+    let p : offset + 1 + prefix_len test rest ≡ offset + suc (prefix_len test rest) = omega arith in
     rw (e, p)
     (ap
     (λ n. followed
     (record {
       token = token_of (b ∷ take (prefix_len test rest) rest);
       line = n;
-      end = place + suc (prefix_len test rest);
+      end = offset + suc (prefix_len test rest);
     })
-    (ahead_after (prefix_len test rest) (ahead_after_byte (here line place (b ∷ rest) t)))) l)
+    (ahead_after (prefix_len test rest) (ahead_after_byte (here line offset (b ∷ rest) t)))) l)
 
 pub token_span-goes_on : (test : ℕ → Bool) (token_of : List ℕ → Token) (b : ℕ) → test b ≡ true → eqb b 10 ≡ false →
     (a : UnreadSource) (rest : List ℕ) → a.bytes ≡ b ∷ rest →
@@ -244,23 +244,23 @@ token_span-stops test token_of located_token token here to_come first ready f st
         ap (prefix_len test) r.1 ∙ other (test b) _ _ stops
 
 -- a punctuator takes one byte more
-punctuator_element-grows-here : (old longer : Punctuator) (line place b : ℕ) (rest : List ℕ) (too_long : Bool) →
+punctuator_element-grows-here : (old longer : Punctuator) (line offset b : ℕ) (rest : List ℕ) (too_long : Bool) →
     punctuator_of (spelling old ++ b ∷ []) ≡ Some longer →
-    in_punctuator longer (ahead_after_byte (here line place (b ∷ rest) too_long)) ≡
-    in_punctuator old (here line place (b ∷ rest) too_long)
+    in_punctuator longer (ahead_after_byte (here line offset (b ∷ rest) too_long)) ≡
+    in_punctuator old (here line offset (b ∷ rest) too_long)
 unfolding in_punctuator
-punctuator_element-grows-here old longer line place b rest t e = by (punctuator_of (spelling old ++ b ∷ [])) e
+punctuator_element-grows-here old longer line offset b rest t e = by (punctuator_of (spelling old ++ b ∷ [])) e
   where
     by : (o : Option Punctuator) → o ≡ Some longer →
-        extended longer rest (ahead_after_byte (here line place (b ∷ rest) t)) ≡
+        extended longer rest (ahead_after_byte (here line offset (b ∷ rest) t)) ≡
         elim o [
-          | None ↦ followed (token_ending (variant.Punctuator old) (here line place (b ∷ rest) t))
-              (here line place (b ∷ rest) t)
-          | Some longer ↦ extended longer rest (ahead_after_byte (here line place (b ∷ rest) t))
+          | None ↦ followed (token_ending (variant.Punctuator old) (here line offset (b ∷ rest) t))
+              (here line offset (b ∷ rest) t)
+          | Some longer ↦ extended longer rest (ahead_after_byte (here line offset (b ∷ rest) t))
         ]
     by None e = absurd cc
     by (Some m) e =
-        let d : m ≡ longer = cc in ap (λ k. extended k rest (ahead_after_byte (here line place (b ∷ rest) t))) (sym d)
+        let d : m ≡ longer = cc in ap (λ k. extended k rest (ahead_after_byte (here line offset (b ∷ rest) t))) (sym d)
 
 pub punctuator_element-grows : (old longer : Punctuator) (b : ℕ) →
     punctuator_of (spelling old ++ b ∷ []) ≡ Some longer →

@@ -17,8 +17,8 @@ use Rattle.tokens.specs.declared.windows.Beyond.TheVariants.{Unread, Nothing, To
 use Rattle.tokens.proofs.SourceLemmas.{source-append, source-ended, take-source, length-source-le}
 
 abbrev pub held : ℕ → ℕ → List ℕ → ℕ → Beyond → Window
-held line place at_hand taken beyond =
-    record { line = line; offset = place; at_hand = at_hand; taken = taken; beyond = beyond }
+held line offset at_hand taken beyond =
+    record { line = line; offset = offset; at_hand = at_hand; taken = taken; beyond = beyond }
 
 -- the lines after a byte and some more
 lines-cons : (line b : ℕ) (xs : List ℕ) →
@@ -34,16 +34,16 @@ lines-cons line b xs =
     by false = omega arith
 
 -- this many bytes further on: the lines among them are counted
-pub window_after-is : (line place taken : ℕ) (beyond : Beyond) (n : ℕ) (xs : List ℕ) → n ≤ length xs →
-    window_after n (held line place xs taken beyond) ≡
-    held (line + count_by (λ b. eqb b 10) (take n xs)) (place + n) (drop n xs) taken beyond
-window_after-is line place taken beyond zero xs h =
-    let e : line + 0 ≡ line = omega arith in let f : place + 0 ≡ place = omega arith in cc
-window_after-is line place taken beyond (suc n) [] h = absurd (omega (arith, h))
-window_after-is line place taken beyond (suc n) (b ∷ xs) h =
+pub window_after-is : (line offset taken : ℕ) (beyond : Beyond) (n : ℕ) (xs : List ℕ) → n ≤ length xs →
+    window_after n (held line offset xs taken beyond) ≡
+    held (line + count_by (λ b. eqb b 10) (take n xs)) (offset + n) (drop n xs) taken beyond
+window_after-is line offset taken beyond zero xs h =
+    let e : line + 0 ≡ line = omega arith in let f : offset + 0 ≡ offset = omega arith in cc
+window_after-is line offset taken beyond (suc n) [] h = absurd (omega (arith, h))
+window_after-is line offset taken beyond (suc n) (b ∷ xs) h =
     let e = lines-cons line b (take n xs) in
-    let f : place + 1 + n ≡ place + suc n = omega arith in
-    window_after-is (line_after b line) (place + 1) taken beyond n xs (omega (arith, h)) ∙ cc
+    let f : offset + 1 + n ≡ offset + suc n = omega arith in
+    window_after-is (line_after b line) (offset + 1) taken beyond n xs (omega (arith, h)) ∙ cc
 
 -- the bytes at hand, this many further on
 pub between-further : (xs : List ℕ) (i n j : ℕ) → between (i + n) j xs ≡ drop n (between i j xs)
@@ -129,12 +129,12 @@ filled-same Nothing buffer front rest taken n kept h e l z =
 
 -- an empty window was filled
 pub refilled : (before after : Option (List ℕ)) (beyond : Beyond) (at_hand buffer bytes : List ℕ)
-    (line place new_place taken n kept : ℕ) → at_hand ≡ [] → new_place ≡ place →
+    (line offset new_offset taken n kept : ℕ) → at_hand ≡ [] → new_offset ≡ offset →
     Splits (take n bytes) (1048576 - taken) kept beyond → take n bytes ≡ take n buffer → Gives before after buffer n →
-    seen (held line new_place (between 0 kept bytes) (taken + n) beyond) after ≡
-    seen (held line place at_hand taken Unread) before
-refilled None after beyond at_hand buffer bytes line place new_place taken n kept e p h f w = rw w refl
-refilled (Some to_come) after beyond at_hand buffer bytes line place new_place taken n kept e p h f w =
+    seen (held line new_offset (between 0 kept bytes) (taken + n) beyond) after ≡
+    seen (held line offset at_hand taken Unread) before
+refilled None after beyond at_hand buffer bytes line offset new_offset taken n kept e p h f w = rw w refl
+refilled (Some to_come) after beyond at_hand buffer bytes line offset new_offset taken n kept e p h f w =
     let d = take-append-drop n to_come in
     let l = length-take-le n to_come w.within in
     let same : IsSame bytes to_come (drop n to_come) taken n kept beyond =

@@ -122,7 +122,7 @@ pub record Finds (inside : UnreadSource → List LocatedToken) (old new : Window
   pub found : IsFound here new
 
 -- the same from its beginning
-pub record Reads (old new : Window) (before after : Device) (here : LocatedToken) : Type 0 where
+pub record ReadsOne (old new : Window) (before after : Device) (here : LocatedToken) : Type 0 where
   pub tokens : to_read (followed here) new after.to_come ≡ to_read located_tokens old before.to_come
   pub read : IsRead here old new
 
@@ -135,7 +135,7 @@ FindsToken (Err e) inside old new before after here here' = LeavesUnread inside 
 -- what a call leaves that reads the next token, or fails
 abbrev pub ReadsToken : {T : Type 0} → Result T DeviceFault → (old new : Window) → (before after : Device)
     → (here here' : LocatedToken) → Type 0
-ReadsToken (Ok x) old new before after here here' = Reads old new before after here'
+ReadsToken (Ok x) old new before after here here' = ReadsOne old new before after here'
 ReadsToken (Err e) old new before after here here' = LeavesUnread located_tokens old new before.to_come here here'
 
 -- A call that was at a `/`: it found a token, or went past a comment and put none.

@@ -77,7 +77,8 @@ impl Cursor {
         requires not_last { is_last self.old.next.token ≡ false }
         requires ready { MayAsk self.old.window (F.device feed.old) }
         ensures next { self.new.next ≡ self.old.after }
-        ensures steps { OnOk result (AdvancesCursor self.old self.new (F.device feed.old).to_come (F.device feed.new).to_come) }
+        ensures advances { OnOk result
+            (AdvancesCursor self.old self.new (F.device feed.old).to_come (F.device feed.new).to_come) }
         ensures stopped { OnErr result ((next : LocatedToken) (others : List LocatedToken)
             → shown self.old (F.device feed.old).to_come ≡ Some (next ∷ others) →
             bytes_taken self.new ≤ undecided_reach_of others) }

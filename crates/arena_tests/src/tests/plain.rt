@@ -99,9 +99,9 @@ impl PlainRobot {
     }
 
     fn sped(self) -> PlainRobot {
-        let step = self.wanted_speed.wrapping_sub(self.speed).clamp(-10, 10);
+        let change = self.wanted_speed.wrapping_sub(self.speed).clamp(-10, 10);
         PlainRobot {
-            speed: self.speed.wrapping_add(step),
+            speed: self.speed.wrapping_add(change),
             ..self
         }
     }

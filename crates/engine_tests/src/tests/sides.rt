@@ -181,7 +181,7 @@ fn sides_of(rt: &impl Abort, profile: Profile, source: &[u8], cycles: u16) -> Re
 }
 
 /// Makes counts: questions and restarts by operations, and by the plain machine.
-fn told(asks: u16, restarts: u16, plain_asks: u16, plain_restarts: u16) -> Sides {
+fn counted(asks: u16, restarts: u16, plain_asks: u16, plain_restarts: u16) -> Sides {
     Sides {
         asks,
         restarts,
@@ -195,24 +195,24 @@ fn the_right_side_asks(rt: HostRuntime) -> Result<(), Fail> {
     let (first, second) = (Profile::first(), Profile::second());
     let table = [
         // in its second life and in its third one the digger asks by operations again
-        ("digger", first, DIGGER, 947, told(63, 0, 2, 1)),
-        ("digger", first, DIGGER, 947 + 11, told(66, 0, 2, 1)),
-        ("digger", first, DIGGER, 3 * 947, told(189, 0, 6, 3)),
-        ("digger", second, DIGGER, 2 * 1907, told(254, 0, 4, 2)),
-        ("piler", first, PILER, 836, told(54, 0, 2, 1)),
-        ("piler", first, PILER, 836 + 11, told(55, 0, 2, 1)),
-        ("piler", first, PILER, 3 * 836, told(162, 0, 6, 3)),
-        ("piler", second, PILER, 2 * 1663, told(218, 0, 4, 2)),
+        ("digger", first, DIGGER, 947, counted(63, 0, 2, 1)),
+        ("digger", first, DIGGER, 947 + 11, counted(66, 0, 2, 1)),
+        ("digger", first, DIGGER, 3 * 947, counted(189, 0, 6, 3)),
+        ("digger", second, DIGGER, 2 * 1907, counted(254, 0, 4, 2)),
+        ("piler", first, PILER, 836, counted(54, 0, 2, 1)),
+        ("piler", first, PILER, 836 + 11, counted(55, 0, 2, 1)),
+        ("piler", first, PILER, 3 * 836, counted(162, 0, 6, 3)),
+        ("piler", second, PILER, 2 * 1663, counted(218, 0, 4, 2)),
         (
             "returner",
             first,
             RETURNER,
             750 + 7 * 100,
-            told(3, 0, 100, 0),
+            counted(3, 0, 100, 0),
         ),
-        ("scanner", first, SCANNER, 9 * 100, told(100, 0, 0, 0)),
-        ("asker", first, ASKER, 5 * 100, told(100, 100, 0, 0)),
-        ("nester", first, NESTER, 25 * 100, told(0, 0, 300, 100)),
+        ("scanner", first, SCANNER, 9 * 100, counted(100, 0, 0, 0)),
+        ("asker", first, ASKER, 5 * 100, counted(100, 100, 0, 0)),
+        ("nester", first, NESTER, 25 * 100, counted(0, 0, 300, 100)),
     ];
     for (name, profile, source, cycles, want) in table {
         let sides = sides_of(&rt, profile, source, cycles)?;

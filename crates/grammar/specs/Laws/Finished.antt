@@ -22,8 +22,8 @@ PassesAll profile located_tokens scope ds =
     DerivesWithoutFault profile (initial_state located_tokens) (state [] [] [] scope ds)
 
 -- the names of externals and functions that are in scope
-abbrev pub known_names : Scope → Pools
-known_names scope = record { externals = scope.externals; functions = scope.functions }
+abbrev pub names_in_scope : Scope → Pools
+names_in_scope scope = record { externals = scope.externals; functions = scope.functions }
 
 -- the source is a file: its names are those in scope, and its actions those of the functions as they were defined
 pub record IsFinished (profile : Profile) (located_tokens : List LocatedToken) (scope : Scope) (ds : List Definition)
@@ -31,9 +31,9 @@ pub record IsFinished (profile : Profile) (located_tokens : List LocatedToken) (
   pub file : File
   pub compiled : compiled_tokens profile located_tokens ≡ Ok file
   pub resolved : IsResolved file
-  pub named : known_names scope ≡ pools_of file
+  pub named : names_in_scope scope ≡ pools_of file
   pub main : function_number main_name scope ≡ Some file.main
-  pub told : actions file ≡ definitions_actions ds
+  pub reported : actions file ≡ definitions_actions ds
 
 -- each function that was mentioned is defined, and main is among them: the source is a file
 abbrev pub Finished : Type 0

@@ -31,7 +31,7 @@ pub record IsScopeKept {F : Type 0} (functions : List F) (lines begun : List ℕ
   pub few : length functions ≤ MOST_NAMES
   pub lined : length lines ≡ length functions
   pub once : IsDistinct eqb begun
-  pub known : (q : ℕ) → list_any (eqb q) begun ≡ true → q < length functions
+  pub within : (q : ℕ) → list_any (eqb q) begun ≡ true → q < length functions
 
 -- the line of the first mention of the first function, by number, whose definition didn't begin
 abbrev pub line_of_undefined : ℕ → List ℕ → List ℕ → Option ℕ

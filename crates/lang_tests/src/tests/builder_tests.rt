@@ -20,7 +20,7 @@ const SOURCES: &[&[u8]] = &[
 ];
 
 #[test]
-fn trees_are_told_to_another_builder(rt: HostRuntime) -> Result<(), Fail> {
+fn trees_are_reported_to_another_builder(rt: HostRuntime) -> Result<(), Fail> {
     for source in SOURCES {
         let mut trees = TreeMaker::new(rt.alloc(), Profile::first());
         parse(&mut MemoryFeed::new(source, 4_096), &mut trees)?;

@@ -30,7 +30,7 @@ const LARGE: &[(&[Part], usize)] = &[
         &[Once(b"1"), Times(b"+2", 1_900), Once(b";")],
         2 + 2 * 1_900,
     ),
-    // calls and right sides inside one another: each level has `BeginCall`, two constants, two `LogicMiddle`, two
+    // calls and right sides inside one another: each has `BeginCall`, two constants, two `LogicMiddle`, two
     // `ApplyBinop` and `EndCall`
     (
         &[

@@ -6,7 +6,7 @@ use crate::tests::sources::{Part, numbered, source_of};
 use lang::{Code, Profile};
 use std::test::Fail;
 
-/// Sources at a limit of tokens or levels, and one past it, each with its fault.
+/// Sources at a limit of tokens or of nesting, and one past it, each with its fault.
 const LIMITS: &[(&[Part], Option<(u32, Code)>)] = &[
     (&[Once(b"main(){\n2147483647;}")], None),
     (
@@ -18,7 +18,7 @@ const LIMITS: &[(&[Part], Option<(u32, Code)>)] = &[
         &[Once(b"main(){\n"), Times(b"a", 32), Once(b";}")],
         Some((2, Code::NameTooLong)),
     ),
-    // the function's own block is a level
+    // the function's own block is nested
     (
         &[
             Once(b"main(){\n"),
@@ -42,7 +42,7 @@ const LIMITS: &[(&[Part], Option<(u32, Code)>)] = &[
 ];
 
 #[test]
-fn tokens_and_levels_have_limits(rt: HostRuntime) -> Result<(), Fail> {
+fn tokens_and_nesting_have_limits(rt: HostRuntime) -> Result<(), Fail> {
     for (parts, wanted) in LIMITS {
         check_fault(&rt, &source_of(rt.alloc(), parts)?, *wanted)?;
     }

@@ -13,7 +13,7 @@ const EMPTY_MAIN: &[&str] = &[
 ];
 
 /// What the parse of `main(){ x = a+++b; }` makes.
-const STEP: &[&str] = &[
+const POSTFIX: &[&str] = &[
     "externals",
     "main x a b: Function { number: 0, parameters: 0, variables: 3, body: [\
      ExpressionStatement(Assign(Set, Local(0), Binary(Add, Postfix(Add, Local(1)), Variable(Local(2)))))] }",
@@ -47,7 +47,7 @@ const SHOT_MADE: &[&str] = &[
 #[test]
 fn files_have_their_names_and_trees(rt: HostRuntime) -> Result<(), Fail> {
     check_trees(&rt, b"main(){}", EMPTY_MAIN)?;
-    check_trees(&rt, b"main(){ x = a+++b; }", STEP)?;
+    check_trees(&rt, b"main(){ x = a+++b; }", POSTFIX)?;
     let parameters = b"d(x,y) int x,y; {return(x*x+y*y);} main(){d(3);}";
     check_trees(&rt, parameters, PARAMETERS)?;
     check_trees(&rt, SHOT, SHOT_MADE)?;
@@ -84,18 +84,18 @@ const ONE: &[&str] = &[
 
 #[test]
 fn tokens_may_lie_across_the_end_of_the_window(rt: HostRuntime) -> Result<(), Fail> {
-    for place in [4_094, 4_095, 4_096] {
-        let punctuator = [Once(b"main(){x"), Times(b" ", place - 8), Once(b"<<=1;}")];
+    for offset in [4_094, 4_095, 4_096] {
+        let punctuator = [Once(b"main(){x"), Times(b" ", offset - 8), Once(b"<<=1;}")];
         check_trees(&rt, &source_of(rt.alloc(), &punctuator)?, SHIFTED)?;
         let name = [
             Once(b"main(){"),
-            Times(b" ", place - 7),
+            Times(b" ", offset - 7),
             Once(b"abcdefghijklmnopqrstuvwxyz_1234;}"),
         ];
         check_trees(&rt, &source_of(rt.alloc(), &name)?, LONG_NAME)?;
         let comment = [
             Once(b"main(){"),
-            Times(b" ", place - 7),
+            Times(b" ", offset - 7),
             Once(b"/* x; */1;}"),
         ];
         check_trees(&rt, &source_of(rt.alloc(), &comment)?, ONE)?;

@@ -160,7 +160,7 @@ pub fn programs_of(source: &[u8], settings: &Settings) -> Result<Programs, Fail>
         return Err("the settings are of another profile".into());
     }
     let mut programs = Programs::new();
-    programs.push(program);
+    programs.add_translated(program);
     Ok(programs)
 }
 

@@ -330,7 +330,7 @@ pub fn in_brackets(alloc: Global, pairs: usize) -> Result<Vec<u8>, AllocError> {
 }
 
 #[test]
-fn levels_have_a_limit(rt: HostRuntime) -> Result<(), Fail> {
+fn nesting_has_a_limit(rt: HostRuntime) -> Result<(), Fail> {
     check_listing(&rt, "a.r", &in_brackets(rt.alloc(), 63)?, ONE)?;
     let deep = in_brackets(rt.alloc(), 64)?;
     check_fault(&rt, "a.r", &deep, "a.r:1: nested too deeply")

@@ -174,8 +174,8 @@ fn each_report_is_written_by_itself(rt: HostRuntime) -> Result<(), Fail> {
         Ok(Status::Done)
     );
     assert_eq!(rt; out.portions().len(), 201);
-    for (place, portion) in out.portions().iter().enumerate() {
-        let begin = if place < 200 {
+    for (index, portion) in out.portions().iter().enumerate() {
+        let begin = if index < 200 {
             b"Match ".as_slice()
         } else {
             b"Totals".as_slice()

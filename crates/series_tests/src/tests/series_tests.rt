@@ -7,10 +7,10 @@ use std::test::Fail;
 use tokens::MemoryFeed;
 
 /// What a call for the next match answers, whether the series is over then, and how many portions were put so far.
-type Told = (Result<Step, SeriesFault>, bool, usize);
+type Answered = (Result<Step, SeriesFault>, bool, usize);
 
 /// Plays a series of two short matches call by call, and compares what each call answers.
-fn check_calls(rt: &impl Abort, out: &mut MemorySink, calls: &[Told]) -> Result<(), Fail> {
+fn check_calls(rt: &impl Abort, out: &mut MemorySink, calls: &[Answered]) -> Result<(), Fail> {
     let settings = game_of_one(short_matches(2), "a.r");
     let programs = programs_of(b"main(){}", &settings)?;
     let mut series = Series::new(&programs, &settings);

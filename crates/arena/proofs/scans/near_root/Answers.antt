@@ -17,27 +17,27 @@ second_step n log power first second some most low high is one two =
     let near = rw (sym one) at (first_near n power some start) in
     rw two (second_near n first some near (omega (arith, one, first_bound n power start)))
 
-pub newton_step-requires-clause-guess : goal.newton_step-requires-clause-guess
-newton_step-requires-clause-guess c =
+pub newton_iterate-requires-clause-guess : goal.newton_iterate-requires-clause-guess
+newton_iterate-requires-clause-guess c =
     let e = c.ilog2.ensures in
     let start = start_is c.args.square c.ilog2.result c.requires.most e.power_le e.next_power_gt in
     rw (power_is c.ilog2.result e.bound) (omega (arith, start.most))
 
-pub newton_step-requires-2-clause-guess : goal.newton_step-requires-2-clause-guess
-newton_step-requires-2-clause-guess c =
+pub newton_iterate-requires-2-clause-guess : goal.newton_iterate-requires-2-clause-guess
+newton_iterate-requires-2-clause-guess c =
     let e = c.ilog2.ensures in
     let start = start_is c.args.square c.ilog2.result c.requires.most e.power_le e.next_power_gt in
-    let first = rw (power_is c.ilog2.result e.bound) at c.newton_step.ensures in
+    let first = rw (power_is c.ilog2.result e.bound) at c.newton_iterate.ensures in
     omega (arith, first, first_bound c.args.square _ start)
 
 pub returns-clause-above : goal.returns-clause-above
 returns-clause-above c =
     let e = c.ilog2.ensures in
     (second_step c.args.square c.ilog2.result _ _ _ c.requires.some c.requires.most e.power_le e.next_power_gt
-    (power_is c.ilog2.result e.bound) c.newton_step.ensures c.newton_step-2.ensures).above
+    (power_is c.ilog2.result e.bound) c.newton_iterate.ensures c.newton_iterate-2.ensures).above
 
 pub returns-clause-bound : goal.returns-clause-bound
 returns-clause-bound c =
     let e = c.ilog2.ensures in
     (second_step c.args.square c.ilog2.result _ _ _ c.requires.some c.requires.most e.power_le e.next_power_gt
-    (power_is c.ilog2.result e.bound) c.newton_step.ensures c.newton_step-2.ensures).bound
+    (power_is c.ilog2.result e.bound) c.newton_iterate.ensures c.newton_iterate-2.ensures).bound

@@ -7,6 +7,6 @@ loop-next-preserved c = record {
   some = some_root c.args.square c.loop-next.next (omega arith) c.loop-next.invariant.next_above;
   bound = omega (arith, c.loop-next.invariant.bound);
   above = c.loop-next.invariant.next_above;
-  next_above = c.newton_step-next-in-loop-next.ensures.above;
-  reached = c.newton_step-next-in-loop-next.ensures.reached;
+  next_above = c.newton_iterate-next-in-loop-next.ensures.above;
+  reached = c.newton_iterate-next-in-loop-next.ensures.reached;
 }

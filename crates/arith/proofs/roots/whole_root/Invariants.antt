@@ -1,7 +1,7 @@
 use Rattle.std.proofs.Common.{◌+◌, ◌*◌, ◌<◌, ◌≤◌}
 use Rattle.arith.proofs.roots.whole_root.Given as goal
 
--- the guess isn't below the root, and next is the step from it
+-- the guess isn't below the root, and next is the iterate from it
 abbrev pub invariant-loop-next : goal.invariant-loop-next
 invariant-loop-next l = record {
   some : 0 < l.guess;

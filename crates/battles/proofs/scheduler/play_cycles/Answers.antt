@@ -5,7 +5,7 @@ use Rattle.battles.specs.Battle.{Behaviour, BattleState, state_after}
 use Rattle.battles.specs.Carrying.{AreRobotsOf, HasReached}
 use Rattle.battles.proofs.Cycles.{state_none, first_begins}
 use Rattle.battles.proofs.Spans.{state_segment, state_segments, state_rest, first_decided, first_undecided, first_skipped, first_limit}
-use Rattle.battles.proofs.Manned.{have_places}
+use Rattle.battles.proofs.Manned.{have_field_robots}
 use Rattle.battles.proofs.scheduler.play_cycles.Goals as goal
 
 pub loop-number-init : goal.loop-number-init
@@ -30,9 +30,10 @@ returns-then-play_period-clause-cycles c = λ robots s are reached.
     (c.loop-number.invariant.cycles robots s are reached)
     (sym (c.if-play_period.ensures.state robots _ are now).decided)
 
-pub skip_intervals-number-requires-clause-places : goal.skip_intervals-number-requires-clause-places
-skip_intervals-number-requires-clause-places c =
-    have_places c.args.executables.now c.play_period.new.runners c.play_period.new.arena c.play_period.ensures.manned
+pub skip_intervals-number-requires-clause-field_robots : goal.skip_intervals-number-requires-clause-field_robots
+skip_intervals-number-requires-clause-field_robots c =
+    have_field_robots c.args.executables.now c.play_period.new.runners c.play_period.new.arena
+    c.play_period.ensures.manned
 
 pub loop-number-preserved : goal.loop-number-preserved
 loop-number-preserved c =

@@ -4,13 +4,14 @@ use Rattle.std.proofs.lemmas.Bool.Decides.{nat_tests}
 use Rattle.battles.specs.Battle.{Behaviour, BattleState}
 use Rattle.battles.specs.Carrying.{AreRobotsOf, HasReached}
 use Rattle.battles.proofs.Cycles.{updated_reached}
-use Rattle.battles.proofs.Manned.{have_places}
+use Rattle.battles.proofs.Manned.{have_field_robots}
 use Rattle.battles.specs.Intervals.{cycles_without_updates, period}
 use Rattle.battles.proofs.scheduler.play_period.Goals as goal
 use Rattle.battles.proofs.scheduler.play_period.Goals.{then-not-advance_if_ahead, else-not-advance_if_ahead}
 
 pub advance_if_ahead-requires : goal.advance_if_ahead-requires
-advance_if_ahead-requires c = have_places c.args.executables.now c.args.runners.now c.args.arena.now c.requires.manned
+advance_if_ahead-requires c =
+    have_field_robots c.args.executables.now c.args.runners.now c.args.arena.now c.requires.manned
 
 -- no two are at most one
 not_two : (n : ℕ) → not (nat_lt 1 n) ≡ nat_le n 1

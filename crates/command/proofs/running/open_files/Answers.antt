@@ -10,7 +10,7 @@ returns-in-Err-Refused-clause-refused g c =
     let within : c.loop-word.word-index < length c.args.words.now =
     omega (arith, c.loop-word-test.true, c.loop-word.auto.word-index-end) in
     record {
-      place = c.loop-word.word-index;
+      index = c.loop-word.word-index;
       here = word_at c.args.words.now c.loop-word.word-index _ within;
       refused = c.in-Err-Refused.ensures.refused (ap Err c.in-Err-Refused.field-0-is);
       opened = rw (take-map (λ (word : Bor (List ℕ)). word.now) c.loop-word.word-index c.args.words.now)

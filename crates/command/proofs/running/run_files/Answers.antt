@@ -54,7 +54,7 @@ returns-in-Err-Read-clause-ran g c =
         _,
         refl,
         here,
-        record { place = c.in-Err-Read.file; here = here; within = e.0; is = ap (λ (f : Failures). f.feeds) e.1 },
+        record { index = c.in-Err-Read.file; here = here; within = e.0; is = ap (λ (f : Failures). f.feeds) e.1 },
       );
       output = rw c.in-Err-Read.field-0-is at c.in-Err-Read.ensures.output;
       devices = e;

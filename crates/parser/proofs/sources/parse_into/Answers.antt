@@ -24,12 +24,12 @@ returns-in_err-cursor-clause-taken g c =
 pub returns-in_err-read-clause-refused : goal.returns-in_err-read-clause-refused
 returns-in_err-read-clause-refused g c =
     let nothing : scope_at c.new-parser.result.position ≡ no_names =
-    rw (c.new-parser.ensures.place, c.requires.new.1) refl in
+    rw (c.new-parser.ensures.position, c.requires.new.1) refl in
     let tells : tokens_at c.new-parser.result.position ≡ option_map tokens (g.F.Feed.device c.args.feed.now).to_come =
-    rw c.new-parser.ensures.place c.in_ok-cursor.ensures.opens.tokens in
+    rw c.new-parser.ensures.position c.in_ok-cursor.ensures.opens.tokens in
     let opened : c.new-parser.result.position.to_come ≡
     option_map (drop (taken_at c.new-parser.result.position)) (g.F.Feed.device c.args.feed.now).to_come =
-    rw c.new-parser.ensures.place c.in_ok-cursor.ensures.opens.took in
+    rw c.new-parser.ensures.position c.in_ok-cursor.ensures.opens.took in
     let p = err_from_is_err_and c.from_residual-in_err-read.result c.from_residual-in_err-read.ensures.1 in
     rw (p.1, p.2) (refused_left (g.B.Build.stands c.args.build.now) _
     (g.B.Build.stands c.source-read.new.self.builder.now) g.B.Build.denied
@@ -44,12 +44,12 @@ returns-in_err-read-clause-refused g c =
 pub returns-in_err-read-clause-taken : goal.returns-in_err-read-clause-taken
 returns-in_err-read-clause-taken g c =
     let nothing : scope_at c.new-parser.result.position ≡ no_names =
-    rw (c.new-parser.ensures.place, c.requires.new.1) refl in
+    rw (c.new-parser.ensures.position, c.requires.new.1) refl in
     let tells : tokens_at c.new-parser.result.position ≡ option_map tokens (g.F.Feed.device c.args.feed.now).to_come =
-    rw c.new-parser.ensures.place c.in_ok-cursor.ensures.opens.tokens in
+    rw c.new-parser.ensures.position c.in_ok-cursor.ensures.opens.tokens in
     let opened : c.new-parser.result.position.to_come ≡
     option_map (drop (taken_at c.new-parser.result.position)) (g.F.Feed.device c.args.feed.now).to_come =
-    rw c.new-parser.ensures.place c.in_ok-cursor.ensures.opens.took in
+    rw c.new-parser.ensures.position c.in_ok-cursor.ensures.opens.took in
     let p = err_from_is_err_and c.from_residual-in_err-read.result c.from_residual-in_err-read.ensures.1 in
     rw (p.1, p.2) (stops_taking _ (g.B.Build.stands c.args.build.now) _ _ _ c.new-parser.result.position
     c.in_err-read.field-0.0 _ nothing tells
@@ -60,9 +60,9 @@ returns-in_err-read-clause-taken g c =
 pub returns-in_err-checked-clause-refused : goal.returns-in_err-checked-clause-refused
 returns-in_err-checked-clause-refused g c =
     let nothing : scope_at c.new-parser.result.position ≡ no_names =
-    rw (c.new-parser.ensures.place, c.requires.new.1) refl in
+    rw (c.new-parser.ensures.position, c.requires.new.1) refl in
     let tells : tokens_at c.new-parser.result.position ≡ option_map tokens (g.F.Feed.device c.args.feed.now).to_come =
-    rw c.new-parser.ensures.place c.in_ok-cursor.ensures.opens.tokens in
+    rw c.new-parser.ensures.position c.in_ok-cursor.ensures.opens.tokens in
     let whole : IsWhole (g.B.Build.stands c.args.build.now) (g.B.Build.stands c.source-read.new.self.builder.now)
     (g.F.Feed.device c.args.feed.now).to_come c.new-parser.result.position c.source-read.new.self.tokens.position =
     record
@@ -78,12 +78,12 @@ returns-in_err-checked-clause-refused g c =
 pub returns-in_err-checked-clause-taken : goal.returns-in_err-checked-clause-taken
 returns-in_err-checked-clause-taken g c =
     let nothing : scope_at c.new-parser.result.position ≡ no_names =
-    rw (c.new-parser.ensures.place, c.requires.new.1) refl in
+    rw (c.new-parser.ensures.position, c.requires.new.1) refl in
     let tells : tokens_at c.new-parser.result.position ≡ option_map tokens (g.F.Feed.device c.args.feed.now).to_come =
-    rw c.new-parser.ensures.place c.in_ok-cursor.ensures.opens.tokens in
+    rw c.new-parser.ensures.position c.in_ok-cursor.ensures.opens.tokens in
     let opened : c.new-parser.result.position.to_come ≡
     option_map (drop (taken_at c.new-parser.result.position)) (g.F.Feed.device c.args.feed.now).to_come =
-    rw c.new-parser.ensures.place c.in_ok-cursor.ensures.opens.took in
+    rw c.new-parser.ensures.position c.in_ok-cursor.ensures.opens.took in
     let whole : IsWhole (g.B.Build.stands c.args.build.now) (g.B.Build.stands c.source-read.new.self.builder.now)
     (g.F.Feed.device c.args.feed.now).to_come c.new-parser.result.position c.source-read.new.self.tokens.position =
     record
@@ -98,9 +98,9 @@ returns-in_err-checked-clause-taken g c =
 pub returns-clause-file : goal.returns-clause-file
 returns-clause-file g c =
     let nothing : scope_at c.new-parser.result.position ≡ no_names =
-    rw (c.new-parser.ensures.place, c.requires.new.1) refl in
+    rw (c.new-parser.ensures.position, c.requires.new.1) refl in
     let tells : tokens_at c.new-parser.result.position ≡ option_map tokens (g.F.Feed.device c.args.feed.now).to_come =
-    rw c.new-parser.ensures.place c.in_ok-cursor.ensures.opens.tokens in
+    rw c.new-parser.ensures.position c.in_ok-cursor.ensures.opens.tokens in
     let whole : IsWhole (g.B.Build.stands c.args.build.now) (g.B.Build.stands c.source-read.new.self.builder.now)
     (g.F.Feed.device c.args.feed.now).to_come c.new-parser.result.position c.source-read.new.self.tokens.position =
     record
@@ -113,12 +113,12 @@ returns-clause-file g c =
 pub returns-clause-taken : goal.returns-clause-taken
 returns-clause-taken g c =
     let nothing : scope_at c.new-parser.result.position ≡ no_names =
-    rw (c.new-parser.ensures.place, c.requires.new.1) refl in
+    rw (c.new-parser.ensures.position, c.requires.new.1) refl in
     let tells : tokens_at c.new-parser.result.position ≡ option_map tokens (g.F.Feed.device c.args.feed.now).to_come =
-    rw c.new-parser.ensures.place c.in_ok-cursor.ensures.opens.tokens in
+    rw c.new-parser.ensures.position c.in_ok-cursor.ensures.opens.tokens in
     let opened : c.new-parser.result.position.to_come ≡
     option_map (drop (taken_at c.new-parser.result.position)) (g.F.Feed.device c.args.feed.now).to_come =
-    rw c.new-parser.ensures.place c.in_ok-cursor.ensures.opens.took in
+    rw c.new-parser.ensures.position c.in_ok-cursor.ensures.opens.took in
     let whole : IsWhole (g.B.Build.stands c.args.build.now) (g.B.Build.stands c.source-read.new.self.builder.now)
     (g.F.Feed.device c.args.feed.now).to_come c.new-parser.result.position c.source-read.new.self.tokens.position =
     record

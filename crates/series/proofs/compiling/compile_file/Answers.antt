@@ -11,7 +11,7 @@ take_program-requires-clause-made g c =
     let good =
     good_file c.restart.new.self c.parse_into.new.build c.args.profile _ _ c.pools.result.now
     c.restart.ensures c.pools.ensures c.in-Ok.ensures.file in
-    record { profile = c.args.profile; file = good.file; told = good.told }
+    record { profile = c.args.profile; file = good.file; reported = good.reported }
 
 pub take_program-requires-clause-keeps : goal.take_program-requires-clause-keeps
 take_program-requires-clause-keeps g c =
@@ -22,7 +22,7 @@ take_program-requires-clause-keeps g c =
       room = c.requires.keeps.room;
       alike =
           subst (λ (p : Profile). IfSome (g.K.TakesPrograms.kept c.args.keeper.now) (λ codes. AreOfProfile p codes))
-          good.told.stands.profile c.requires.keeps.alike;
+          good.reported.stands.profile c.requires.keeps.alike;
     }
 
 pub returns-in-Ok-take_program-clause-output : goal.returns-in-Ok-take_program-clause-output
@@ -35,11 +35,12 @@ returns-in-Ok-take_program-clause-output g c = λ bytes told.
     let code = good_code c.args.profile bytes good.file program is refl in
     record {
       output = good_put (g.K.TakesPrograms.mode c.args.keeper.now) c.args.profile c.args.name.now bytes good.file _
-          program _ _ is good.told.named refl
-          (c.in-Ok-take_program.ensures.output c.args.profile good.file (g.E.Sink.written c.args.err.now) good.told);
+          program _ _ is good.reported.named refl
+          (c.in-Ok-take_program.ensures.output c.args.profile good.file (g.E.Sink.written c.args.err.now)
+          good.reported);
       status = good_status c.args.profile bytes program code;
       keeps = good_kept c.args.profile bytes program _ _ code
-          (c.in-Ok-take_program.ensures.kept c.args.profile good.file good.told);
+          (c.in-Ok-take_program.ensures.kept c.args.profile good.file good.reported);
     }
 
 pub returns-in-Err-clause-output : goal.returns-in-Err-clause-output
@@ -49,8 +50,8 @@ returns-in-Err-clause-output g c = λ bytes told.
     c.restart.ensures c.pools.ensures c.in-Ok.ensures.file in
     record {
       output = good_cut (g.K.TakesPrograms.mode c.args.keeper.now) c.args.profile c.args.name.now bytes good.file _
-          (code_of c.args.profile good.file) _ _ (good.is bytes told) good.told.named refl
-          (c.in-Err.ensures.output c.args.profile good.file (g.E.Sink.written c.args.err.now) good.told);
+          (code_of c.args.profile good.file) _ _ (good.is bytes told) good.reported.named refl
+          (c.in-Err.ensures.output c.args.profile good.file (g.E.Sink.written c.args.err.now) good.reported);
       status = tt;
       keeps = tt;
     }
@@ -61,7 +62,7 @@ returns-in-Ok-take_program-clause-keeps g c =
     good_file c.restart.new.self c.parse_into.new.build c.args.profile _ _ c.pools.result.now
     c.restart.ensures c.pools.ensures c.in-Ok.ensures.file in
     let program = code_of c.args.profile good.file in
-    let kept = c.in-Ok-take_program.ensures.kept c.args.profile good.file good.told in
+    let kept = c.in-Ok-take_program.ensures.kept c.args.profile good.file good.reported in
     record {
       same_mode = c.in-Ok-take_program.ensures.mode;
       alike = alike_more c.args.profile good.file program _ _ refl c.requires.keeps.alike kept;
@@ -74,7 +75,7 @@ returns-in-Err-clause-keeps g c =
     good_file c.restart.new.self c.parse_into.new.build c.args.profile _ _ c.pools.result.now
     c.restart.ensures c.pools.ensures c.in-Ok.ensures.file in
     let program = code_of c.args.profile good.file in
-    let kept = c.in-Err.ensures.kept c.args.profile good.file good.told in
+    let kept = c.in-Err.ensures.kept c.args.profile good.file good.reported in
     record {
       same_mode = c.in-Err.ensures.mode;
       alike = alike_more c.args.profile good.file program _ _ refl c.requires.keeps.alike kept;

@@ -12,5 +12,6 @@ finish-program-requires g c =
     record {
       profile = _;
       file = f.file;
-      told = record { resolved = f.resolved; stands = f.built _ c.new-maker.ensures; named = f.named; main = f.main };
+      reported = record
+          { resolved = f.resolved; stands = f.built _ c.new-maker.ensures; named = f.named; main = f.main };
     }

@@ -1,6 +1,6 @@
 use Rattle.std.proofs.Common.{◌≡◌, ◌+◌, ◌*◌, unsigned_abs, to_z, of_z, w32, ap, arith}
 use Rattle.arena.specs.declared.ways.Way.{Way}
-use Rattle.arena.specs.Nearer.{square_of}
+use Rattle.arena.specs.Nearer.{squared_length}
 use Rattle.arena.proofs.Squares.{both_bits, both_back, both_most}
 use Rattle.arena.proofs.ways.Way.square.Goals as goal
 
@@ -17,7 +17,7 @@ size : (way : Way) →
 size way = ap unsigned_abs (both_back way.east way.north way.east_in_field way.north_in_field)
 
 pub returns-clause-value : goal.returns-clause-value
-unfolding square_of
+unfolding squared_length
 returns-clause-value c = let square = size c.args.self.now in omega arith
 
 pub returns-clause-most : goal.returns-clause-most

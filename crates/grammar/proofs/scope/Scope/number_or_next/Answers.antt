@@ -3,8 +3,8 @@ use Rattle.grammar.specs.Scope.{function_number}
 use Rattle.grammar.proofs.ScopeLaws.{called_new}
 use Rattle.grammar.proofs.scope.Scope.number_or_next.Goals as goal
 
-pub returns-clause-known : goal.returns-clause-known
-returns-clause-known c =
+pub returns-clause-learned : goal.returns-clause-learned
+returns-clause-learned c =
     called_new c.args.name.now c.args.line c.args.self.now c.add_function.new.self c.requires.own unknown small
     c.add_function.ensures.names
   where

@@ -108,8 +108,8 @@ unary_operation-returns-in_err-advance-clause-parses g t c =
       grown = λ device. grown_nothing _;
     })
 
-pub unary_operation-tell_before_operand-requires : goal.unary_operation-tell_before_operand-requires
-unary_operation-tell_before_operand-requires g t c =
+pub unary_operation-report_before_operand-requires : goal.unary_operation-report_before_operand-requires
+unary_operation-report_before_operand-requires g t c =
     record { follow = before_follows _ c.args.sign (room c.args.self.now.depth 11) c.requires.at.builder }
 
 pub unary_operation-returns-in_err-unary-clause-parses : goal.unary_operation-returns-in_err-unary-clause-parses
@@ -122,29 +122,29 @@ unary_operation-returns-in_err-unary-clause-parses g t c =
           c.in_err-unary.field-0.0
           c.requires.at.is shallow c.in_ok-advance.ensures.consumes c.in_err-unary.ensures.parses.refused;
       grown =
-          λ device. grown_behind _ _ _ _ c.in_ok-tell_before_operand.ensures.told
+          λ device. grown_behind _ _ _ _ c.in_ok-report_before_operand.ensures.reported
           (c.in_err-unary.ensures.parses.grown device);
     })
 
-pub unary_operation-tell_after_operand-requires : goal.unary_operation-tell_after_operand-requires
-unary_operation-tell_after_operand-requires g t c =
+pub unary_operation-report_after_operand-requires : goal.unary_operation-report_after_operand-requires
+unary_operation-report_after_operand-requires g t c =
     let shallow : c.args.self.now.depth < 64 = c.in_ok-check_nesting.ensures.ok in
     record {
       follow =
           behind_follows _ _ _ c.args.sign c.in_ok-unary.ensures.parses.tree c.args.self.now.depth shallow
-          c.requires.at.builder c.in_ok-tell_before_operand.ensures.told c.in_ok-unary.ensures.parses.numbered
+          c.requires.at.builder c.in_ok-report_before_operand.ensures.reported c.in_ok-unary.ensures.parses.numbered
           c.in_ok-unary.ensures.parses.narrow c.in_ok-unary.ensures.parses.added;
     }
 
 pub unary_operation-returns-clause-parses : goal.unary_operation-returns-clause-parses
 unary_operation-returns-clause-parses g t c =
     let shallow : c.args.self.now.depth < 64 = c.in_ok-check_nesting.ensures.ok in
-    sign_adds (g.B.Build.stands c.args.self.now.builder.now) (g.B.Build.stands c.tell_before_operand.new.build)
+    sign_adds (g.B.Build.stands c.args.self.now.builder.now) (g.B.Build.stands c.report_before_operand.new.build)
     (g.B.Build.stands c.unary.new.self.builder.now)
-    (g.B.Build.stands c.tell_after_operand.new.build) c.args.self.now.tokens.position c.advance.new.self.position
+    (g.B.Build.stands c.report_after_operand.new.build) c.args.self.now.tokens.position c.advance.new.self.position
     c.unary.new.self.tokens.position c.args.self.now.depth c.args.sign c.requires.at.is shallow
-    c.in_ok-advance.ensures.consumes c.in_ok-tell_before_operand.ensures.told c.in_ok-unary.ensures.parses
-    c.in_ok-tell_after_operand.ensures.told c.in_ok-unary.ensures.kept.tokens.ready.sound
+    c.in_ok-advance.ensures.consumes c.in_ok-report_before_operand.ensures.reported c.in_ok-unary.ensures.parses
+    c.in_ok-report_after_operand.ensures.reported c.in_ok-unary.ensures.kept.tokens.ready.sound
 
 pub levels-returns-in_err-unary-clause-parses : goal.levels-returns-in_err-unary-clause-parses
 levels-returns-in_err-unary-clause-parses g t c =
@@ -238,7 +238,7 @@ operand-returns-in_err-levels-clause-parses g t c =
           c.in_err-levels.field-0.0 (at_its_own _ c.args.binary c.requires.at.is) c.in_ok-advance.ensures.consumes
           c.in_err-levels.ensures.parses.refused;
       grown =
-          λ device. grown_behind _ _ _ _ c.in_ok-report_middle.ensures.told
+          λ device. grown_behind _ _ _ _ c.in_ok-report_middle.ensures.reported
           (c.in_err-levels.ensures.parses.grown device);
     })
 
@@ -248,7 +248,7 @@ operand-act-requires g t c =
       follows =
           apply_follows _ _ _ c.args.self.now.depth c.args.binary.level c.args.binary.op _
           c.in_ok-levels.ensures.parses.0.tree
-          (at_its_own _ c.args.binary c.requires.at.is) c.requires.at.builder c.in_ok-report_middle.ensures.told
+          (at_its_own _ c.args.binary c.requires.at.is) c.requires.at.builder c.in_ok-report_middle.ensures.reported
           c.in_ok-levels.ensures.parses.0.numbered c.in_ok-levels.ensures.parses.0.narrow
           c.in_ok-levels.ensures.parses.0.added;
     }
@@ -256,7 +256,8 @@ operand-act-requires g t c =
 pub operand-returns-clause-parses : goal.operand-returns-clause-parses
 operand-returns-clause-parses g t c = (
   operand_adds _ _ _ _ c.args.self.now.tokens.position _ _ c.args.self.now.depth c.args.binary.level c.args.binary.op
-      (at_its_own _ c.args.binary c.requires.at.is) c.in_ok-advance.ensures.consumes c.in_ok-report_middle.ensures.told
+      (at_its_own _ c.args.binary c.requires.at.is) c.in_ok-advance.ensures.consumes
+      c.in_ok-report_middle.ensures.reported
       c.in_ok-levels.ensures.parses.0 c.in_ok-act.ensures.ok c.in_ok-levels.ensures.kept.tokens.ready.sound,
   c.in_ok-levels.ensures.parses.1,
 )
@@ -613,18 +614,18 @@ operand-levels-requires g t c κs within =
     right_has_room (g.B.Build.stands c.args.self.now.builder.now) (g.B.Build.stands c.report_middle.new.build)
     c.args.self.now.depth
     c.args.binary.level c.args.binary.op _ (at_its_own _ c.args.binary c.requires.at.is) c.requires.at.builder
-    c.in_ok-report_middle.ensures.told in
+    c.in_ok-report_middle.ensures.reported in
     let most : c.args.binary.level ≤ 10 = ten_levels _ c.args.binary c.requires.at.is in
     search (rules, opened, most)
 
 pub unary_operation-unary-requires : goal.unary_operation-unary-requires
 unary_operation-unary-requires g t c κs within =
     let shallow : c.args.self.now.depth < 64 = c.in_ok-check_nesting.ensures.ok in
-    let opened : HasRoom (g.B.Build.stands c.tell_before_operand.new.build) (room (c.args.self.now.depth + 1) 11) =
-    operand_room (g.B.Build.stands c.args.self.now.builder.now) (g.B.Build.stands c.tell_before_operand.new.build)
+    let opened : HasRoom (g.B.Build.stands c.report_before_operand.new.build) (room (c.args.self.now.depth + 1) 11) =
+    operand_room (g.B.Build.stands c.args.self.now.builder.now) (g.B.Build.stands c.report_before_operand.new.build)
     c.args.sign
     c.args.self.now.depth
-    shallow c.requires.at.builder c.in_ok-tell_before_operand.ensures.told in
+    shallow c.requires.at.builder c.in_ok-report_before_operand.ensures.reported in
     search (rules, opened)
 
 pub primary-returns-in_default-2 : goal.primary-returns-in_default-2
@@ -657,7 +658,7 @@ unary_from_punctuator-returns-in_err-primary-clause-parses g t c =
     let none : NoOperator c.args.self.now.tokens.position.lookahead.cursor.next.token = record {
       sound = rw c.peek.ensures.value at c.peek.ensures.sound;
       signs = λ s. rw c.peek.ensures.value at (c.in_default.ensures.none s);
-      steps = λ s. rw c.peek-in_default.ensures.value at (c.in_default-increment_op_of.ensures.none s);
+      increments = λ s. rw c.peek-in_default.ensures.value at (c.in_default-increment_op_of.ensures.none s);
     } in
     let p = err_from_is_err_and c.from_residual-in_err-primary.result c.from_residual-in_err-primary.ensures.1 in
     rw (p.1, p.2) (record {
@@ -673,7 +674,7 @@ unary_from_punctuator-returns-in_ok-primary-clause-parses g t c =
     let none : NoOperator c.args.self.now.tokens.position.lookahead.cursor.next.token = record {
       sound = rw c.peek.ensures.value at c.peek.ensures.sound;
       signs = λ s. rw c.peek.ensures.value at (c.in_default.ensures.none s);
-      steps = λ s. rw c.peek-in_default.ensures.value at (c.in_default-increment_op_of.ensures.none s);
+      increments = λ s. rw c.peek-in_default.ensures.value at (c.in_default-increment_op_of.ensures.none s);
     } in
     primary_adds _ _ c.args.self.now.tokens.position _ c.args.self.now.depth none c.in_ok-primary.ensures.parses
 
@@ -741,41 +742,41 @@ call-returns-clause-kept g t c = record {
   builder = c.in_ok-arguments.ensures.kept.builder;
 }
 
-pub unary_operation-returns-in_err-tell_before_operand-clause-parses :
-    goal.unary_operation-returns-in_err-tell_before_operand-clause-parses
-unary_operation-returns-in_err-tell_before_operand-clause-parses g t c =
+pub unary_operation-returns-in_err-report_before_operand-clause-parses :
+    goal.unary_operation-returns-in_err-report_before_operand-clause-parses
+unary_operation-returns-in_err-report_before_operand-clause-parses g t c =
     let shallow : c.args.self.now.depth < 64 = c.in_ok-check_nesting.ensures.ok in
     let p =
-    err_from_is_err_and c.from_residual-in_err-tell_before_operand.result
-    c.from_residual-in_err-tell_before_operand.ensures.1 in
+    err_from_is_err_and c.from_residual-in_err-report_before_operand.result
+    c.from_residual-in_err-report_before_operand.ensures.1 in
     rw (p.1, p.2) (record {
       refused =
           operand_refused _ c.args.self.now.tokens.position _ c.args.self.now.depth c.args.sign _ parse_fault.Memory
           c.requires.at.is shallow
           c.in_ok-advance.ensures.consumes (
-            refuses c.in_err-tell_before_operand.field-0.0 _ c.in_err-tell_before_operand.ensures.memory,
+            refuses c.in_err-report_before_operand.field-0.0 _ c.in_err-report_before_operand.ensures.memory,
             halts_here (c.args.self.now.depth + 1) (Part Unary ∷ []) [] _ _ c.in_ok-advance.ensures.kept.ready.near,
           );
       grown = memory_grown _ _;
     })
 
-pub unary_operation-returns-in_err-tell_after_operand-clause-parses :
-    goal.unary_operation-returns-in_err-tell_after_operand-clause-parses
-unary_operation-returns-in_err-tell_after_operand-clause-parses g t c =
+pub unary_operation-returns-in_err-report_after_operand-clause-parses :
+    goal.unary_operation-returns-in_err-report_after_operand-clause-parses
+unary_operation-returns-in_err-report_after_operand-clause-parses g t c =
     let shallow : c.args.self.now.depth < 64 = c.in_ok-check_nesting.ensures.ok in
     let p =
-    err_from_is_err_and c.from_residual-in_err-tell_after_operand.result
-    c.from_residual-in_err-tell_after_operand.ensures.1 in
+    err_from_is_err_and c.from_residual-in_err-report_after_operand.result
+    c.from_residual-in_err-report_after_operand.ensures.1 in
     rw (p.1, p.2) (record {
       refused = (
-        refuses c.in_err-tell_after_operand.field-0.0 _ c.in_err-tell_after_operand.ensures.memory,
+        refuses c.in_err-report_after_operand.field-0.0 _ c.in_err-report_after_operand.ensures.memory,
         halts _ _ _ _ _ _ _ _
             (sign_adds (g.B.Build.stands c.args.self.now.builder.now)
-            (g.B.Build.stands c.tell_before_operand.new.build)
+            (g.B.Build.stands c.report_before_operand.new.build)
             (g.B.Build.stands c.unary.new.self.builder.now)
             unknown c.args.self.now.tokens.position c.advance.new.self.position c.unary.new.self.tokens.position
             c.args.self.now.depth c.args.sign c.requires.at.is
-            shallow c.in_ok-advance.ensures.consumes c.in_ok-tell_before_operand.ensures.told
+            shallow c.in_ok-advance.ensures.consumes c.in_ok-report_before_operand.ensures.reported
             c.in_ok-unary.ensures.parses (λ profile acts h. tt) c.in_ok-unary.ensures.kept.tokens.ready.sound).derives
             c.in_ok-unary.ensures.kept.tokens.ready.near,
       );
@@ -807,7 +808,7 @@ operand-returns-in_err-act-clause-parses g t c =
         λ left. halts _ _ _ _ _ _ _ _
             ((operand_adds _ _ _ unknown c.args.self.now.tokens.position _ _ c.args.self.now.depth c.args.binary.level
             c.args.binary.op (at_its_own _ c.args.binary c.requires.at.is)
-            c.in_ok-advance.ensures.consumes c.in_ok-report_middle.ensures.told
+            c.in_ok-advance.ensures.consumes c.in_ok-report_middle.ensures.reported
             c.in_ok-levels.ensures.parses.0 (λ profile acts h. tt)
             c.in_ok-levels.ensures.kept.tokens.ready.sound).derives
             left) c.in_ok-levels.ensures.kept.tokens.ready.near,

@@ -1,5 +1,5 @@
 -- What each exit _ leaves _ to show: the fault goes back to the start, or the segments join; and what a builder may be
--- told.
+-- reported.
 use Rattle.std.proofs.Common.{◌∙◌, ◌≡◌, ◌+◌, ◌<◌, [], ◌∷◌, le_refl, refl, true, false, rules}
 use Rattle.std.proofs.lemmas.Result.{err_from_is_err_and}
 use Rattle.tokens.specs.declared.located_tokens.Punctuator.TheVariants as punctuator
@@ -18,7 +18,7 @@ use Rattle.parser.proofs.Depths.{as_deep, body_at, body_fails_at, deeper, else_a
 use Rattle.parser.proofs.Segments.{halts, halts_here, refused_map}
 use Rattle.parser.proofs.BodyLaws.{block_adds, block_too_deep, brace_fails, brace_stops, branch_adds, declarations_fail, else_adds, else_fails, else_stops, first_fails, if_past, if_closes, if_stops, if_too_deep, no_else_adds, repetition_adds, second_fails, statements_begin, statements_end, statements_fail, statements_more, test_fails, while_past, while_closes, while_stops, while_too_deep, within_fails}
 use Rattle.parser.proofs.SimpleLaws.{empty_adds, empty_fails}
-use Rattle.parser.proofs.Tellings.{branch_kept, branch_open, branch_place, else_place, loop_open, loop_room, may_begin_loop, may_end_branch, may_end_loop, may_tell_else, may_test_if, may_test_loop, place_deeper, place_kept, room_in_brackets, turn_open, turn_place}
+use Rattle.parser.proofs.StatementReports.{branch_kept, branch_open, branch_statement_room, else_statement_room, loop_open, loop_room, may_begin_loop, may_end_branch, may_end_loop, may_report_else, may_test_if, may_test_loop, statement_room_deeper, statement_room_kept, room_in_brackets, turn_open, turn_statement_room}
 use Rattle.parser.proofs.parser.Parser.+statements.Goals as goal
 
 -- Blocks.
@@ -306,14 +306,14 @@ while_statement-returns-clause-parses g t c =
     c.in_ok-condition.ensures.parses c.in_ok-condition.ensures.kept.tokens.ready.sound c.in_ok-act-2.ensures.ok
     body c.in_ok-statement.ensures.kept.tokens.ready.sound c.in_ok-act-3.ensures.ok
 
--- What a builder may be told, and what is open in it at a call.
+-- What may be reported to a builder, and what is open in it at a call.
 
 pub block-statements-requires : goal.block-statements-requires
 block-statements-requires g t c κs within =
     let shallow : c.args.self.now.depth < 64 = c.in_ok-check_nesting.ensures.ok in
-    let place = place_deeper _ c.args.self.now.depth shallow c.requires.at.builder in (
+    let has_room = statement_room_deeper _ c.args.self.now.depth shallow c.requires.at.builder in (
       deeper t c.args.self.now.depth (c.args.self.now.depth + 1) 4 c.decreases shallow refl (le_refl 4),
-      (within.0, (within.1, record { builder = place; ready = c.in_ok-declarations.ensures.kept.ready; is = tt })),
+      (within.0, (within.1, record { builder = has_room; ready = c.in_ok-declarations.ensures.kept.ready; is = tt })),
     )
 
 pub if_statement-condition-requires : goal.if_statement-condition-requires
@@ -343,10 +343,13 @@ if_statement-statement-requires g t c κs within =
     branch_open _ _ _ c.args.self.now.depth _ _ _ shallow c.requires.at.builder c.in_ok-condition.ensures.parses
     c.in_ok-act.ensures.ok in
     let deep : c.condition.new.self.depth ≡ c.args.self.now.depth + 1 = c.in_ok-condition.ensures.kept.depth in
-    let place : HasStatementRoom (g.B.Build.stands c.act.new.self) (room c.condition.new.self.depth 1) =
-    rw deep (branch_place _ _ inside) in (
+    let has_room : HasStatementRoom (g.B.Build.stands c.act.new.self) (room c.condition.new.self.depth 1) =
+    rw deep (branch_statement_room _ _ inside) in (
       deeper t c.args.self.now.depth _ 3 c.decreases shallow deep three,
-      (within.0, (within.1, record { builder = place; ready = c.in_ok-condition.ensures.kept.tokens.ready; is = tt })),
+      (
+        within.0,
+        (within.1, record { builder = has_room; ready = c.in_ok-condition.ensures.kept.tokens.ready; is = tt }),
+      ),
     )
 
 pub if_statement-else_part-requires : goal.if_statement-else_part-requires
@@ -362,12 +365,15 @@ if_statement-else_part-requires g t c κs within =
     c.in_ok-act.ensures.ok in
     let deep : c.statement.new.self.depth ≡ c.args.self.now.depth + 1 =
     c.in_ok-statement.ensures.kept.depth ∙ c.in_ok-condition.ensures.kept.depth in
-    let place : HasInside InBranch (g.B.Build.stands c.statement.new.self.builder.now)
+    let has_room : HasInside InBranch (g.B.Build.stands c.statement.new.self.builder.now)
     (room c.statement.new.self.depth 1)
     =
     rw deep (branch_kept _ _ _ _ _ _ inside body) in (
       deeper t c.args.self.now.depth _ 4 c.decreases shallow deep (le_refl 4),
-      (within.0, (within.1, record { builder = place; ready = c.in_ok-statement.ensures.kept.tokens.ready; is = tt })),
+      (
+        within.0,
+        (within.1, record { builder = has_room; ready = c.in_ok-statement.ensures.kept.tokens.ready; is = tt }),
+      ),
     )
 
 pub if_statement-act-requires-2 : goal.if_statement-act-requires-2
@@ -392,14 +398,14 @@ if_statement-act-requires-2 g t c =
     }
 
 pub else_part-act-requires : goal.else_part-act-requires
-else_part-act-requires g t c = record { follows = may_tell_else _ _ c.requires.at.builder }
+else_part-act-requires g t c = record { follows = may_report_else _ _ c.requires.at.builder }
 
 pub else_part-statement-requires : goal.else_part-statement-requires
 else_part-statement-requires g t c κs within =
-    let place : HasStatementRoom (g.B.Build.stands c.act.new.self) (room c.args.self.now.depth 1) =
-    else_place _ _ _ c.requires.at.builder c.in_ok-act.ensures.ok in (
+    let has_room : HasStatementRoom (g.B.Build.stands c.act.new.self) (room c.args.self.now.depth 1) =
+    else_statement_room _ _ _ c.requires.at.builder c.in_ok-act.ensures.ok in (
       as_deep t c.args.self.now.depth c.args.self.now.depth c.decreases refl,
-      (within.0, (within.1, record { builder = place; ready = c.in_ok-advance.ensures.kept.ready; is = tt })),
+      (within.0, (within.1, record { builder = has_room; ready = c.in_ok-advance.ensures.kept.ready; is = tt })),
     )
 
 pub while_statement-act-requires : goal.while_statement-act-requires
@@ -430,11 +436,14 @@ while_statement-statement-requires g t c κs within =
     let shallow : c.args.self.now.depth < 64 = c.in_ok-check_nesting.ensures.ok in
     let inside = loop_open _ _ c.args.self.now.depth shallow c.requires.at.builder c.in_ok-act.ensures.ok in
     let deep : c.condition.new.self.depth ≡ c.args.self.now.depth + 1 = c.in_ok-condition.ensures.kept.depth in
-    let place : HasStatementRoom (g.B.Build.stands c.act-2.new.self) (room c.condition.new.self.depth 1) =
-    rw deep (turn_place _ _
+    let has_room : HasStatementRoom (g.B.Build.stands c.act-2.new.self) (room c.condition.new.self.depth 1) =
+    rw deep (turn_statement_room _ _
     (turn_open _ _ _ _ _ _ _ inside c.in_ok-condition.ensures.parses c.in_ok-act-2.ensures.ok)) in (
       deeper t c.args.self.now.depth _ 3 c.decreases shallow deep three,
-      (within.0, (within.1, record { builder = place; ready = c.in_ok-condition.ensures.kept.tokens.ready; is = tt })),
+      (
+        within.0,
+        (within.1, record { builder = has_room; ready = c.in_ok-condition.ensures.kept.tokens.ready; is = tt }),
+      ),
     )
 
 pub while_statement-act-requires-3 : goal.while_statement-act-requires-3
@@ -456,15 +465,16 @@ while_statement-act-requires-3 g t c =
 pub statements-statement-requires : goal.statements-statement-requires
 statements-statement-requires g t c κs within =
     let deep : c.loop-self.self.depth ≡ c.args.self.now.depth = c.loop-self.invariant.kept.depth in
-    let place : HasStatementRoom (g.B.Build.stands c.loop-self.self.builder.now) (room c.loop-self.self.depth 1) =
-    rw deep (place_kept _ _ c.args.self.now.depth _ _ _ _ c.requires.at.builder c.loop-self.invariant.parses) in (
+    let has_room : HasStatementRoom (g.B.Build.stands c.loop-self.self.builder.now) (room c.loop-self.self.depth 1) =
+    rw deep (statement_room_kept _ _ c.args.self.now.depth _ _ _ _ c.requires.at.builder c.loop-self.invariant.parses)
+    in (
       as_deep t c.args.self.now.depth _ c.decreases deep,
       (
         within.0,
         (
           within.1,
           record
-              { builder = place; ready = c.loop-self.invariant.kept.tokens.ready; is = tt },
+              { builder = has_room; ready = c.loop-self.invariant.kept.tokens.ready; is = tt },
         ),
       ),
     )

@@ -6,8 +6,8 @@ use Rattle.grammar.specs.Grammar.{FunctionBlock, Part}
 use Rattle.parser.proofs.Growing.{refuses}
 use Rattle.parser.proofs.Segments.{refused_map}
 use Rattle.parser.proofs.Advances.{kept_then, on, on_then, stopped_then}
-use Rattle.parser.proofs.Blocks.{block_refused, brace_refused, closing_sound, definition_halts, ended, function_advances, headed, heading_refused, renamed, short, told_function, too_much_refused}
-use Rattle.parser.proofs.Closing.{begun, closed, has_place, may_begin, may_end}
+use Rattle.parser.proofs.Blocks.{block_refused, brace_refused, closing_sound, definition_halts, ended, function_advances, headed, heading_refused, renamed, short, reported_function, too_much_refused}
+use Rattle.parser.proofs.Closing.{begun, closed, has_room_for_statements, may_begin, may_end}
 use Rattle.parser.proofs.parser.Parser.function.Goals as goal
 
 pub act-requires : goal.act-requires
@@ -22,7 +22,7 @@ act-requires g c =
 pub function_block-requires : goal.function_block-requires
 function_block-requires g c = record {
   at = record {
-    builder = has_place _ c.parameter_count.result
+    builder = has_room_for_statements _ c.parameter_count.result
         (begun _ _ c.in_ok-number.number c.parameter_count.result c.requires.at.builder c.in_ok-number.ensures.begun.few
         c.parameter_count.ensures.most c.in_ok-act.ensures.ok);
     flat = c.requires.at.flat;
@@ -127,7 +127,7 @@ returns-clause-reads g c =
           c.in_ok-number.ensures.begun.few (omega (arith, same, c.variable_count-variables.ensures.first))
           c.variable_count-variables.ensures.most
           c.in_ok-function_block.ensures.parses.numbered c.in_ok-function_block.ensures.parses.narrow
-          (told_function (g.B.Build.stands c.args.self.now.builder.now) (g.B.Build.stands c.act.new.self)
+          (reported_function (g.B.Build.stands c.args.self.now.builder.now) (g.B.Build.stands c.act.new.self)
           (g.B.Build.stands c.function_block.new.self.builder.now)
           (g.B.Build.stands c.end_function.new.self.builder.now)
           c.in_ok-number.number

@@ -14,7 +14,7 @@ pub returns-in_err-var-clause-parses : goal.returns-in_err-var-clause-parses
 returns-in_err-var-clause-parses g c =
     let p = err_from_is_err_and c.from_residual.result c.from_residual.ensures.1 in
     rw (p.1, p.2) (record {
-      refused = behind_name_ends _ c.args.self.now.tokens.position c.args.step _ c.in_err-var.field-0.0
+      refused = behind_name_ends _ c.args.self.now.tokens.position c.args.increment _ c.in_err-var.field-0.0
           (is_named _ c.requires.at.is.named) c.requires.at.is.is c.in_err-var.ensures.matches;
       grown = λ device. grown_nothing _;
     })
@@ -22,7 +22,7 @@ returns-in_err-var-clause-parses g c =
 pub act-requires : goal.act-requires
 act-requires g c = record {
   follows = may_first _ (FetchVariable c.in_ok-var.var) _
-      (tree_follows _ _ (Postfix (increment_store_op c.args.step) c.in_ok-var.var) c.requires.at.builder
+      (tree_follows _ _ (Postfix (increment_store_op c.args.increment) c.in_ok-var.var) c.requires.at.builder
       c.in_ok-var.ensures.within (omega arith));
 }
 
@@ -30,8 +30,8 @@ pub act-requires-2 : goal.act-requires-2
 act-requires-2 g c = record {
   follows =
       next_follows _ _ (FetchVariable c.in_ok-var.var ∷ []) (PushConstant (pos 1))
-      (StoreVariable c.in_ok-var.var (increment_store_op c.args.step) ∷ Chop ∷ [])
-      (tree_follows _ _ (Postfix (increment_store_op c.args.step) c.in_ok-var.var) c.requires.at.builder
+      (StoreVariable c.in_ok-var.var (increment_store_op c.args.increment) ∷ Chop ∷ [])
+      (tree_follows _ _ (Postfix (increment_store_op c.args.increment) c.in_ok-var.var) c.requires.at.builder
       c.in_ok-var.ensures.within (omega arith)) c.in_ok-act.ensures.ok;
 }
 
@@ -40,8 +40,8 @@ act-requires-3 g c = record {
   follows = rw c.store_op.ensures
       (next_follows (g.B.Build.stands c.args.self.now.builder.now) (g.B.Build.stands c.act-2.new.self)
       (FetchVariable c.in_ok-var.var ∷ PushConstant (pos 1) ∷ [])
-      (StoreVariable c.in_ok-var.var (increment_store_op c.args.step)) (Chop ∷ [])
-      (tree_follows _ _ (Postfix (increment_store_op c.args.step) c.in_ok-var.var) c.requires.at.builder
+      (StoreVariable c.in_ok-var.var (increment_store_op c.args.increment)) (Chop ∷ [])
+      (tree_follows _ _ (Postfix (increment_store_op c.args.increment) c.in_ok-var.var) c.requires.at.builder
       c.in_ok-var.ensures.within (omega arith))
       (appends_both (g.B.Build.stands c.args.self.now.builder.now) (g.B.Build.stands c.act.new.self)
       (g.B.Build.stands c.act-2.new.self) (FetchVariable c.in_ok-var.var ∷ []) (PushConstant (pos 1) ∷ [])
@@ -53,16 +53,16 @@ act-requires-4 g c = record {
   follows =
       next_follows (g.B.Build.stands c.args.self.now.builder.now) (g.B.Build.stands c.act-3.new.self)
       (FetchVariable c.in_ok-var.var ∷ PushConstant (pos 1) ∷
-      StoreVariable c.in_ok-var.var (increment_store_op c.args.step) ∷ []) Chop []
-      (tree_follows _ _ (Postfix (increment_store_op c.args.step) c.in_ok-var.var) c.requires.at.builder
+      StoreVariable c.in_ok-var.var (increment_store_op c.args.increment) ∷ []) Chop []
+      (tree_follows _ _ (Postfix (increment_store_op c.args.increment) c.in_ok-var.var) c.requires.at.builder
       c.in_ok-var.ensures.within (omega arith))
       (appends_both (g.B.Build.stands c.args.self.now.builder.now) (g.B.Build.stands c.act.new.self)
       (g.B.Build.stands c.act-3.new.self) (FetchVariable c.in_ok-var.var ∷ [])
-      (PushConstant (pos 1) ∷ StoreVariable c.in_ok-var.var (increment_store_op c.args.step) ∷ [])
+      (PushConstant (pos 1) ∷ StoreVariable c.in_ok-var.var (increment_store_op c.args.increment) ∷ [])
       c.in_ok-act.ensures.ok
       (appends_both (g.B.Build.stands c.act.new.self) (g.B.Build.stands c.act-2.new.self)
       (g.B.Build.stands c.act-3.new.self) (PushConstant (pos 1) ∷ [])
-      (StoreVariable c.in_ok-var.var (increment_store_op c.args.step) ∷ []) c.in_ok-act-2.ensures.ok
+      (StoreVariable c.in_ok-var.var (increment_store_op c.args.increment) ∷ []) c.in_ok-act-2.ensures.ok
       (rw c.store_op.ensures at c.in_ok-act-3.ensures.ok)));
 }
 
@@ -71,7 +71,7 @@ returns-in_err-expect-clause-parses g c =
     let p = err_from_is_err_and c.from_residual-in_err-expect.result c.from_residual-in_err-expect.ensures.1 in
     rw (p.1, p.2) (record {
       refused =
-          behind_punctuator_ends _ c.args.self.now.tokens.position _ c.args.step c.in_ok-var.var _
+          behind_punctuator_ends _ c.args.self.now.tokens.position _ c.args.increment c.in_ok-var.var _
           c.in_err-expect.field-0.0
           (is_named _ c.requires.at.is.named) c.requires.at.is.is
           c.in_ok-var.ensures.matches (rw c.punctuator.ensures at c.in_err-expect.ensures.matches);
@@ -83,7 +83,7 @@ returns-in_err-expect-clause-parses g c =
 
 pub returns-clause-parses : goal.returns-clause-parses
 returns-clause-parses g c =
-    behind_adds _ _ _ _ _ c.args.self.now.tokens.position _ _ c.args.step c.in_ok-var.var
+    behind_adds _ _ _ _ _ c.args.self.now.tokens.position _ _ c.args.increment c.in_ok-var.var
     (is_named _ c.requires.at.is.named)
     c.requires.at.is.is
     c.in_ok-var.ensures.matches (rw c.punctuator.ensures at c.in_ok-expect.ensures.matches) c.in_ok-var.ensures.within
@@ -104,7 +104,8 @@ returns-in_err-act-clause-parses g c =
     rw (p.1, p.2) (record {
       refused = (
         refuses c.in_err-act.field-0.0 _ c.in_err-act.ensures.judged,
-        behind_halts _ c.args.self.now.tokens.position _ c.args.step c.in_ok-var.var (is_named _ c.requires.at.is.named)
+        behind_halts _ c.args.self.now.tokens.position _ c.args.increment c.in_ok-var.var
+            (is_named _ c.requires.at.is.named)
             c.requires.at.is.is c.in_ok-var.ensures.matches c.in_ok-var.ensures.kept.ready.near,
       );
       grown = memory_grown _ _;
@@ -116,7 +117,8 @@ returns-in_err-act-2-clause-parses g c =
     rw (p.1, p.2) (record {
       refused = (
         refuses c.in_err-act-2.field-0.0 _ c.in_err-act-2.ensures.judged,
-        behind_halts _ c.args.self.now.tokens.position _ c.args.step c.in_ok-var.var (is_named _ c.requires.at.is.named)
+        behind_halts _ c.args.self.now.tokens.position _ c.args.increment c.in_ok-var.var
+            (is_named _ c.requires.at.is.named)
             c.requires.at.is.is c.in_ok-var.ensures.matches c.in_ok-var.ensures.kept.ready.near,
       );
       grown = memory_grown _ _;
@@ -128,7 +130,8 @@ returns-in_err-act-3-clause-parses g c =
     rw (p.1, p.2) (record {
       refused = (
         refuses c.in_err-act-3.field-0.0 _ c.in_err-act-3.ensures.judged,
-        behind_halts _ c.args.self.now.tokens.position _ c.args.step c.in_ok-var.var (is_named _ c.requires.at.is.named)
+        behind_halts _ c.args.self.now.tokens.position _ c.args.increment c.in_ok-var.var
+            (is_named _ c.requires.at.is.named)
             c.requires.at.is.is c.in_ok-var.ensures.matches c.in_ok-var.ensures.kept.ready.near,
       );
       grown = memory_grown _ _;
@@ -140,7 +143,8 @@ returns-in_err-act-4-clause-parses g c =
     rw (p.1, p.2) (record {
       refused = (
         refuses c.in_err-act-4.field-0.0 _ c.in_err-act-4.ensures.judged,
-        behind_halts _ c.args.self.now.tokens.position _ c.args.step c.in_ok-var.var (is_named _ c.requires.at.is.named)
+        behind_halts _ c.args.self.now.tokens.position _ c.args.increment c.in_ok-var.var
+            (is_named _ c.requires.at.is.named)
             c.requires.at.is.is c.in_ok-var.ensures.matches c.in_ok-var.ensures.kept.ready.near,
       );
       grown = memory_grown _ _;

@@ -14,7 +14,7 @@ pub returns-in_err-advance-clause-parses : goal.returns-in_err-advance-clause-pa
 returns-in_err-advance-clause-parses g c =
     let p = err_from_is_err_and c.from_residual.result c.from_residual.ensures.1 in
     rw (p.1, p.2) (record {
-      refused = before_punctuator_ends _ c.args.self.now.tokens.position c.args.step _ c.in_err-advance.field-0.0
+      refused = before_punctuator_ends _ c.args.self.now.tokens.position c.args.increment _ c.in_err-advance.field-0.0
           c.requires.at.is c.in_err-advance.ensures.consumes;
       grown = λ device. grown_nothing _;
     })
@@ -24,7 +24,8 @@ returns-in_err-var-clause-parses g c =
     let p = err_from_is_err_and c.from_residual-in_err-var.result c.from_residual-in_err-var.ensures.1 in
     rw (p.1, p.2) (record {
       refused =
-          before_name_ends _ c.args.self.now.tokens.position _ c.args.step _ c.in_err-var.field-0.0 c.requires.at.is
+          before_name_ends _ c.args.self.now.tokens.position _ c.args.increment _ c.in_err-var.field-0.0
+          c.requires.at.is
           c.in_ok-advance.ensures.consumes c.in_err-var.ensures.matches;
       grown = λ device. grown_nothing _;
     })
@@ -35,15 +36,16 @@ act-requires g c = record { follows = constant_follows _ _ (pos 1) c.requires.at
 pub act-requires-2 : goal.act-requires-2
 act-requires-2 g c = record {
   follows = rw c.store_op.ensures
-      (next_follows _ _ (PushConstant (pos 1) ∷ []) (StoreVariable c.in_ok-var.var (increment_store_op c.args.step)) []
-      (tree_follows _ _ (Assign (increment_store_op c.args.step) c.in_ok-var.var (Constant (pos 1)))
+      (next_follows _ _ (PushConstant (pos 1) ∷ [])
+      (StoreVariable c.in_ok-var.var (increment_store_op c.args.increment)) []
+      (tree_follows _ _ (Assign (increment_store_op c.args.increment) c.in_ok-var.var (Constant (pos 1)))
       c.requires.at.builder
       (c.in_ok-var.ensures.within, tt) (omega arith)) c.in_ok-act.ensures.ok);
 }
 
 pub returns-clause-parses : goal.returns-clause-parses
 returns-clause-parses g c =
-    before_adds _ _ _ c.args.self.now.tokens.position _ _ c.args.step c.in_ok-var.var c.requires.at.is
+    before_adds _ _ _ c.args.self.now.tokens.position _ _ c.args.increment c.in_ok-var.var c.requires.at.is
     c.in_ok-advance.ensures.consumes c.in_ok-var.ensures.matches c.in_ok-var.ensures.within
     c.in_ok-var.ensures.kept.ready.sound
     c.in_ok-act.ensures.ok (rw c.store_op.ensures at c.in_ok-act-2.ensures.ok)
@@ -62,7 +64,7 @@ returns-in_err-act-clause-parses g c =
       refused = (
         refuses c.in_err-act.field-0.0 _ c.in_err-act.ensures.judged,
         λ depth. halts _ _ _ _ _ _ _ _
-            (before_adds unknown unknown unknown c.args.self.now.tokens.position _ _ c.args.step c.in_ok-var.var
+            (before_adds unknown unknown unknown c.args.self.now.tokens.position _ _ c.args.increment c.in_ok-var.var
             c.requires.at.is c.in_ok-advance.ensures.consumes c.in_ok-var.ensures.matches c.in_ok-var.ensures.within
             c.in_ok-var.ensures.kept.ready.sound
             (λ profile acts h. tt) (λ profile acts h. tt) depth).derives c.in_ok-var.ensures.kept.ready.near,
@@ -77,7 +79,7 @@ returns-in_err-act-2-clause-parses g c =
       refused = (
         refuses c.in_err-act-2.field-0.0 _ c.in_err-act-2.ensures.judged,
         λ depth. halts _ _ _ _ _ _ _ _
-            (before_adds unknown unknown unknown c.args.self.now.tokens.position _ _ c.args.step c.in_ok-var.var
+            (before_adds unknown unknown unknown c.args.self.now.tokens.position _ _ c.args.increment c.in_ok-var.var
             c.requires.at.is c.in_ok-advance.ensures.consumes c.in_ok-var.ensures.matches c.in_ok-var.ensures.within
             c.in_ok-var.ensures.kept.ready.sound
             (λ profile acts h. tt) (λ profile acts h. tt) depth).derives c.in_ok-var.ensures.kept.ready.near,

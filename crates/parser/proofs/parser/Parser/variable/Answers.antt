@@ -4,13 +4,13 @@ use Rattle.grammar.specs.declared.actions.Action.TheVariants.{FetchVariable}
 use Rattle.grammar.specs.Tree.{Variable}
 use Rattle.parser.proofs.Growing.{grown_nothing, memory_grown, refuses, unknown}
 use Rattle.parser.proofs.Segments.{halts}
-use Rattle.parser.proofs.OperandLaws.{NoStep, fetch_adds, fetch_ends, is_named, tree_follows}
+use Rattle.parser.proofs.OperandLaws.{NoIncrement, fetch_adds, fetch_ends, is_named, tree_follows}
 use Rattle.parser.proofs.parser.Parser.variable.Goals as goal
 use Rattle.grammar.proofs.RepresentationLaws.{may_first}
 
 pub returns-in_err-var-clause-parses : goal.returns-in_err-var-clause-parses
 returns-in_err-var-clause-parses g c =
-    let none : NoStep c.args.self.now.tokens.position =
+    let none : NoIncrement c.args.self.now.tokens.position =
     λ s. rw c.after.ensures.value at (c.in_default.ensures.none s) in
     let p = err_from_is_err_and c.from_residual-in_err-var.result c.from_residual-in_err-var.ensures.1 in
     rw (p.1, p.2) (record {
@@ -30,7 +30,7 @@ act-requires g c =
 
 pub returns-clause-parses : goal.returns-clause-parses
 returns-clause-parses g c =
-    let none : NoStep c.args.self.now.tokens.position =
+    let none : NoIncrement c.args.self.now.tokens.position =
     λ s. rw c.after.ensures.value at (c.in_default.ensures.none s) in
     fetch_adds _ _ c.args.self.now.tokens.position _ c.in_ok-var.var (is_named _ c.requires.at.is.named)
     c.requires.at.is.plain
@@ -39,7 +39,7 @@ returns-clause-parses g c =
 
 pub returns-in_err-act-clause-parses : goal.returns-in_err-act-clause-parses
 returns-in_err-act-clause-parses g c =
-    let none : NoStep c.args.self.now.tokens.position =
+    let none : NoIncrement c.args.self.now.tokens.position =
     λ s. rw c.after.ensures.value at (c.in_default.ensures.none s) in
     let p = err_from_is_err_and c.from_residual-in_err-act.result c.from_residual-in_err-act.ensures.1 in
     rw (p.1, p.2) (record {

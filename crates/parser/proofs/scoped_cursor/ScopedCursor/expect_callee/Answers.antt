@@ -47,7 +47,8 @@ returns-in_err-advance-clause-matches g c =
     (name_stops c.self.inside.cursor c.self.inside.scope.now _ _ Called c.in_ok-name.name.now found
     (subst (λ (n : ℕ). LearnsName Called c.in_ok-name.name.now n c.self.inside.scope.now c.resolve_call.new.self)
     line
-    (rw c.in_ok-callee.ensures.ok at c.resolve_call.ensures.known).1)) (λ same. same) c.in_err-advance.ensures.consumes)
+    (rw c.in_ok-callee.ensures.ok at c.resolve_call.ensures.learned).1)) (λ same. same)
+    c.in_err-advance.ensures.consumes)
 
 pub returns-clause-matches : goal.returns-clause-matches
 returns-clause-matches g c =
@@ -59,12 +60,12 @@ returns-clause-matches g c =
     (name_derives c.self.inside.cursor c.self.inside.scope.now _ _ _ Called c.in_ok-name.name.now _ found
     (subst (λ (n : ℕ). LearnsName Called c.in_ok-name.name.now n c.self.inside.scope.now c.resolve_call.new.self)
     line
-    (rw c.in_ok-callee.ensures.ok at c.resolve_call.ensures.known).1)
-    (ap (λ f. ACall f NoMore ∷ []) (rw c.in_ok-callee.ensures.ok at c.resolve_call.ensures.known).0)
+    (rw c.in_ok-callee.ensures.ok at c.resolve_call.ensures.learned).1)
+    (ap (λ f. ACall f NoMore ∷ []) (rw c.in_ok-callee.ensures.ok at c.resolve_call.ensures.learned).0)
     c.in_ok-advance.ensures.consumes)
 
 pub returns-clause-stays : goal.returns-clause-stays
 returns-clause-stays g c =
     rw (sym c.self.view_is, c.in_ok-advance.ensures.consumes.scope)
     (called_stays c.in_ok-name.name.now _ c.self.inside.scope.now c.resolve_call.new.self
-    (rw c.in_ok-callee.ensures.ok at c.resolve_call.ensures.known).1)
+    (rw c.in_ok-callee.ensures.ok at c.resolve_call.ensures.learned).1)

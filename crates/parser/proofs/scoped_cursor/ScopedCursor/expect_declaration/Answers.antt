@@ -41,7 +41,7 @@ returns-in_err-advance-clause-matches g c =
     rw (p.1, p.2, sym c.self.view_is)
     (refused_map _ _ _ ⊥ ⊥ c.in_err-advance.field-0.0
     (name_stops c.self.inside.cursor c.self.inside.scope.now _ _ (role_of c.args.declared) c.in_ok-name.name.now
-    found ((rw c.in_ok-or_refusal.ensures.ok at c.declare_in.ensures.known) _)) (λ same. same)
+    found ((rw c.in_ok-or_refusal.ensures.ok at c.declare_in.ensures.learned) _)) (λ same. same)
     c.in_err-advance.ensures.consumes)
 
 pub returns-clause-matches : goal.returns-clause-matches
@@ -51,7 +51,7 @@ returns-clause-matches g c =
     rw (sym c.self.view_is)
     (name_derives c.self.inside.cursor c.self.inside.scope.now _ _ _ (role_of c.args.declared)
     c.in_ok-name.name.now _
-    found ((rw c.in_ok-or_refusal.ensures.ok at c.declare_in.ensures.known) _)
+    found ((rw c.in_ok-or_refusal.ensures.ok at c.declare_in.ensures.learned) _)
     (no_tree _ c.self.inside.scope.now c.args.declared)
     c.in_ok-advance.ensures.consumes)
 
@@ -59,4 +59,4 @@ pub returns-clause-stays : goal.returns-clause-stays
 returns-clause-stays g c =
     rw (sym c.self.view_is, c.in_ok-advance.ensures.consumes.scope)
     (declared_stays c.args.declared c.in_ok-name.name.now 0 c.self.inside.scope.now c.declare_in.new.scope
-    ((rw c.in_ok-or_refusal.ensures.ok at c.declare_in.ensures.known) 0))
+    ((rw c.in_ok-or_refusal.ensures.ok at c.declare_in.ensures.learned) 0))

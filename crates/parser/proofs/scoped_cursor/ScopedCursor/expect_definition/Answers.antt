@@ -47,7 +47,7 @@ returns-in_err-advance-clause-matches g c =
     (subst
     (λ (n : ℕ). LearnsName Defined c.in_ok-name.name.now n c.self.inside.scope.now c.begin_definition.new.self)
     line
-    (rw c.in_ok-number.ensures.ok at c.begin_definition.ensures.known))) (λ same. same)
+    (rw c.in_ok-number.ensures.ok at c.begin_definition.ensures.learned))) (λ same. same)
     c.in_err-advance.ensures.consumes)
 
 pub returns-clause-matches : goal.returns-clause-matches
@@ -61,17 +61,17 @@ returns-clause-matches g c =
     (subst
     (λ (n : ℕ). LearnsName Defined c.in_ok-name.name.now n c.self.inside.scope.now c.begin_definition.new.self)
     line
-    (rw c.in_ok-number.ensures.ok at c.begin_definition.ensures.known)) (refl) c.in_ok-advance.ensures.consumes)
+    (rw c.in_ok-number.ensures.ok at c.begin_definition.ensures.learned)) (refl) c.in_ok-advance.ensures.consumes)
 
 pub returns-clause-begun : goal.returns-clause-begun
 returns-clause-begun g c =
-    let known : LearnsName Defined c.in_ok-name.name.now c.peek-next.result.now.line (scope_of c.args.self.now)
+    let learned : LearnsName Defined c.in_ok-name.name.now c.peek-next.result.now.line (scope_of c.args.self.now)
     c.begin_definition.new.self
     =
-    rw (sym c.self.view_is) (rw c.in_ok-number.ensures.ok at c.begin_definition.ensures.known) in
+    rw (sym c.self.view_is) (rw c.in_ok-number.ensures.ok at c.begin_definition.ensures.learned) in
     let is : c.in_ok-number.number ≡ number_or_next c.in_ok-name.name.now (scope_of c.args.self.now) =
     rw (sym c.self.view_is) (rw c.in_ok-number.ensures.ok at c.begin_definition.ensures.number).0 in
     begins c.in_ok-number.number c.in_ok-name.name.now c.peek-next.result.now.line
     c.args.self.now.position.lookahead
-    c.advance.new.self.position.lookahead c.begin_definition.new.self known c.in_ok-advance.ensures.consumes.scope is
+    c.advance.new.self.position.lookahead c.begin_definition.new.self learned c.in_ok-advance.ensures.consumes.scope is
     (rw c.in_ok-number.ensures.ok at c.begin_definition.ensures.number).1

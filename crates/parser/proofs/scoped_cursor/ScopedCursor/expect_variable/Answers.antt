@@ -41,7 +41,7 @@ returns-in_err-advance-clause-matches g c =
     rw (p.1, p.2, sym c.self.view_is)
     (refused_map _ _ _ ⊥ ⊥ c.in_err-advance.field-0.0
     (name_stops c.self.inside.cursor c.self.inside.scope.now _ _ Mentioned c.in_ok-name.name.now found
-    ((rw c.in_ok-var.ensures.ok at c.resolve_variable.ensures.known).1 _)) (λ same. same)
+    ((rw c.in_ok-var.ensures.ok at c.resolve_variable.ensures.learned).1 _)) (λ same. same)
     c.in_err-advance.ensures.consumes)
 
 pub returns-clause-matches : goal.returns-clause-matches
@@ -50,12 +50,12 @@ returns-clause-matches g c =
     c.in_ok-name.ensures.found in
     rw (sym c.self.view_is)
     (name_derives c.self.inside.cursor c.self.inside.scope.now _ _ _ Mentioned c.in_ok-name.name.now _ found
-    ((rw c.in_ok-var.ensures.ok at c.resolve_variable.ensures.known).1 _)
-    (ap (λ v. AVariable v ∷ []) (rw c.in_ok-var.ensures.ok at c.resolve_variable.ensures.known).0)
+    ((rw c.in_ok-var.ensures.ok at c.resolve_variable.ensures.learned).1 _)
+    (ap (λ v. AVariable v ∷ []) (rw c.in_ok-var.ensures.ok at c.resolve_variable.ensures.learned).0)
     c.in_ok-advance.ensures.consumes)
 
 pub returns-clause-stays : goal.returns-clause-stays
 returns-clause-stays g c =
     rw (sym c.self.view_is, c.in_ok-advance.ensures.consumes.scope)
     (mentioned_stays c.in_ok-name.name.now 0 c.self.inside.scope.now c.resolve_variable.new.self
-    ((rw c.in_ok-var.ensures.ok at c.resolve_variable.ensures.known).1 0))
+    ((rw c.in_ok-var.ensures.ok at c.resolve_variable.ensures.learned).1 0))

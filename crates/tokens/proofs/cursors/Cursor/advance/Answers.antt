@@ -4,8 +4,8 @@ use Rattle.tokens.proofs.ReadingLemmas.{shown-advanced, most_left-advanced, most
 use Rattle.tokens.proofs.TakenLemmas.{on_err-from}
 use Rattle.tokens.proofs.cursors.Cursor.advance.Goals as goal
 
-pub returns-in_ok-read_token-clause-steps : goal.returns-in_ok-read_token-clause-steps
-returns-in_ok-read_token-clause-steps g c =
+pub returns-in_ok-read_token-clause-advances : goal.returns-in_ok-read_token-clause-advances
+returns-in_ok-read_token-clause-advances g c =
     let s = c.self.inside in
     let not_last : is_last s.next.token ≡ false = ap (λ r. is_last r.next.token) c.self.view_is ∙ c.requires.not_last in
     let read = c.in_ok-read_token.ensures in
@@ -19,8 +19,8 @@ returns-in_ok-read_token-clause-steps g c =
       near = search rules;
     })
 
-pub returns-else-not-is_last-clause-steps : goal.returns-else-not-is_last-clause-steps
-returns-else-not-is_last-clause-steps g c =
+pub returns-else-not-is_last-clause-advances : goal.returns-else-not-is_last-clause-advances
+returns-else-not-is_last-clause-advances g c =
     let s = c.self.inside in
     let not_last : is_last s.next.token ≡ false = ap (λ r. is_last r.next.token) c.self.view_is ∙ c.requires.not_last in
     rw (← c.self.view_is) (record {

@@ -11,10 +11,10 @@ returns-clause-shows g c =
     let unread : s.beyond ≡ Unread = search rules in
     let empty : between s.next s.filled s.bytes ≡ [] = ap (λ h. h.at_hand) c.self.view_is ∙ c.requires.empty in
     let at_end = empty-range s.bytes s.next s.filled (omega arith) c.self.invariant.ordered empty in
-    let place : s.start + s.filled + 0 ≡ s.start + s.next = omega arith in
+    let offset : s.start + s.filled + 0 ≡ s.start + s.next = omega arith in
     record {
       seen = rw (← c.self.view_is, unread)
-          (refilled _ _ _ _ c.fill.new.buf _ _ _ _ _ c.in_ok-count.count _ empty place c.split_source-kept.ensures
+          (refilled _ _ _ _ c.fill.new.buf _ _ _ _ _ c.in_ok-count.count _ empty offset c.split_source-kept.ensures
           (take-append-le _ c.fill.new.buf _ (omega (arith, c.in_ok-count.ensures.reads.within)))
           c.in_ok-count.ensures.reads.bytes);
       ready = search rules;

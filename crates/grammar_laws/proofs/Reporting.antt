@@ -47,14 +47,14 @@ Fact = List PartialTree → ℕ → ℕ → List Definition → List Action → 
 pub record Extends (A : Type 0) (room : ℕ) (next : Expr → List Action → Type 0) (e : Expr)
     (acts : List Action) : Type 0 where
   pub base : List Action
-  pub told : base ++ expr_actions e ≡ acts
+  pub reported : base ++ expr_actions e ≡ acts
   pub fits : ExprFits A room e
   pub on : (x : Expr) → ExprFits A room x → next x (base ++ expr_actions x)
 
 pub record Collects (A : Type 0) (room : ℕ) (next : Args → List Action → Type 0) (args : Args)
     (acts : List Action) : Type 0 where
   pub base : List Action
-  pub told : base ++ args_actions args ≡ acts
+  pub reported : base ++ args_actions args ≡ acts
   pub fits : ArgsFit A room args
   pub on : (xs : Args) → ArgsFit A room xs → next xs (base ++ args_actions xs)
 
@@ -63,7 +63,7 @@ pub record Adds (A : Type 0) (least : ℕ) (next : Body → List Action → Type
   pub base : List Action
   pub room : ℕ
   pub enough : A → least ≤ room
-  pub told : base ++ body_actions b ≡ acts
+  pub reported : base ++ body_actions b ≡ acts
   pub fits : BodyFits A room b
   pub on : (x : Body) → BodyFits A room x → next x (base ++ body_actions x)
 
@@ -73,7 +73,7 @@ pub record Branches (A : Type 0) (least : ℕ) (next : Body → List Action → 
   pub base : List Action
   pub room : ℕ
   pub enough : A → least + 1 ≤ room
-  pub told : base ++ (body_actions b ++ (expr_actions c ++ IfTest ∷ body_actions s)) ≡ acts
+  pub reported : base ++ (body_actions b ++ (expr_actions c ++ IfTest ∷ body_actions s)) ≡ acts
   pub fits : BodyFits A room b
   pub condition : ExprFits A least c
   pub first : BodyFits A least s
@@ -81,7 +81,7 @@ pub record Branches (A : Type 0) (least : ℕ) (next : Body → List Action → 
 
 -- between functions
 pub record Between (A : Type 0) (next : Fact) (ds : List Definition) (acts : List Action) : Type 0 where
-  pub told : definitions_actions ds ≡ acts
+  pub reported : definitions_actions ds ≡ acts
   pub fit : A → AreReportable ds
   pub on : (values : List PartialTree) (n k : ℕ) (more : List Definition) → (A → AreReportable more) →
       next values n k more (definitions_actions more)
@@ -89,7 +89,7 @@ pub record Between (A : Type 0) (next : Fact) (ds : List Definition) (acts : Lis
 -- at a function's end
 pub record Defines (A : Type 0) (next : Fact) (values : List PartialTree) (n k : ℕ) (ds : List Definition)
     (acts : List Action) : Type 0 where
-  pub told : definitions_actions ds ++ (BeginFunction n k ∷ body_actions (last_body values)) ≡ acts
+  pub reported : definitions_actions ds ++ (BeginFunction n k ∷ body_actions (last_body values)) ≡ acts
   pub fit : A → AreReportable ds
   pub body : BodyFits A 200 (last_body values)
   pub numbers : A → (n < 64) × (k ≤ 64)
@@ -97,7 +97,7 @@ pub record Defines (A : Type 0) (next : Fact) (values : List PartialTree) (n k :
       next left m j more (definitions_actions more)
 
 pub record Ends (A : Type 0) (ds : List Definition) (acts : List Action) : Type 0 where
-  pub told : definitions_actions ds ≡ acts
+  pub reported : definitions_actions ds ≡ acts
   pub fit : A → AreReportable ds
 
 -- The last trees.
@@ -186,17 +186,17 @@ abbrev pub Ruled : Type 0 → SemanticAction → List Item → Fact → Fact
 Ruled A Define stack next values n k ds acts = Defines A next values n k ds acts
 Ruled A rule stack next values n k ds acts = next (trees_after rule values) n k ds (acts ++ on_rule rule stack values 0)
 
-abbrev pub ItemTells : Type 0 → Item → List Item → Fact → Fact
-ItemTells A (Exactly m) stack next values n k ds acts = next values n k ds acts
-ItemTells A (AKeyword w) stack next values n k ds acts = next values n k ds acts
-ItemTells A (AName role) stack next values n k ds acts = Named A role next values n k ds acts
-ItemTells A AConstant stack next values n k ds acts = (value : ℕ) →
+abbrev pub ItemReports : Type 0 → Item → List Item → Fact → Fact
+ItemReports A (Exactly m) stack next values n k ds acts = next values n k ds acts
+ItemReports A (AKeyword w) stack next values n k ds acts = next values n k ds acts
+ItemReports A (AName role) stack next values n k ds acts = Named A role next values n k ds acts
+ItemReports A AConstant stack next values n k ds acts = (value : ℕ) →
     next (AnExpr (tree.Constant (pos value)) ∷ values) n k ds (acts ++ PushConstant (pos value) ∷ [])
-ItemTells A AnEnd stack next values n k ds acts = next values n k ds acts
-ItemTells A (Part symbol) stack next values n k ds acts = Parted A symbol (room_in stack) next values n k ds acts
-ItemTells A (Make rule) stack next values n k ds acts = Ruled A rule stack next values n k ds acts
-ItemTells A Close stack next values n k ds acts = next values n k ds acts
+ItemReports A AnEnd stack next values n k ds acts = next values n k ds acts
+ItemReports A (Part symbol) stack next values n k ds acts = Parted A symbol (room_in stack) next values n k ds acts
+ItemReports A (Make rule) stack next values n k ds acts = Ruled A rule stack next values n k ds acts
+ItemReports A Close stack next values n k ds acts = next values n k ds acts
 
-abbrev pub Tells : Type 0 → List Item → Fact
-Tells A [] values n k ds acts = Ends A ds acts
-Tells A (item ∷ stack) values n k ds acts = ItemTells A item stack (Tells A stack) values n k ds acts
+abbrev pub Reports : Type 0 → List Item → Fact
+Reports A [] values n k ds acts = Ends A ds acts
+Reports A (item ∷ stack) values n k ds acts = ItemReports A item stack (Reports A stack) values n k ds acts

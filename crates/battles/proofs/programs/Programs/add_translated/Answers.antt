@@ -7,7 +7,7 @@ use Rattle.operations.specs.declared.labels.Operations.{Operations}
 use Rattle.battles.specs.Programs.{AllSome}
 use Rattle.battles.specs.Translated.{AreTranslated}
 use Rattle.battles.proofs.ProgramsLemmas.{kept_length, kept_more, list_more, translated_more}
-use Rattle.battles.proofs.programs.Programs.push.Goals as goal
+use Rattle.battles.proofs.programs.Programs.add_translated.Goals as goal
 
 pub push-requires : goal.push-requires
 push-requires c =
@@ -23,7 +23,7 @@ invariant_of-self c =
     let ops = c.self.inside.operations in
     let codes = flat_map option_to_list kept in
     let n = length kept in
-    let place : c.len-file.result ≡ n = search rules in
+    let index : c.len-file.result ≡ n = search rules in
     let all : AllSome c.push.new.self.items =
     subst (λ (l : List (Option Program)). AllSome l) (sym c.push.ensures.items)
     (kept_more kept c.args.program c.self.invariant.0) in
@@ -35,7 +35,7 @@ invariant_of-self c =
     in
     let put : take (length c.push.new.self.items) (set ops c.len-file.result c.translate.new.operations)
     ≡ take n ops ++ c.translate.new.operations ∷ [] =
-    ap (λ (k : ℕ). take (length c.push.new.self.items) (set ops k c.translate.new.operations)) place
+    ap (λ (k : ℕ). take (length c.push.new.self.items) (set ops k c.translate.new.operations)) index
     ∙ ap (λ (k : ℕ). take k (set ops n c.translate.new.operations)) count
     ∙ take_more_set ops n c.translate.new.operations (omega (
       arith,

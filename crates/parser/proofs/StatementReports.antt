@@ -1,4 +1,4 @@
--- What may be told while branches, loops and rows of statements are read.
+-- What may be reported while branches, loops and rows of statements are read.
 use Rattle.std.proofs.Common.{ℕ, ◌+◌, ◌<◌, ◌≤◌, List, [], refl, false, arith}
 use Rattle.grammar.specs.declared.actions.Action.TheVariants.{BeginWhile, ElsePart, EndIf, EndWhile, IfTest, WhileTest}
 use Rattle.grammar.specs.Building.{Appends, MayFollow, Representation}
@@ -10,16 +10,17 @@ use Rattle.parser.specs.Room.{HasStatementRoom, HasRoom, room}
 use Rattle.parser.specs.Branches.{AddsElse, HasInside}
 use Rattle.parser.specs.Expressions.{AddsExpr}
 use Rattle.parser.specs.Statements.{AddsBody}
-use Rattle.parser.proofs.Openings.{inside_behind, inside_place, inside_room, loop_begun, may_begin, may_end, may_end_if, may_test, may_turn, place_behind, place_room, turn, turn_begun, value_inside}
+use Rattle.parser.proofs.Openings.{inside_behind, statement_room_inside, inside_room, loop_begun, may_begin, may_end, may_end_if, may_test, may_turn, statement_room_behind, value_room, turn, turn_begun, value_inside}
 
--- One level of nesting further, there is room for all that may be opened there.
+-- With one more construct open, there is room for all that may be opened there.
 
 room_deeper : (depth : ℕ) → depth < 64 → room (depth + 1) 1 + 3 ≤ room depth 1
 room_deeper depth shallow = omega (arith, shallow)
 
-pub place_deeper : (before : Representation) (depth : ℕ) → depth < 64 → HasStatementRoom before (room depth 1) →
+pub statement_room_deeper : (before : Representation) (depth : ℕ) → depth < 64 →
+    HasStatementRoom before (room depth 1) →
     HasStatementRoom before (room (depth + 1) 1)
-place_deeper before depth shallow h =
+statement_room_deeper before depth shallow h =
     record {
       opened = h.opened;
       position = h.position;
@@ -30,14 +31,15 @@ place_deeper before depth shallow h =
 pub room_in_brackets : (before : Representation) (depth : ℕ) → depth < 64 → HasStatementRoom before (room depth 1) →
     HasRoom before (room (depth + 1) 1)
 room_in_brackets before depth shallow h =
-    place_room before (room depth 1) (room (depth + 1) 1) (omega (arith, room_deeper depth shallow)) h
+    value_room before (room depth 1) (room (depth + 1) 1) (omega (arith, room_deeper depth shallow)) h
 
 -- After statements there is the same room.
-pub place_kept : (before now : Representation) (depth : ℕ) (front pending : List Item) (at there : UnreadPosition) →
+pub statement_room_kept : (before now : Representation) (depth : ℕ) (front pending : List Item)
+    (at there : UnreadPosition) →
     HasStatementRoom before (room depth 1) → AddsBody before now depth front pending at there →
     HasStatementRoom now (room depth 1)
-place_kept before now depth front pending at there h s =
-    place_behind before now (room depth 1) s.tree h s.numbered s.narrow s.added
+statement_room_kept before now depth front pending at there h s =
+    statement_room_behind before now (room depth 1) s.tree h s.numbered s.narrow s.added
 
 -- Branches.
 
@@ -60,13 +62,13 @@ pub branch_open : (before mid now : Representation) (depth : ℕ) (front : List 
     depth < 64 →
     HasStatementRoom before (room depth 1) → AddsExpr before mid (depth + 1) 1 front [] at there →
     Appends mid now IfTest → HasInside InBranch now (room (depth + 1) 1)
-branch_open before mid now depth front at there shallow h c told =
+branch_open before mid now depth front at there shallow h c reported =
     turn IfTest (AValue (origin_of c.tree)) InBranch mid now (room depth 1) (room (depth + 1) 1) (λ o is. rw is refl)
     (omega (arith, room_deeper depth shallow))
-    (condition_inside before mid depth front at there shallow h c) told
+    (condition_inside before mid depth front at there shallow h c) reported
 
-pub branch_place : (before : Representation) (n : ℕ) → HasInside InBranch before n → HasStatementRoom before n
-branch_place before n h = inside_place InBranch before n (λ o. refl) h
+pub branch_statement_room : (before : Representation) (n : ℕ) → HasInside InBranch before n → HasStatementRoom before n
+branch_statement_room before n h = statement_room_inside InBranch before n (λ o. refl) h
 
 pub branch_kept : (before now : Representation) (depth : ℕ) (front : List Item) (at there : UnreadPosition) →
     HasInside InBranch before (room depth 1) → AddsBody before now depth front [] at there →
@@ -80,14 +82,15 @@ pub may_end_branch : (before now : Representation) (depth : ℕ) (at there : Unr
     AddsElse before now depth at there → MayFollow now EndIf
 may_end_branch before now depth at there h e = may_end_if before now (room depth 1) e.tree h e.numbered e.narrow e.added
 
-pub may_tell_else : (before : Representation) (n : ℕ) → HasInside InBranch before n → MayFollow before ElsePart
-may_tell_else before n h = may_turn ElsePart InBranch InElse before n (λ o is. refl) (omega arith) h
+pub may_report_else : (before : Representation) (n : ℕ) → HasInside InBranch before n → MayFollow before ElsePart
+may_report_else before n h = may_turn ElsePart InBranch InElse before n (λ o is. refl) (omega arith) h
 
-pub else_place : (before now : Representation) (n : ℕ) → HasInside InBranch before n → Appends before now ElsePart →
+pub else_statement_room : (before now : Representation) (n : ℕ) → HasInside InBranch before n →
+    Appends before now ElsePart →
     HasStatementRoom now n
-else_place before now n h told =
-    inside_place InElse now n (λ o. refl)
-    (turn ElsePart InBranch InElse before now n n (λ o is. refl) (omega arith) h told)
+else_statement_room before now n h reported =
+    statement_room_inside InElse now n (λ o. refl)
+    (turn ElsePart InBranch InElse before now n n (λ o is. refl) (omega arith) h reported)
 
 -- Loops.
 
@@ -97,8 +100,8 @@ may_begin_loop before depth h = may_begin before (room depth 1) (omega arith) h
 
 pub loop_open : (before now : Representation) (depth : ℕ) → depth < 64 → HasStatementRoom before (room depth 1) →
     Appends before now BeginWhile → HasInside BeforeTest now (room (depth + 1) 1)
-loop_open before now depth shallow h told =
-    loop_begun before now (room depth 1) (room (depth + 1) 1) (omega (arith, room_deeper depth shallow)) h told
+loop_open before now depth shallow h reported =
+    loop_begun before now (room depth 1) (room (depth + 1) 1) (omega (arith, room_deeper depth shallow)) h reported
 
 pub loop_room : (before : Representation) (n : ℕ) → HasInside BeforeTest before n → HasRoom before n
 loop_room before n h = inside_room BeforeTest before n h
@@ -111,11 +114,11 @@ may_test_loop before mid depth front at there h c =
 pub turn_open : (before mid now : Representation) (depth : ℕ) (front : List Item) (at there : UnreadPosition) →
     HasInside BeforeTest before (room depth 1) → AddsExpr before mid depth 1 front [] at there →
     Appends mid now WhileTest → HasInside InLoopBody now (room depth 1)
-turn_open before mid now depth front at there h c told =
-    turn_begun before mid now (room depth 1) c.tree h c.numbered c.narrow c.added told
+turn_open before mid now depth front at there h c reported =
+    turn_begun before mid now (room depth 1) c.tree h c.numbered c.narrow c.added reported
 
-pub turn_place : (before : Representation) (n : ℕ) → HasInside InLoopBody before n → HasStatementRoom before n
-turn_place before n h = inside_place InLoopBody before n (λ o. refl) h
+pub turn_statement_room : (before : Representation) (n : ℕ) → HasInside InLoopBody before n → HasStatementRoom before n
+turn_statement_room before n h = statement_room_inside InLoopBody before n (λ o. refl) h
 
 pub may_end_loop : (before now : Representation) (depth : ℕ) (front : List Item) (at there : UnreadPosition) →
     HasInside InLoopBody before (room depth 1) → AddsBody before now depth front [] at there → MayFollow now EndWhile

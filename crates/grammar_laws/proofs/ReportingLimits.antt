@@ -19,10 +19,10 @@ use Rattle.grammar.specs.Scope.{Scope, scope_after_name, callee_of, variable_of}
 use Rattle.grammar.proofs.Phases.{phase_of}
 use Rattle.grammar.proofs.ResolvedLaws.{Busy, Sound, among_last, ended}
 use Rattle.grammar.proofs.Runs.{append_empty}
-use Rattle.grammar.proofs.Soundness.{Clean, Grows, Known, callee_in, role_grows, variable_in}
+use Rattle.grammar.proofs.Soundness.{Clean, Grows, IsScoped, callee_in, role_grows, variable_in}
 use Rattle.grammar.proofs.Widening.{IsWider, callable_wider, variable_wider}
-use Rattle.grammar_laws.proofs.TellingOperands.{Begins}
-use Rattle.grammar_laws.proofs.TellingSteps.{Allows, NameAllows}
+use Rattle.grammar_laws.proofs.ReportingOperands.{Begins}
+use Rattle.grammar_laws.proofs.ReportingSteps.{Allows, NameAllows}
 
 -- Levels.
 
@@ -38,28 +38,29 @@ level_below false open_levels f clean e = absurd (cc)
 
 -- Names.
 
-known_wider : (scope : Scope) (ds : List Definition) → Known scope ds →
+scoped_wider : (scope : Scope) (ds : List Definition) → IsScoped scope ds →
     IsWider (length scope.externals) (length scope.current.variables) (length scope.functions) 64 64 64
-known_wider scope ds k = record { externals = k.externals; locals = k.variables; functions = k.functions }
+scoped_wider scope ds k = record { externals = k.externals; locals = k.variables; functions = k.functions }
 
-call_allowed : (name : List ℕ) (scope : Scope) (ds : List Definition) (rest : List LocatedToken) → Known scope ds →
+call_allowed : (name : List ℕ) (scope : Scope) (ds : List Definition) (rest : List LocatedToken) → IsScoped scope ds →
     Clean (role_faults Called name scope rest) → NameAllows (Unit {0}) Called (Some name) scope
 call_allowed name scope ds rest k clean =
     let g : Grows scope (scope_after_name Called name (line_at rest) scope) ds =
     role_grows Called name (line_at rest) scope ds rest tt k clean in
-    λ a. callable_wider _ _ _ 64 64 64 (known_wider (scope_after_name Called name (line_at rest) scope) ds g.known)
+    λ a. callable_wider _ _ _ 64 64 64 (scoped_wider (scope_after_name Called name (line_at rest) scope) ds g.scoped)
     (callee_of name scope) (callee_in name (line_at rest) scope)
 
-mention_allowed : (name : List ℕ) (scope : Scope) (ds : List Definition) (rest : List LocatedToken) → Known scope ds →
+mention_allowed : (name : List ℕ) (scope : Scope) (ds : List Definition) (rest : List LocatedToken) →
+    IsScoped scope ds →
     Clean (role_faults Mentioned name scope rest) → NameAllows (Unit {0}) Mentioned (Some name) scope
 mention_allowed name scope ds rest k clean =
     let g : Grows scope (scope_after_name Mentioned name (line_at rest) scope) ds =
     role_grows Mentioned name (line_at rest) scope ds rest tt k clean in
-    λ a. variable_wider _ _ _ 64 64 64 (known_wider (scope_after_name Mentioned name (line_at rest) scope) ds g.known)
+    λ a. variable_wider _ _ _ 64 64 64 (scoped_wider (scope_after_name Mentioned name (line_at rest) scope) ds g.scoped)
     (variable_of name scope) (variable_in name scope)
 
 name_allowed : (role : Role) (name : Option (List ℕ)) (scope : Scope) (ds : List Definition)
-    (rest : List LocatedToken) → Known scope ds → Clean (name_faults role name scope rest) →
+    (rest : List LocatedToken) → IsScoped scope ds → Clean (name_faults role name scope rest) →
     NameAllows (Unit {0}) role name scope
 name_allowed Called (Some name) scope ds rest k clean = call_allowed name scope ds rest k clean
 name_allowed Mentioned (Some name) scope ds rest k clean = mention_allowed name scope ds rest k clean
@@ -71,7 +72,7 @@ begins_allowed : (symbol : Symbol) (stack : List Item) (rest : List LocatedToken
     (scope : Scope)
     (ds : List Definition) → Sound (state (Part symbol ∷ stack) rest values scope ds) → Begins (Unit {0}) symbol scope
 begins_allowed FunctionBlock stack rest values scope ds s =
-    let k : Known scope ds = s.known in
+    let k : IsScoped scope ds = s.scoped in
     let b : Busy values scope ds = ended (phase_of stack) values scope ds s.tied in
     let low : scope.number < length scope.functions =
     k.below scope.number (subst (λ (ns : List ℕ). IsAmong scope.number ns) (sym b.begun)
@@ -93,8 +94,8 @@ item_allowed profile (Part symbol ∷ stack) rest values scope ds clean s = (
   begins_allowed symbol stack rest values scope ds s,
 )
 item_allowed profile (AName role ∷ stack) rest values scope ds clean s =
-    name_allowed role (name_of_token (next_token rest)) scope ds rest s.known clean
-item_allowed profile (Make Define ∷ stack) rest values scope ds clean s = λ a. (s.known.parameters, s.known.variables)
+    name_allowed role (name_of_token (next_token rest)) scope ds rest s.scoped clean
+item_allowed profile (Make Define ∷ stack) rest values scope ds clean s = λ a. (s.scoped.parameters, s.scoped.variables)
 item_allowed profile (item ∷ stack) rest values scope ds clean s = tt
 
 guarded_clean : (b : Bool) (rest : List LocatedToken) (xs ys : List Fault) →
@@ -110,7 +111,7 @@ allowed profile s clean h e =
     (guarded_clean (is_lexical_error (next_token s.rest)) s.rest
     (stack_faults profile s.stack s)
     (unexpected_tokens s.stack s.rest (stack_step s.stack s)) clean e)
-    (record { known = h.known; tied = h.tied })
+    (record { scoped = h.scoped; tied = h.tied })
 
 -- Without limits nothing is asked.
 

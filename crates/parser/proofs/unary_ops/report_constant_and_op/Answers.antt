@@ -3,7 +3,7 @@ use Rattle.std.proofs.lemmas.Int.{to_z-of_z}
 use Rattle.grammar.specs.declared.actions.Action.TheVariants.{ApplyBinop, PushConstant}
 use Rattle.grammar.specs.Building.{AppendsAll, MayFollow}
 use Rattle.parser.proofs.ReportingLaws.{next_follows}
-use Rattle.parser.proofs.unary_ops.tell_constant_and_op.Goals as goal
+use Rattle.parser.proofs.unary_ops.report_constant_and_op.Goals as goal
 use Rattle.grammar.proofs.RepresentationLaws.{appends_both, may_first}
 
 pub act-requires : goal.act-requires
@@ -25,8 +25,8 @@ act-requires-2 g c = record {
       (PushConstant v ∷ [])) (to_z-of_z w32 c.args.value c.ranges.value) c.in_ok-act.ensures.ok);
 }
 
-pub returns-clause-told : goal.returns-clause-told
-returns-clause-told g c =
+pub returns-clause-reported : goal.returns-clause-reported
+returns-clause-reported g c =
     appends_both (g.B.Build.stands c.args.build.now) (g.B.Build.stands c.act.new.self)
     (g.B.Build.stands c.act-2.new.self) (PushConstant c.args.value ∷ []) (ApplyBinop c.args.op ∷ [])
     (subst

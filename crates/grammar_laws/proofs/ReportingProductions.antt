@@ -24,8 +24,8 @@ use Rattle.grammar.specs.Tree as tree
 use Rattle.grammar.specs.Tree.{Expr, Args, Body, add_argument, join}
 use Rattle.grammar.proofs.Unfinished.{body_actions-join}
 use Rattle.grammar_laws.proofs.Fitting.{done_fits, join_fits, statement_fits, return_fits, if_fits, if_else_fits, while_fits}
-use Rattle.grammar_laws.proofs.Telling.{BodyFits, Fact, Adds, Branches, Between, Defines, Stated, Branched, Listed, room_in}
-use Rattle.grammar_laws.proofs.Telling.{Tells}
+use Rattle.grammar_laws.proofs.Reporting.{BodyFits, Fact, Adds, Branches, Between, Defines, Stated, Branched, Listed, room_in}
+use Rattle.grammar_laws.proofs.Reporting.{Reports}
 
 -- these actions, and more
 abbrev pub and_then : List Action → List Action → List Action
@@ -38,9 +38,9 @@ and_then_is acts (x ∷ xs) = refl
 
 abbrev pub Produced : Type 0 → Production → List Item → Fact
 Produced A None stack values n k ds acts = Unit {0}
-Produced A (Some items) stack values n k ds acts = Tells A (items ++ stack) values n k ds acts
+Produced A (Some items) stack values n k ds acts = Reports A (items ++ stack) values n k ds acts
 
--- the level that a production enters is one of those that there are
+-- a nested production is one of as many as may be open
 abbrev pub Enters : Type 0 → Symbol → Token → Token → List Item → Type 0
 Enters A symbol next after stack = A → enters symbol next after ≡ true → nested_count stack < 64
 
@@ -49,38 +49,42 @@ Enters A symbol next after stack = A → enters symbol next after ≡ true → n
 ends_between : (A : Type 0) (next : Fact) (values : List PartialTree) (n k : ℕ) (ds : List Definition)
     (acts : List Action) →
     Between A next ds acts → next values n k ds acts
-ends_between A next values n k ds acts h = subst (λ (xs : List Action). next values n k ds xs) h.told
+ends_between A next values n k ds acts h = subst (λ (xs : List Action). next values n k ds xs) h.reported
     (h.on values n k ds h.fit)
 
 -- a definition or declarations, and further ones
 then_further : (A : Type 0) (next : Fact) (ds : List Definition) (acts : List Action) → Between A next ds acts →
-    Between A (λ values n k more told. Between A next more told) ds acts
+    Between A (λ values n k more reported. Between A next more reported) ds acts
 then_further A next ds acts h = record {
-  told = h.told;
+  reported = h.reported;
   fit = h.fit;
   on =
-      λ values n k more f. record { told = refl; fit = f; on = h.on };
+      λ values n k more f. record { reported = refl; fit = f; on = h.on };
 }
 
-pub source_tells : (A : Type 0) (next after : Token) (stack : List Item) (values : List PartialTree) (n k : ℕ)
+pub source_reports : (A : Type 0) (next after : Token) (stack : List Item) (values : List PartialTree) (n k : ℕ)
     (ds : List Definition) (acts : List Action) →
-    Between A (Tells A stack) ds acts → Produced A (choice Source next after) stack values n k ds acts
-source_tells A token.End after stack values n k ds acts h = ends_between A (Tells A stack) values n k ds acts h
-source_tells A (token.Keyword keyword.Type) after stack values n k ds acts h = then_further A (Tells A stack) ds acts h
-source_tells A (token.Name name) after stack values n k ds acts h = λ m j i. then_further A (Tells A stack) ds acts h
-source_tells A next after stack values n k ds acts h = tt
+    Between A (Reports A stack) ds acts → Produced A (choice Source next after) stack values n k ds acts
+source_reports A token.End after stack values n k ds acts h = ends_between A (Reports A stack) values n k ds acts h
+source_reports A (token.Keyword keyword.Type) after stack values n k ds acts h =
+    then_further A (Reports A stack) ds acts h
+source_reports A (token.Name name) after stack values n k ds acts h =
+    λ m j i. then_further A (Reports A stack) ds acts h
+source_reports A next after stack values n k ds acts h = tt
 
-pub head_tells : (A : Type 0) (next after : Token) (stack : List Item) (values : List PartialTree) (n k : ℕ)
+pub head_reports : (A : Type 0) (next after : Token) (stack : List Item) (values : List PartialTree) (n k : ℕ)
     (ds : List Definition) (acts : List Action) →
-    Between A (Tells A stack) ds acts → Produced A (choice Head next after) stack values n k ds acts
-head_tells A (token.Name name) (token.Punctuator punctuator.OpenRound) stack values n k ds acts h = λ m j i. h
-head_tells A (token.Name name) after stack values n k ds acts h = ends_between A (Tells A stack) values n k ds acts h
-head_tells A next after stack values n k ds acts h = tt
+    Between A (Reports A stack) ds acts → Produced A (choice Head next after) stack values n k ds acts
+head_reports A (token.Name name) (token.Punctuator punctuator.OpenRound) stack values n k ds acts h = λ m j i. h
+head_reports A (token.Name name) after stack values n k ds acts h =
+    ends_between A (Reports A stack) values n k ds acts h
+head_reports A next after stack values n k ds acts h = tt
 
 one_more_name : (A : Type 0) (role : Role) (stack : List Item) (values : List PartialTree) (n k : ℕ)
     (ds : List Definition)
     (acts : List Action) →
-    Listed role (Tells A stack) values n k ds acts → Tells A (AName role ∷ Part (More role) ∷ stack) values n k ds acts
+    Listed role (Reports A stack) values n k ds acts →
+    Reports A (AName role ∷ Part (More role) ∷ stack) values n k ds acts
 one_more_name A Defined stack values n k ds acts h = absurd h
 one_more_name A External stack values n k ds acts h = h
 one_more_name A Parameter stack values n k ds acts h = λ j i. h i
@@ -101,13 +105,14 @@ no_more_names A Local next values n k ds acts h = h
 no_more_names A Called next values n k ds acts h = absurd h
 no_more_names A Mentioned next values n k ds acts h = absurd h
 
-pub more_tells : (A : Type 0) (role : Role) (next after : Token) (stack : List Item) (values : List PartialTree)
+pub more_reports : (A : Type 0) (role : Role) (next after : Token) (stack : List Item) (values : List PartialTree)
     (n k : ℕ)
     (ds : List Definition) (acts : List Action) →
-    Listed role (Tells A stack) values n k ds acts → Produced A (choice (More role) next after) stack values n k ds acts
-more_tells A role (token.Punctuator punctuator.Comma) after stack values n k ds acts h =
+    Listed role (Reports A stack) values n k ds acts →
+    Produced A (choice (More role) next after) stack values n k ds acts
+more_reports A role (token.Punctuator punctuator.Comma) after stack values n k ds acts h =
     one_more_name A role stack values n k ds acts h
-more_tells A role next after stack values n k ds acts h = no_more_names A role (Tells A stack) values n k ds acts h
+more_reports A role next after stack values n k ds acts h = no_more_names A role (Reports A stack) values n k ds acts h
 
 -- Functions.
 
@@ -116,7 +121,7 @@ defines : (A : Type 0) (next : Fact) (values : List PartialTree) (n k : ℕ) (ds
     (b : Body) → BodyFits A 200 b → Defines A next (ABody b ∷ values) n k ds
     ((acts ++ BeginFunction n k ∷ []) ++ body_actions b)
 defines A next values n k ds acts numbers h b f = record {
-  told = ap (λ xs. xs ++ (BeginFunction n k ∷ body_actions b)) h.told
+  reported = ap (λ xs. xs ++ (BeginFunction n k ∷ body_actions b)) h.reported
       ∙ sym (append_assoc acts (BeginFunction n k ∷ []) (body_actions b));
   fit = h.fit;
   body = f;
@@ -124,20 +129,20 @@ defines A next values n k ds acts numbers h b f = record {
   on = h.on;
 }
 
-pub function_tells : (A : Type 0) (next after : Token) (stack : List Item) (values : List PartialTree) (scope : Scope)
+pub function_reports : (A : Type 0) (next after : Token) (stack : List Item) (values : List PartialTree) (scope : Scope)
     (ds : List Definition) (acts : List Action) →
-    (A → (scope.number < 64) × (scope.current.parameters ≤ 64)) → Between A (Tells A stack) ds acts →
+    (A → (scope.number < 64) × (scope.current.parameters ≤ 64)) → Between A (Reports A stack) ds acts →
     Produced A (choice FunctionBlock next after) stack values scope.number scope.current.parameters ds
     (and_then acts (on_choice FunctionBlock next scope))
-function_tells A (token.Punctuator punctuator.OpenCurly) after stack values scope ds acts numbers h = record {
+function_reports A (token.Punctuator punctuator.OpenCurly) after stack values scope ds acts numbers h = record {
   base = acts ++ BeginFunction scope.number scope.current.parameters ∷ [];
   room = 200;
   enough = λ a. omega arith;
-  told = refl;
+  reported = refl;
   fits = done_fits A 200;
-  on = λ b f. defines A (Tells A stack) values scope.number scope.current.parameters ds acts numbers h b f;
+  on = λ b f. defines A (Reports A stack) values scope.number scope.current.parameters ds acts numbers h b f;
 }
-function_tells A next after stack values scope ds acts numbers h = tt
+function_reports A next after stack values scope ds acts numbers h = tt
 
 -- Statements.
 
@@ -148,26 +153,26 @@ added : (A : Type 0) (least : ℕ) (next : Body → List Action → Type 0) (b :
 added A least next b acts h s f more e =
     subst (λ (xs : List Action). next (join b s) xs)
     (ap (λ xs. h.base ++ xs) (body_actions-join b s) ∙ sym (append_assoc h.base (body_actions b) (body_actions s))
-    ∙ ap (λ xs. xs ++ body_actions s) h.told ∙ e)
+    ∙ ap (λ xs. xs ++ body_actions s) h.reported ∙ e)
     (h.on (join b s) (join_fits A h.room b s h.fits f))
 
 pub no_more_statements : (A : Type 0) (least : ℕ) (next : Fact) (values : List PartialTree) (n k : ℕ)
     (ds : List Definition)
     (acts : List Action) → Stated A least next values n k ds acts → next values n k ds acts
 no_more_statements A least next (ABody b ∷ below) n k ds acts h =
-    subst (λ (xs : List Action). next (ABody b ∷ below) n k ds xs) h.told (h.on b h.fits)
+    subst (λ (xs : List Action). next (ABody b ∷ below) n k ds xs) h.reported (h.on b h.fits)
 no_more_statements A least next values n k ds acts h = absurd h
 
 then_statements : (A : Type 0) (least : ℕ) (next : Fact) (values : List PartialTree) (n k : ℕ) (ds : List Definition)
     (acts : List Action) → Stated A least next values n k ds acts →
-    Stated A least (λ vs m j more told. Stated A least next vs m j more told) values n k ds acts
+    Stated A least (λ vs m j more reported. Stated A least next vs m j more reported) values n k ds acts
 then_statements A least next (ABody b ∷ below) n k ds acts h = record {
   base = h.base;
   room = h.room;
   enough = h.enough;
-  told = h.told;
+  reported = h.reported;
   fits = h.fits;
-  on = λ x f. record { base = h.base; room = h.room; enough = h.enough; told = refl; fits = f; on = h.on };
+  on = λ x f. record { base = h.base; room = h.room; enough = h.enough; reported = refl; fits = f; on = h.on };
 }
 then_statements A least next values n k ds acts h = absurd h
 
@@ -179,26 +184,26 @@ narrower A small least next (ABody b ∷ below) n k ds acts less h = record {
   base = h.base;
   room = h.room;
   enough = λ a. omega (arith, less, h.enough a);
-  told = h.told;
+  reported = h.reported;
   fits = h.fits;
   on = h.on;
 }
 narrower A small least next values n k ds acts less h = absurd h
 
 evaluates : (A : Type 0) (stack : List Item) (values : List PartialTree) (n k : ℕ) (ds : List Definition)
-    (acts : List Action) → Stated A (room_in stack + 2) (Tells A stack) values n k ds acts →
-    Tells A (Part Expression ∷ Exactly punctuator.Semicolon ∷ Make Evaluate ∷ stack) values n k ds acts
+    (acts : List Action) → Stated A (room_in stack + 2) (Reports A stack) values n k ds acts →
+    Reports A (Part Expression ∷ Exactly punctuator.Semicolon ∷ Make Evaluate ∷ stack) values n k ds acts
 evaluates A stack (ABody b ∷ below) n k ds acts h = λ e f.
-    added A (room_in stack + 2) (λ x more. Tells A stack (ABody x ∷ below) n k ds more) b acts h
+    added A (room_in stack + 2) (λ x more. Reports A stack (ABody x ∷ below) n k ds more) b acts h
     (tree.ExpressionStatement e tree.Done) (statement_fits A (room_in stack + 2) h.room e h.enough f)
     _ (sym (append_assoc acts (expr_actions e) (Chop ∷ [])))
 evaluates A stack values n k ds acts h = absurd h
 
 gives_back : (A : Type 0) (stack : List Item) (values : List PartialTree) (n k : ℕ) (ds : List Definition)
-    (acts : List Action) → Stated A (room_in stack + 2) (Tells A stack) values n k ds acts →
-    Tells A (Part Back ∷ Exactly punctuator.Semicolon ∷ Make GiveBack ∷ stack) values n k ds acts
+    (acts : List Action) → Stated A (room_in stack + 2) (Reports A stack) values n k ds acts →
+    Reports A (Part Back ∷ Exactly punctuator.Semicolon ∷ Make GiveBack ∷ stack) values n k ds acts
 gives_back A stack (ABody b ∷ below) n k ds acts h = λ e f.
-    added A (room_in stack + 2) (λ x more. Tells A stack (ABody x ∷ below) n k ds more) b acts h
+    added A (room_in stack + 2) (λ x more. Reports A stack (ABody x ∷ below) n k ds more) b acts h
     (tree.Return e tree.Done) (return_fits A (room_in stack + 2) h.room e h.enough f)
     _ (sym (append_assoc acts (expr_actions e) (action.GiveBack ∷ [])))
 gives_back A stack values n k ds acts h = absurd h
@@ -212,27 +217,27 @@ branch_actions base b acts c x s e = sym (append_assoc base b (c ++ x ∷ s)) �
 
 decides : (A : Type 0) (stack : List Item) (values : List PartialTree) (n k : ℕ) (ds : List Definition)
     (acts : List Action) →
-    (A → nested_count stack < 64) → Stated A (room_in stack + 2) (Tells A stack) values n k ds acts →
-    Tells A (Part Expression ∷ Exactly punctuator.CloseRound ∷ Make Empty ∷ Part Statement ∷ Part
+    (A → nested_count stack < 64) → Stated A (room_in stack + 2) (Reports A stack) values n k ds acts →
+    Reports A (Part Expression ∷ Exactly punctuator.CloseRound ∷ Make Empty ∷ Part Statement ∷ Part
     ElsePart ∷ Close ∷ stack) values n k ds acts
-decides A stack (ABody b ∷ below) n k ds acts level h = λ c f. record {
+decides A stack (ABody b ∷ below) n k ds acts nested h = λ c f. record {
   base = (acts ++ expr_actions c) ++ IfTest ∷ [];
   room = 3 * (64 - (nested_count stack + 1)) + 2;
   enough = λ a. omega arith;
-  told = append-nil ((acts ++ expr_actions c) ++ IfTest ∷ []);
+  reported = append-nil ((acts ++ expr_actions c) ++ IfTest ∷ []);
   fits = done_fits A (3 * (64 - (nested_count stack + 1)) + 2);
   on = λ s g. record {
     base = h.base;
     room = h.room;
-    enough = λ a. omega (arith, level a, h.enough a);
-    told = branch_actions h.base (body_actions b) acts (expr_actions c) IfTest (body_actions s) h.told;
+    enough = λ a. omega (arith, nested a, h.enough a);
+    reported = branch_actions h.base (body_actions b) acts (expr_actions c) IfTest (body_actions s) h.reported;
     fits = h.fits;
     condition = f;
     first = g;
     on = h.on;
   };
 }
-decides A stack values n k ds acts level h = absurd h
+decides A stack values n k ds acts nested h = absurd h
 
 turn_actions : (acts c s : List Action) → acts ++ (BeginWhile ∷ (c ++ WhileTest ∷ (s ++ EndWhile ∷ []))) ≡
     ((((acts ++ BeginWhile ∷ []) ++ c) ++ WhileTest ∷ []) ++ s) ++ EndWhile ∷ []
@@ -240,53 +245,54 @@ turn_actions acts c s = simp append_assoc refl
 
 repeats : (A : Type 0) (stack : List Item) (values : List PartialTree) (n k : ℕ) (ds : List Definition)
     (acts : List Action) →
-    (A → nested_count stack < 64) → Stated A (room_in stack + 2) (Tells A stack) values n k ds acts →
-    Tells A (Part Expression ∷ Exactly punctuator.CloseRound ∷ Make Empty ∷ Part Statement ∷ Make
+    (A → nested_count stack < 64) → Stated A (room_in stack + 2) (Reports A stack) values n k ds acts →
+    Reports A (Part Expression ∷ Exactly punctuator.CloseRound ∷ Make Empty ∷ Part Statement ∷ Make
     Repeat ∷ Close ∷ stack) values n k ds (acts ++ BeginWhile ∷ [])
-repeats A stack (ABody b ∷ below) n k ds acts level h = λ c f. record {
+repeats A stack (ABody b ∷ below) n k ds acts nested h = λ c f. record {
   base = ((acts ++ BeginWhile ∷ []) ++ expr_actions c) ++ WhileTest ∷ [];
   room = 3 * (64 - (nested_count stack + 1)) + 2;
   enough = λ a. omega arith;
-  told = append-nil (((acts ++ BeginWhile ∷ []) ++ expr_actions c) ++ WhileTest ∷ []);
+  reported = append-nil (((acts ++ BeginWhile ∷ []) ++ expr_actions c) ++ WhileTest ∷ []);
   fits = done_fits A (3 * (64 - (nested_count stack + 1)) + 2);
-  on = λ s g. added A (room_in stack + 2) (λ x more. Tells A stack (ABody x ∷ below) n k ds more) b acts h
+  on = λ s g. added A (room_in stack + 2) (λ x more. Reports A stack (ABody x ∷ below) n k ds more) b acts h
       (tree.While c s tree.Done)
-      (while_fits A (3 * (64 - (nested_count stack + 1)) + 2) h.room c s (λ a. omega (arith, level a, h.enough a)) f g)
+      (while_fits A (3 * (64 - (nested_count stack + 1)) + 2) h.room c s (λ a. omega (arith, nested a, h.enough a)) f g)
       _ (turn_actions acts (expr_actions c) (body_actions s));
 }
-repeats A stack values n k ds acts level h = absurd h
+repeats A stack values n k ds acts nested h = absurd h
 
-pub block_tells : (A : Type 0) (next after : Token) (stack : List Item) (values : List PartialTree) (n k : ℕ)
+pub block_reports : (A : Type 0) (next after : Token) (stack : List Item) (values : List PartialTree) (n k : ℕ)
     (ds : List Definition) (acts : List Action) →
-    Stated A (room_in stack + 2) (Tells A stack) values n k ds acts →
+    Stated A (room_in stack + 2) (Reports A stack) values n k ds acts →
     Produced A (choice Block next after) stack values n k ds acts
-block_tells A (token.Punctuator punctuator.OpenCurly) after stack values n k ds acts h =
-    narrower A (room_in (Close ∷ stack) + 2) (room_in stack + 2) (Tells A stack) values n k ds acts (omega arith) h
-block_tells A next after stack values n k ds acts h = tt
+block_reports A (token.Punctuator punctuator.OpenCurly) after stack values n k ds acts h =
+    narrower A (room_in (Close ∷ stack) + 2) (room_in stack + 2) (Reports A stack) values n k ds acts (omega arith) h
+block_reports A next after stack values n k ds acts h = tt
 
-pub statements_tell : (A : Type 0) (next after : Token) (stack : List Item) (values : List PartialTree) (n k : ℕ)
+pub statements_report : (A : Type 0) (next after : Token) (stack : List Item) (values : List PartialTree) (n k : ℕ)
     (ds : List Definition) (acts : List Action) →
-    Stated A (room_in stack + 2) (Tells A stack) values n k ds acts →
+    Stated A (room_in stack + 2) (Reports A stack) values n k ds acts →
     Produced A (choice Statements next after) stack values n k ds acts
-statements_tell A (token.Punctuator punctuator.CloseCurly) after stack values n k ds acts h =
-    no_more_statements A (room_in stack + 2) (Tells A stack) values n k ds acts h
-statements_tell A next after stack values n k ds acts h =
-    then_statements A (room_in stack + 2) (Tells A stack) values n k ds acts h
+statements_report A (token.Punctuator punctuator.CloseCurly) after stack values n k ds acts h =
+    no_more_statements A (room_in stack + 2) (Reports A stack) values n k ds acts h
+statements_report A next after stack values n k ds acts h =
+    then_statements A (room_in stack + 2) (Reports A stack) values n k ds acts h
 
-pub statement_tells : (A : Type 0) (next after : Token) (stack : List Item) (values : List PartialTree) (scope : Scope)
+pub statement_reports : (A : Type 0) (next after : Token) (stack : List Item) (values : List PartialTree)
+    (scope : Scope)
     (n k : ℕ) (ds : List Definition) (acts : List Action) → Enters A Statement next after stack →
-    Stated A (room_in stack + 2) (Tells A stack) values n k ds acts →
+    Stated A (room_in stack + 2) (Reports A stack) values n k ds acts →
     Produced A (choice Statement next after) stack values n k ds (and_then acts (on_choice Statement next scope))
-statement_tells A (token.Punctuator punctuator.Semicolon) after stack values scope n k ds acts level h =
-    no_more_statements A (room_in stack + 2) (Tells A stack) values n k ds acts h
-statement_tells A (token.Punctuator punctuator.OpenCurly) after stack values scope n k ds acts level h = h
-statement_tells A (token.Keyword keyword.If) after stack values scope n k ds acts level h =
-    decides A stack values n k ds acts (λ a. level a refl) h
-statement_tells A (token.Keyword keyword.While) after stack values scope n k ds acts level h =
-    repeats A stack values n k ds acts (λ a. level a refl) h
-statement_tells A (token.Keyword keyword.Return) after stack values scope n k ds acts level h =
+statement_reports A (token.Punctuator punctuator.Semicolon) after stack values scope n k ds acts nested h =
+    no_more_statements A (room_in stack + 2) (Reports A stack) values n k ds acts h
+statement_reports A (token.Punctuator punctuator.OpenCurly) after stack values scope n k ds acts nested h = h
+statement_reports A (token.Keyword keyword.If) after stack values scope n k ds acts nested h =
+    decides A stack values n k ds acts (λ a. nested a refl) h
+statement_reports A (token.Keyword keyword.While) after stack values scope n k ds acts nested h =
+    repeats A stack values n k ds acts (λ a. nested a refl) h
+statement_reports A (token.Keyword keyword.Return) after stack values scope n k ds acts nested h =
     gives_back A stack values n k ds acts h
-statement_tells A next after stack values scope n k ds acts level h = evaluates A stack values n k ds acts h
+statement_reports A next after stack values scope n k ds acts nested h = evaluates A stack values n k ds acts h
 
 -- The end of an if.
 
@@ -303,7 +309,7 @@ decided : (A : Type 0) (least : ℕ) (next : Body → List Action → Type 0) (s
 decided A least next s c b acts h =
     subst (λ (xs : List Action). next (join b (tree.IfStatement c s tree.Done)) xs)
     (ap (λ xs. h.base ++ xs) (body_actions-join b (tree.IfStatement c s tree.Done)) ∙ regroup
-    ∙ ap (λ xs. xs ++ EndIf ∷ []) h.told)
+    ∙ ap (λ xs. xs ++ EndIf ∷ []) h.reported)
     (h.on (join b (tree.IfStatement c s tree.Done))
     (join_fits A h.room b (tree.IfStatement c s tree.Done) h.fits
     (if_fits A least h.room c s h.enough h.condition h.first)))
@@ -319,7 +325,7 @@ decided_else : (A : Type 0) (least : ℕ) (next : Body → List Action → Type 
 decided_else A least next s c b acts h t g =
     subst (λ (xs : List Action). next (join b (tree.IfElseStatement c s t tree.Done)) xs)
     (ap (λ xs. h.base ++ xs) (body_actions-join b (tree.IfElseStatement c s t tree.Done)) ∙ regroup
-    ∙ ap (λ xs. ((xs ++ action.ElsePart ∷ []) ++ body_actions t) ++ EndIf ∷ []) h.told)
+    ∙ ap (λ xs. ((xs ++ action.ElsePart ∷ []) ++ body_actions t) ++ EndIf ∷ []) h.reported)
     (h.on (join b (tree.IfElseStatement c s t tree.Done))
     (join_fits A h.room b (tree.IfElseStatement c s t tree.Done) h.fits
     (if_else_fits A least h.room c s t h.enough h.condition h.first g)))
@@ -334,29 +340,29 @@ abbrev else_items : List Item → List Item
 else_items stack = Make Empty ∷ Part Statement ∷ Make DecideElse ∷ stack
 
 with_else : (A : Type 0) (stack : List Item) (values : List PartialTree) (n k : ℕ) (ds : List Definition)
-    (acts : List Action) → Branched A (room_in stack + 2) (Tells A stack) values n k ds acts →
-    Tells A (else_items stack) values n k ds acts
+    (acts : List Action) → Branched A (room_in stack + 2) (Reports A stack) values n k ds acts →
+    Reports A (else_items stack) values n k ds acts
 with_else A stack (ABody s ∷ AnExpr c ∷ ABody b ∷ below) n k ds acts h = record {
   base = acts ++ action.ElsePart ∷ [];
   room = room_in stack + 2;
   enough = λ a. omega arith;
-  told = append-nil (acts ++ action.ElsePart ∷ []);
+  reported = append-nil (acts ++ action.ElsePart ∷ []);
   fits = done_fits A (room_in stack + 2);
-  on = λ t g. decided_else A (room_in stack + 2) (λ x more. Tells A stack (ABody x ∷ below) n k ds more)
+  on = λ t g. decided_else A (room_in stack + 2) (λ x more. Reports A stack (ABody x ∷ below) n k ds more)
       s c b acts h t g;
 }
 with_else A stack values n k ds acts h = absurd h
 
 pub without_else : (A : Type 0) (stack : List Item) (values : List PartialTree) (n k : ℕ) (ds : List Definition)
-    (acts : List Action) → Branched A (room_in stack + 2) (Tells A stack) values n k ds acts →
-    Tells A (Make Decide ∷ stack) values n k ds acts
+    (acts : List Action) → Branched A (room_in stack + 2) (Reports A stack) values n k ds acts →
+    Reports A (Make Decide ∷ stack) values n k ds acts
 without_else A stack (ABody s ∷ AnExpr c ∷ ABody b ∷ below) n k ds acts h =
-    decided A (room_in stack + 2) (λ x more. Tells A stack (ABody x ∷ below) n k ds more) s c b acts h
+    decided A (room_in stack + 2) (λ x more. Reports A stack (ABody x ∷ below) n k ds more) s c b acts h
 without_else A stack values n k ds acts h = absurd h
 
-pub else_tells : (A : Type 0) (next after : Token) (stack : List Item) (values : List PartialTree) (n k : ℕ)
+pub else_reports : (A : Type 0) (next after : Token) (stack : List Item) (values : List PartialTree) (n k : ℕ)
     (ds : List Definition) (acts : List Action) →
-    Branched A (room_in stack + 2) (Tells A stack) values n k ds acts →
+    Branched A (room_in stack + 2) (Reports A stack) values n k ds acts →
     Produced A (choice ElsePart next after) stack values n k ds acts
-else_tells A (token.Keyword keyword.Else) after stack values n k ds acts h = with_else A stack values n k ds acts h
-else_tells A next after stack values n k ds acts h = without_else A stack values n k ds acts h
+else_reports A (token.Keyword keyword.Else) after stack values n k ds acts h = with_else A stack values n k ds acts h
+else_reports A next after stack values n k ds acts h = without_else A stack values n k ds acts h
