@@ -6,10 +6,10 @@ use crate::sessions::Session;
 use crate::variables::named;
 use code::Intrinsic;
 use grammar::Var;
-use moments::Sought;
 use notes::Variable;
 use settings::value_number;
 use std::alloc::Global;
+use watching::Sought;
 
 /// What is sought.
 #[derive(Drop)]

@@ -3,10 +3,10 @@
 use crate::refusals::Refusal;
 use crate::sessions::Session;
 use code::{Instr, Program};
-use findings::function_at;
 use notes::Note;
 use settings::value_number;
 use std::alloc::{AllocError, Global};
+use watching::function_at;
 
 /// Marks the instructions of the lines of a list, as `3` or `5,8-12`.
 pub fn instructions<'a>(

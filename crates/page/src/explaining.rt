@@ -16,9 +16,9 @@ use crate::sources::SourceFeed;
 use code::Maker;
 use derivations::{Located, Tokens, locate_in};
 use explanations::{Warnings, explain, warnings_before, warnings_of};
-use findings::{Event, Field};
 use grammar::{ParseFault, Profile};
 use parser::parse;
+use watching::{Event, Field};
 
 /// What is reported of a source beside a fault.
 #[derive(Clone, Copy, PartialEq, Eq)]

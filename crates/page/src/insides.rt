@@ -6,9 +6,9 @@ ghost use Rattle.code.specs.Codes.{AreProgramsOf};
 ghost use Rattle.code.specs.Generation.{Program};
 ghost use Rattle.battles.specs.Battle.{first_state, last_cycle};
 ghost use Rattle.battles.specs.Pairing.{paired, robots_of};
-ghost use Rattle.playing.specs.Played.{codes_of};
-ghost use Rattle.moments.specs.Moments.{IsMoment};
-ghost use Rattle.moments.specs.Searches.{Happens, IsLast, IsNext};
+ghost use Rattle.watching.specs.Played.{codes_of};
+ghost use Rattle.watching.specs.Moments.{IsMoment};
+ghost use Rattle.watching.specs.Searches.{Happens, IsLast, IsNext};
 
 use crate::films::add_columns;
 use crate::pilots::pilots_of;
@@ -17,10 +17,10 @@ use crate::sheets::Sheet;
 use crate::targets::Target;
 use arena::MOST_ROBOTS;
 use code::{Intrinsic, Machine, Want};
-use findings::{Event, Field};
-use moments::{Asked, Moment, Sought, moment_at, next_cycle, previous_cycle};
-use playing::{Pilot, word_of};
 use series::{Programs, Settings};
+use watching::{
+    Asked, Event, Field, Moment, Pilot, Sought, moment_at, next_cycle, previous_cycle, word_of,
+};
 
 /// Writes on a blank sheet where a robot is after a cycle of the first match of these programs, or at its end if that
 /// comes before.

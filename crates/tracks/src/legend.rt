@@ -8,7 +8,7 @@ use crate::scenes::{Robot, Scene};
 use crate::svg::{add_number, add_words};
 use arena::MOST_ROBOTS;
 use tools::{Draft, Text};
-use trails::Shots;
+use watching::Shots;
 
 /// What explains the signs of the picture.
 const SIGNS: &str =

@@ -6,9 +6,8 @@ use crate::ink::{Period, cycle_of};
 use crate::matches::Track;
 use crate::scenes::Robot;
 use crate::svg::{add_number, add_step, add_words};
-use playing::UPDATE_CYCLES;
 use tools::{Draft, Text};
-use trails::{Path, Place, column, row, step_of};
+use watching::{Path, Place, UPDATE_CYCLES, column, row, step_of};
 
 /// The number of pieces of a path that differ in opacity.
 const PIECES: usize = 16;

@@ -5,7 +5,9 @@ use crate::scenes::{Robot, Scene};
 use crate::svg::{add_length, add_number, add_step, add_words};
 use arena::MOST_ROBOTS;
 use tools::{Draft, Text};
-use trails::{STRIP_LEFT, STRIP_PERCENT, STRIP_TOP, STRIP_WIDTH, step_of, strip_column, strip_row};
+use watching::{
+    STRIP_LEFT, STRIP_PERCENT, STRIP_TOP, STRIP_WIDTH, step_of, strip_column, strip_row,
+};
 
 /// The most marks of the axis of time, beside the one at 0.
 const MOST_MARKS: u32 = 5;
