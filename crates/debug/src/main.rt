@@ -3,7 +3,7 @@
 
 mod aims;
 mod commands;
-mod places;
+mod marks;
 mod refusals;
 mod sessions;
 mod variables;

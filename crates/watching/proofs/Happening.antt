@@ -17,7 +17,7 @@ use Rattle.watching.specs.Played.{codes_of, exes_of}
 use Rattle.watching.proofs.Playing.{code_same, lives_are, robots_as_seats, seat_reached, some_same}
 use Rattle.watching.specs.declared.sought.Glance.{Glance}
 use Rattle.watching.specs.declared.sought.Sought.{Sought}
-use Rattle.watching.specs.declared.sought.Sought.TheVariants.{Place, Question, Restart, Hurt, Hit, Change, Value, LocalChange, LocalValue}
+use Rattle.watching.specs.declared.sought.Sought.TheVariants.{Address, Question, Restart, Hurt, Hit, Change, Value, LocalChange, LocalValue}
 use Rattle.watching.specs.Hits.{hits}
 use Rattle.watching.specs.Moments.{last_of, replies_of, wanted}
 use Rattle.watching.specs.Searches.{Happens, IsGlanced, IsOneCall, Seems, Shows, state_at, value_of}
@@ -48,7 +48,7 @@ one_call marks a b c d a' b' c' d' p q r t (here, there, same) =
 pub shows_so : (sought : Sought) (robots : List Behaviour) (program : Program) (i cycle : ℕ) (now later : BattleState)
     (before after : Glance) (is_hit : Bool) → See robots program i cycle sought now later before after is_hit
     → Seems sought before after is_hit → Shows sought robots program i cycle now later
-shows_so (Place marks most) robots program i cycle now later before after is_hit see (here, few) =
+shows_so (Address marks most) robots program i cycle now later before after is_hit see (here, few) =
     (ap (λ n. get_or marks.now n false) (sym see.address_then) ∙ here, omega (arith, see.frames, few))
 shows_so (Question k least most) robots program i cycle now later before after is_hit see ((a, asks), low, high) =
     let asked = sym see.want ∙ asks in
@@ -72,7 +72,7 @@ shows_so (LocalValue marks number value) robots program i cycle now later before
 pub seems_so : (sought : Sought) (robots : List Behaviour) (program : Program) (i cycle : ℕ) (now later : BattleState)
     (before after : Glance) (is_hit : Bool) → See robots program i cycle sought now later before after is_hit
     → Shows sought robots program i cycle now later → Seems sought before after is_hit
-seems_so (Place marks most) robots program i cycle now later before after is_hit see (here, few) =
+seems_so (Address marks most) robots program i cycle now later before after is_hit see (here, few) =
     (ap (λ n. get_or marks.now n false) see.address_then ∙ here, omega (arith, see.frames, few))
 seems_so (Question k least most) robots program i cycle now later before after is_hit see ((a, asked), low, high) =
     let word = see.word k a asked in ((a, see.want ∙ asked), rw word low, rw word high)

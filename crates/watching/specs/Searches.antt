@@ -14,7 +14,7 @@ use Rattle.watching.specs.Games.{Game}
 use Rattle.watching.specs.Pilot.{Pilot}
 use Rattle.watching.specs.declared.sought.Glance.{Glance}
 use Rattle.watching.specs.declared.sought.Sought.{Sought}
-use Rattle.watching.specs.declared.sought.Sought.TheVariants.{Place, Question, Restart, Hurt, Hit, Change, Value, LocalChange, LocalValue}
+use Rattle.watching.specs.declared.sought.Sought.TheVariants.{Address, Question, Restart, Hurt, Hit, Change, Value, LocalChange, LocalValue}
 use Rattle.watching.specs.Hits.{hits}
 use Rattle.watching.specs.Moments.{last_of, replies_of, wanted}
 
@@ -28,7 +28,7 @@ IsOneCall marks at home at' home' = (get_or marks at false ≡ true) × (get_or 
 
 -- what is sought shows in the cycle of a number, between the states before and after it
 abbrev pub Shows : Sought → List Behaviour → Program → (i cycle : ℕ) → (before after : BattleState) → Type 0
-Shows (Place marks most) robots program i cycle before after =
+Shows (Address marks most) robots program i cycle before after =
     (get_or marks.now (state_at program i after).at false ≡ true) × (length (state_at program i after).frames ≤ most)
 Shows (Question function least most) robots program i cycle before after =
     ((arguments : List ℤ) × (wanted robots i before ≡ Ask function arguments))
@@ -98,7 +98,7 @@ pub record IsGlanced (game : Game) (seat : Pilot) (i : ℕ) (sought : Sought) (g
 
 -- what is sought seems to happen between two glances, in a cycle in which the robot hits another one or doesn't
 abbrev pub Seems : Sought → (before after : Glance) → (is_hit : Bool) → Type 0
-Seems (Place marks most) before after is_hit = (get_or marks.now after.address false ≡ true) × (after.frames ≤ most)
+Seems (Address marks most) before after is_hit = (get_or marks.now after.address false ≡ true) × (after.frames ≤ most)
 Seems (Question function least most) before after is_hit =
     ((arguments : List ℤ) × (before.wanted ≡ Ask function arguments)) × (least ≤ℤ after.word) × (after.word ≤ℤ most)
 Seems Restart before after is_hit = before.wanted ≡ want.Restart

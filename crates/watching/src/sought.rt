@@ -22,7 +22,7 @@ use grammar::Var;
 pub enum Sought<'a> {
     /// After the cycle the next instruction has one of the addresses that are marked, and at most the given number of
     /// frames are open.
-    Place(&'a [bool], usize),
+    Address(&'a [bool], usize),
     /// The robot asks this function, and the reply is at least the first number and at most the second.
     Question(Intrinsic, i32, i32),
     /// The robot restarts.
@@ -119,7 +119,7 @@ fn value_of(machine: &Machine, sought: &Sought<'_>) -> i32
         Sought::LocalChange(_, number) | Sought::LocalValue(_, number, _) => {
             machine.variable(Var::Local(number))
         }
-        Sought::Place(_, _)
+        Sought::Address(_, _)
         | Sought::Question(_, _, _)
         | Sought::Restart
         | Sought::Hurt
@@ -142,7 +142,7 @@ fn shows(sought: &Sought<'_>, before: &Glance, after: &Glance, is_hit: bool) -> 
     ensures no { Seems sought.now before.now after.now is_hit → result ≡ true }
 {
     match *sought {
-        Sought::Place(marks, most) => is_marked(marks, after.address) && after.frames <= most,
+        Sought::Address(marks, most) => is_marked(marks, after.address) && after.frames <= most,
         Sought::Question(function, least, most) => {
             is_asked(before.wanted, function) && least <= after.word && after.word <= most
         }

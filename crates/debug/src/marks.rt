@@ -1,4 +1,4 @@
-//! Which instructions lines and functions have.
+//! Marks of instructions: those of lines and of functions.
 
 use crate::refusals::Refusal;
 use crate::sessions::Session;
