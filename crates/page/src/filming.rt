@@ -22,14 +22,12 @@ use crate::places::{places_of, tell_places};
 use crate::robots::RobotFile;
 use crate::running::{feeds_of, words_of};
 use crate::sheets::Sheet;
-use crate::sources::SourceFeed;
+use crate::sources::{SourceFeed, names_in};
 use crate::stretches::Stretch;
 use crate::subjects::Subject;
 use arrayvec::ArrayVec;
-use code::Maker;
 use grammar::Profile;
 use grammar::laws::resolved_files;
-use parser::parse;
 use series::{MOST_FILES, Mode, Programs, RunFault, Settings, compile_files};
 use watching::{PlayEnd, UPDATE_CYCLES, play};
 
@@ -126,7 +124,7 @@ fn functions_of(profile: Profile, robots: &[RobotFile]) -> ArrayVec<Functions, M
 #[inline(never)]
 fn functions_in(profile: Profile, source: &[u8]) -> Functions {
     let mut functions = Functions::new();
-    if let Ok(names) = parse(&mut SourceFeed::new(source), &mut Maker::new(profile)) {
+    if let Ok(names) = names_in(profile, source) {
         for function in names.functions() {
             functions.push(*function.name());
         }
