@@ -9,6 +9,6 @@ pub record Path : Type 0 where
   pub skip : ℕ
 
 -- of all places, the path keeps each `stride`-th one, from the first on
-pub record Keeps (trail : Path) (places : List Place) : Type 0 where
-  pub each : (n : ℕ) → slice_get trail.places n ≡ slice_get places (n * trail.stride)
-  pub next : length places + trail.skip ≡ length trail.places * trail.stride
+pub record Keeps (path : Path) (places : List Place) : Type 0 where
+  pub each : (n : ℕ) → slice_get path.places n ≡ slice_get places (n * path.stride)
+  pub next : length places + path.skip ≡ length path.places * path.stride

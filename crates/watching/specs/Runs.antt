@@ -21,8 +21,8 @@ abbrev pub is_alike : Stance → Stance → Bool
 is_alike a b = nat_eq a.heading b.heading && nat_eq a.speed b.speed && nat_eq a.damage b.damage
 
 -- the way from one place to another
-abbrev pub step_of : Stance → Stance → Displacement
-step_of a b = record { east = pos b.x -ℤ pos a.x; north = pos b.y -ℤ pos a.y }
+abbrev pub way_of : Stance → Stance → Displacement
+way_of a b = record { east = pos b.x -ℤ pos a.x; north = pos b.y -ℤ pos a.y }
 
 -- two ways differ by no more than what places are rounded by
 abbrev pub is_even : Displacement → Displacement → Bool

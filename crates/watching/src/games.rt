@@ -175,7 +175,7 @@ pub fn play<W: Watcher>(
 {
     let mut game = Game::new(pilots, seed, number, limit);
     watcher.begins(game.arena());
-    run(&mut game, pilots, watcher);
+    play_on(&mut game, pilots, watcher);
     game.ending()
 }
 
@@ -190,7 +190,7 @@ fn begin(pilots: &mut [Pilot<'_>])
 }
 
 /// Plays on until the match is over, or the watcher wants no more.
-fn run<W: Watcher>(game: &mut Game, pilots: &mut [Pilot<'_>], watcher: &mut W)
+fn play_on<W: Watcher>(game: &mut Game, pilots: &mut [Pilot<'_>], watcher: &mut W)
     requires manned { length game.old.arena.robots ≡ length pilots.old }
     requires begins { game.old.ending.cycles ≡ 0 }
     requires ends { EndsWell game.old }

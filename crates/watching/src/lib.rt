@@ -23,8 +23,8 @@ mod shots;
 pub use paths::{MOST_PLACES, MOST_STRIDE, Path};
 pub use places::Place;
 pub use scale::{
-    FAINTEST, MARGIN, SIDE, STRIP_LEFT, STRIP_PERCENT, STRIP_TOP, STRIP_WIDTH, column, opacity,
-    row, step_of, strip_column, strip_row,
+    FAINTEST, MARGIN, SIDE, STRIP_LEFT, STRIP_PERCENT, STRIP_TOP, STRIP_WIDTH, column,
+    mark_spacing, opacity, row, strip_column, strip_row,
 };
 pub use shots::{MOST_SHOTS, Shot, Shots};
 

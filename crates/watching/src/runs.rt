@@ -3,7 +3,7 @@
 ghost use Rattle.std.specs.Prelude.{◌≡◌, ◌<◌, Some, None, true, false, length};
 ghost use Rattle.arena.specs.Field.{Field, robot_at};
 ghost use Rattle.arena.specs.Representing.{RepresentsField};
-ghost use Rattle.watching.specs.Runs.{is_alike, is_even, stance_of, step_of};
+ghost use Rattle.watching.specs.Runs.{is_alike, is_even, stance_of, way_of};
 
 use arena::Arena;
 
@@ -50,8 +50,8 @@ impl Stance {
     }
 
     /// Returns the way from here to there.
-    fn step_to(&self, there: &Stance) -> Displacement
-        ensures { result ≡ step_of self.now there.now }
+    fn way_to(&self, there: &Stance) -> Displacement
+        ensures { result ≡ way_of self.now there.now }
     {
         Displacement {
             east: i32::from(there.x) - i32::from(self.x),
@@ -82,7 +82,7 @@ impl Displacement {
 #[derive(Clone, Copy, Default, Drop)]
 pub struct Run {
     last: Option<Stance>,
-    step: Option<Displacement>,
+    way: Option<Displacement>,
     is_told: bool,
 }
 
@@ -98,11 +98,11 @@ pub struct News {
 impl Run {
     /// Makes a run without places.
     pub fn new() -> Run
-        ensures { result ≡ record { last = None; step = None; is_told = false } }
+        ensures { result ≡ record { last = None; way = None; is_told = false } }
     {
         Run {
             last: None,
-            step: None,
+            way: None,
             is_told: false,
         }
     }
@@ -120,7 +120,7 @@ impl Run {
         let last = self.last;
         match last {
             Some(last) if last.is_alike(&stance) => self.go_straight(&last, stance),
-            _ => self.turn(stance),
+            _ => self.begin_anew(stance),
         }
     }
 
@@ -128,36 +128,36 @@ impl Run {
     /// not as before.
     fn go_straight(&mut self, last: &Stance, stance: Stance) -> News
         ensures last { self.new.last ≡ Some stance }
-        ensures goes_on { (step : Displacement) → self.old.step ≡ Some step → is_even step (step_of last.now stance) ≡ true
+        ensures goes_on { (way : Displacement) → self.old.way ≡ Some way → is_even way (way_of last.now stance) ≡ true
             → result.end ≡ None }
-        ensures breaks { (step : Displacement) → self.old.step ≡ Some step → is_even step (step_of last.now stance) ≡ false
+        ensures breaks { (way : Displacement) → self.old.way ≡ Some way → is_even way (way_of last.now stance) ≡ false
             → self.old.is_told ≡ false → result.end ≡ self.old.last }
-        ensures step { (step : Displacement) → self.old.step ≡ Some step → is_even step (step_of last.now stance) ≡ false
-            → self.new.step ≡ Some (step_of last.now stance) }
+        ensures way { (way : Displacement) → self.old.way ≡ Some way → is_even way (way_of last.now stance) ≡ false
+            → self.new.way ≡ Some (way_of last.now stance) }
         ensures untold { self.new.is_told ≡ false }
     {
-        let step = last.step_to(&stance);
-        let before = self.step;
-        let (end, step) = match before {
-            Some(before) if before.is_even(&step) => (None, before),
-            Some(_) => (self.end(), step),
-            None => (None, step),
+        let way = last.way_to(&stance);
+        let before = self.way;
+        let (end, way) = match before {
+            Some(before) if before.is_even(&way) => (None, before),
+            Some(_) => (self.end(), way),
+            None => (None, way),
         };
         self.last = Some(stance);
-        self.step = Some(step);
+        self.way = Some(way);
         self.is_told = false;
         News { end, begin: None }
     }
 
     /// Ends the run, and begins another one here.
-    fn turn(&mut self, stance: Stance) -> News
+    fn begin_anew(&mut self, stance: Stance) -> News
         ensures last { self.new.last ≡ Some stance }
         ensures told { result.begin ≡ Some stance }
         ensures end { self.old.is_told ≡ false → result.end ≡ self.old.last }
     {
         let end = self.end();
         self.last = Some(stance);
-        self.step = None;
+        self.way = None;
         self.is_told = true;
         News {
             end,

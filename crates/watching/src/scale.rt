@@ -73,26 +73,26 @@ pub fn strip_row(percent: u8) -> u32
     STRIP_TOP + STRIP_PERCENT * (100 - u32::from(percent.min(100)))
 }
 
-/// Returns a round step of cycles, so that marks at its multiples are few: at most `most` beside the one at 0.
-pub fn step_of(cycles: u32, most: u32) -> u32
+/// Returns a round number of cycles, so that marks at its multiples are few: at most `most` beside the one at 0.
+pub fn mark_spacing(cycles: u32, most: u32) -> u32
     requires { 1 ≤ most }
     ensures some { 1 ≤ result }
     ensures few { cycles / result ≤ most }
 {
     let mut power = 1u32;
     for _ in 0..9 {
-        if let Some(step) = round_step(cycles, most, power) {
-            return step;
+        if let Some(spacing) = round_spacing(cycles, most, power) {
+            return spacing;
         }
         power = power.saturating_mul(10);
     }
     cycles.max(1)
 }
 
-/// Returns the first step that is wide enough of a power of ten, twice and five times as much.
-fn round_step(cycles: u32, most: u32, power: u32) -> Option<u32>
+/// Returns the first number that is wide enough of a power of ten, twice and five times as much.
+fn round_spacing(cycles: u32, most: u32, power: u32) -> Option<u32>
     requires { 1 ≤ power }
-    ensures { IfSome result (λ step. (1 ≤ step) × (cycles / step ≤ most)) }
+    ensures { IfSome result (λ spacing. (1 ≤ spacing) × (cycles / spacing ≤ most)) }
 {
     let (twice, five_times) = (power.saturating_mul(2), power.saturating_mul(5));
     if cycles / power <= most {

@@ -7,11 +7,11 @@ unfolding battle
 returns-clause-battle g c = λ robots are.
     let come =
     (rw c.new-game.ensures.codes at
-    (c.run.ensures.battle robots (first_state (length robots) c.args.seed c.args.number)))
+    (c.play_on.ensures.battle robots (first_state (length robots) c.args.seed c.args.number)))
     are (c.new-game.ensures.battle robots are) in
-    let limit : c.run.new.game.limit ≡ c.args.limit = c.run.ensures.limit ∙ c.new-game.ensures.limit in
+    let limit : c.play_on.new.game.limit ≡ c.args.limit = c.play_on.ensures.limit ∙ c.new-game.ensures.limit in
     rw c.ending.ensures.ending (rw limit at come.ends)
 
 pub returns-clause-limit : goal.returns-clause-limit
 returns-clause-limit g c =
-    omega (arith, c.ending.ensures.limit, c.run.ensures.limit, c.new-game.ensures.limit)
+    omega (arith, c.ending.ensures.limit, c.play_on.ensures.limit, c.new-game.ensures.limit)

@@ -3,7 +3,7 @@ use Rattle.battles.specs.Battle.{Behaviour, BattleState}
 use Rattle.battles.specs.Carrying.{AreRobotsOf}
 use Rattle.watching.specs.Games.{EndsWell, HasCome}
 use Rattle.watching.specs.Played.{codes_of, exes_of}
-use Rattle.watching.proofs.games.run.Given as goal
+use Rattle.watching.proofs.games.play_on.Given as goal
 
 -- n cycles were played of the same match
 abbrev pub invariant-loop : goal.invariant-loop
