@@ -1,5 +1,5 @@
 """What a robot did in each cycle of a match, worked out again: a plain machine over its listing gets the replies that `trace`
-reports, and each cycle is searched by itself. Another implementation than the crates `moments` and `debug`."""
+reports, and each cycle is searched by itself. Another implementation than the crates `watching` and `debug`."""
 
 from __future__ import annotations
 

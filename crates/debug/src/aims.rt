@@ -1,21 +1,21 @@
 //! Aims: what is sought in the cycles of the robot.
 
-use crate::places::{entries, instructions, of_function};
+use crate::marks::{entries, instructions, of_function};
 use crate::refusals::Refusal;
 use crate::sessions::Session;
 use crate::variables::named;
 use code::Intrinsic;
 use grammar::Var;
-use moments::Sought;
 use notes::Variable;
 use settings::value_number;
 use std::alloc::Global;
+use watching::Sought;
 
 /// What is sought.
 #[derive(Drop)]
 pub enum Aim {
     /// The next instruction is one of those that are marked, and at most the given number of frames are open.
-    Place(Vec<bool>, usize),
+    Address(Vec<bool>, usize),
     /// This function is asked, and the reply is at least the first number and at most the second.
     Question(Intrinsic, i32, i32),
     /// A restart.
@@ -65,11 +65,11 @@ impl Aim {
         match event {
             "line" => {
                 let (lines, frames) = lines_and_frames(words, LINE)?;
-                Ok(Aim::Place(entries(alloc, session, lines)?, frames))
+                Ok(Aim::Address(entries(alloc, session, lines)?, frames))
             }
             "in" => {
                 let (lines, frames) = lines_and_frames(words, IN)?;
-                Ok(Aim::Place(instructions(alloc, session, lines)?, frames))
+                Ok(Aim::Address(instructions(alloc, session, lines)?, frames))
             }
             "ask" => question(words),
             "restart" if words.is_empty() => Ok(Aim::Restart),
@@ -87,7 +87,7 @@ impl Aim {
     /// Returns it as the search has it.
     pub fn sought(&self) -> Sought<'_> {
         match self {
-            Aim::Place(marks, frames) => Sought::Place(marks.as_slice(), *frames),
+            Aim::Address(marks, frames) => Sought::Address(marks.as_slice(), *frames),
             Aim::Question(function, least, most) => Sought::Question(*function, *least, *most),
             Aim::Restart => Sought::Restart,
             Aim::Hurt => Sought::Hurt,

@@ -3,16 +3,16 @@
 
 mod aims;
 mod commands;
-mod places;
+mod marks;
 mod refusals;
 mod sessions;
 mod variables;
 
 use crate::sessions::{Session, answer_all};
 use notes::{NotedProgram, compiled, note_of};
-use playing::pilots;
 use std::process::ExitCode;
 use tools::{Fault, Known, MATCH_OPTIONS, Options, ProgramFrame, Span, Work, wish};
+use watching::pilots;
 
 /// The program's name, its line of wrong usage, and its options.
 const FRAME: ProgramFrame = ProgramFrame {

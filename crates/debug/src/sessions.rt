@@ -5,14 +5,13 @@ ghost use Rattle.std.specs.Prelude.{◌<◌, ◌≤◌, length};
 use crate::commands::Command;
 use crate::refusals::Refusal;
 use arena::MOST_ROBOTS;
-use moments::{moment_at, next_cycle, previous_cycle};
 use notes::{NotedProgram, add_moment};
-use playing::Pilot;
 use settings::MOST_CYCLES;
 use std::alloc::{AllocError, Global};
 use std::io::{BufRead, ErrorKind};
 use std::str;
 use tools::{Draft, Fault, Text, write_text};
+use watching::{Pilot, moment_at, next_cycle, previous_cycle};
 
 /// What the commands of a session are about: a match, and a robot in it.
 #[derive(Clone, Copy)]

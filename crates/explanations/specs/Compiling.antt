@@ -1,8 +1,9 @@
--- Whether a source compiles.
+-- Whether a source compiles, and which names it has.
 use Rattle.std.specs.Prelude.{ℕ, ◌≡◌, List, Result, Ok, Err}
 use Rattle.grammar.specs.declared.diagnostics.ParseFault.{ParseFault}
 use Rattle.grammar.specs.declared.diagnostics.ParseFault.TheVariants as parse_fault
 use Rattle.grammar.specs.Compiled.{compiled}
+use Rattle.grammar.specs.Pools.{Pools, pools_of}
 use Rattle.grammar.specs.Profile.{Profile}
 use Rattle.grammar.specs.Tree.{File}
 
@@ -10,6 +11,12 @@ use Rattle.grammar.specs.Tree.{File}
 pub record Compiles (profile : Profile) (bytes : List ℕ) : Type 0 where
   pub file : File
   pub is : compiled profile bytes ≡ Ok file
+
+-- the names are those of the file that it is
+pub record HasNames (profile : Profile) (bytes : List ℕ) (names : Pools) : Type 0 where
+  pub file : File
+  pub is : compiled profile bytes ≡ Ok file
+  pub named : names ≡ pools_of file
 
 -- the fault of a refusal is the source's first one
 abbrev pub IsFirstFault : Profile → List ℕ → ParseFault → Type 0

@@ -153,7 +153,7 @@ fn is_fixed(condition: &[Node], whole: &[Node]) -> bool {
         match node.kind {
             Kind::Fetch(var) if may_set(whole, var) => return false,
             Kind::Fetch(_) => is_read = true,
-            Kind::Store(..) | Kind::Step(_) | Kind::Call(..) => return false,
+            Kind::Store(..) | Kind::Increment(_) | Kind::Call(..) => return false,
             // no other node reads or sets a variable
             _ => {}
         }
@@ -174,7 +174,7 @@ fn may_set(nodes: &[Node], var: Var) -> bool {
 /// Reports whether a node may set a variable: a function of the file may set each external.
 fn sets(node: &Node, var: Var) -> bool {
     match node.kind {
-        Kind::Store(other, _) | Kind::Step(other) => other == var,
+        Kind::Store(other, _) | Kind::Increment(other) => other == var,
         Kind::Call(Callee::Function(_), _) => matches!(var, Var::External(_)),
         // no other node sets one
         _ => false,

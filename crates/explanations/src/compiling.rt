@@ -1,24 +1,33 @@
-//! Whether a source compiles.
+//! Whether a source compiles, and which names it has.
 
-ghost use Rattle.std.specs.Prelude.{◌≡◌, IfErr, OnOk};
-ghost use Rattle.explanations.specs.Compiling.{Compiles, IsFirstFault};
+ghost use Rattle.std.specs.Prelude.{◌≡◌, ℕ, IfErr, IfOk, List, OnOk, Some};
+ghost use Rattle.tokens.specs.Feed.{MayRead};
+ghost use Rattle.explanations.specs.Compiling.{Compiles, HasNames, IsFirstFault};
 
 use code::Maker;
-use grammar::{ParseFault, Profile};
+use grammar::{ParseFault, Pools, Profile};
 use parser::parse;
-use tokens::{MemoryFeed, WINDOW_BYTES};
+use tokens::Feed;
 
-/// Compiles a source in memory by a profile, as the main program does, and drops the code.
+/// Compiles the source of a feed by a profile, as the main program does, and drops the code: returns the names.
+///
+/// `compile` of `tools` gives the program too. That crate is for programs with words and files, which a page in a
+/// browser hasn't.
 ///
 /// # Errors
-/// `Source` with the first fault. A device in memory doesn't fail, but no clause says so of `Device`.
-pub fn compile(source: &[u8], profile: Profile) -> Result<(), ParseFault>
-    ensures compiles { OnOk result (Compiles profile source.now) }
-    ensures fault { IfErr result (IsFirstFault profile source.now) }
+/// `Source` with the first fault; `Device` if the feed failed before that, or the end, was known.
+pub fn compile<F: Feed>(profile: Profile, feed: &mut F) -> Result<Pools, ParseFault>
+    requires ready { MayRead (F.device feed.old) }
+    ensures compiles { OnOk result ((bytes : List ℕ) → (F.device feed.old).to_come ≡ Some bytes
+        → Compiles profile bytes) }
+    ensures names { IfOk result (λ names. (bytes : List ℕ) → (F.device feed.old).to_come ≡ Some bytes
+        → HasNames profile bytes names) }
+    ensures fault { IfErr result (λ fault. (bytes : List ℕ) → (F.device feed.old).to_come ≡ Some bytes
+        → IsFirstFault profile bytes fault) }
 {
     let mut maker = Maker::new(profile);
-    match parse(&mut MemoryFeed::new(source, WINDOW_BYTES), &mut maker) {
-        Ok(_) => Ok(()),
+    match parse(feed, &mut maker) {
+        Ok(names) => Ok(names),
         Err(fault) => Err(fault),
     }
 }

@@ -27,7 +27,7 @@ pub enum Kind {
     /// An assignment.
     Store(Var, StoreOp),
     /// `++` or `--`.
-    Step(Var),
+    Increment(Var),
     /// A unary operator, by what makes its tree.
     Sign(SemanticAction),
     /// A binary operator.
@@ -303,8 +303,8 @@ impl Nodes {
                 self.leaf(Kind::Fetch(var), chosen_at)
             }
             SemanticAction::Store(op) => self.store(op, chosen_at),
-            SemanticAction::PrefixIncrement(_) => self.step(chosen_at.saturating_add(1)),
-            SemanticAction::PostfixIncrement(_) => self.step(chosen_at),
+            SemanticAction::PrefixIncrement(_) => self.increment(chosen_at.saturating_add(1)),
+            SemanticAction::PostfixIncrement(_) => self.increment(chosen_at),
             SemanticAction::Pass => self.pass(),
             SemanticAction::Invoke => self.invoke(chosen_at),
             SemanticAction::Empty => self.root(Root::Mark(chosen_at)),
@@ -408,9 +408,9 @@ impl Nodes {
     }
 
     /// Adds the node of `++` or `--`.
-    fn step(&mut self, token: usize) {
+    fn increment(&mut self, token: usize) {
         let var = self.variable();
-        self.leaf(Kind::Step(var), token);
+        self.leaf(Kind::Increment(var), token);
     }
 
     /// Counts an argument of the innermost call.

@@ -70,7 +70,7 @@ fn have_effect(nodes: &[Node]) -> bool {
 /// Reports whether a node sets something, or calls what does more than answer.
 fn has_effect(node: &Node) -> bool {
     match node.kind {
-        Kind::Store(..) | Kind::Step(_) | Kind::Call(Callee::Function(_), _) => true,
+        Kind::Store(..) | Kind::Increment(_) | Kind::Call(Callee::Function(_), _) => true,
         Kind::Call(Callee::Intrinsic(intrinsic), _) => acts(intrinsic),
         // every other node only answers
         _ => false,

@@ -170,7 +170,7 @@ fn note_use(uses: &mut Uses, index: usize, node: &Node) {
     let (var, is_read, is_set) = match node.kind {
         Kind::Fetch(var) => (var, true, false),
         Kind::Store(var, StoreOp::Set) => (var, node.is_used, true),
-        Kind::Store(var, _) | Kind::Step(var) => (var, node.is_used, true),
+        Kind::Store(var, _) | Kind::Increment(var) => (var, node.is_used, true),
         // no other node speaks of a variable
         _ => return,
     };

@@ -3,8 +3,8 @@
 use crate::moment_rows::add_values;
 use crate::notes::NotedProgram;
 use code::{Frame, Machine};
-use findings::function_at;
 use tools::{Draft, Text};
+use watching::function_at;
 
 /// Adds a row for each open call, the innermost first, and after it the rows of its variables. A row has the number of
 /// frames that were open as the call began, the line on which the robot is in it, and the function. Frames of calls

@@ -7,13 +7,11 @@ use crate::notes::NotedProgram;
 use crate::spelling::{add_call, add_instruction, add_words};
 use arena::Arena;
 use code::{Instr, Machine, Want};
-use findings::{Stance, function_at};
 use grammar::{Callee, Name, Var};
-use moments::{Asked, Moment};
-use playing::word_of;
 use std::alloc::AllocError;
 use std::str;
 use tools::{Draft, Text, add_signed};
+use watching::{Asked, Moment, Stance, function_at, word_of};
 
 /// Adds where a robot is, whose machine this is: its cycle, its next instruction and what that asks, its last question,
 /// its calls with their variables, its externals, its stack, and the places of all robots. The only error is that

@@ -4,13 +4,13 @@ ghost use Rattle.std.specs.Prelude.{◌≡◌, ◌<◌, ◌≤◌, IfOk, length}
 
 use code::{Profile, Program};
 use derivations::{SourcePositions, lines};
-use findings::function_at;
 use grammar::Pools;
 use settings::{MOST_FILES, Settings};
 use std::alloc::{AllocError, Global};
 use std::str;
 use tokens::{MemoryFeed, WINDOW_BYTES};
 use tools::{Compiled, Fault, compile, name_of, source_of, tell_diagnostic};
+use watching::function_at;
 
 /// What is known of a file beside its program.
 #[derive(Drop)]

@@ -3,8 +3,8 @@ use Rattle.std.proofs.Common.{◌≡◌, ◌≤◌, ◌<◌, ◌-◌, ℕ, zero,
 use Rattle.std.specs.Prelude.{min, slice_get}
 use Rattle.battles.specs.Pairing.{paired}
 use Rattle.code.specs.Generation.{Program}
-use Rattle.playing.specs.Pilot.{Pilot}
-use Rattle.playing.specs.Played.{codes_of}
+use Rattle.watching.specs.Pilot.{Pilot}
+use Rattle.watching.specs.Played.{codes_of}
 
 -- they are two at least
 pub two_paired : {A : Type 0} (l : List A) → 0 < length l → 2 ≤ length (paired l)

@@ -1,8 +1,8 @@
 //! Explanations of sources in memory: a fault's, with the warnings before it; or of a source without one the warnings, or
 //! what its loops take.
 
-ghost use Rattle.std.specs.Prelude.{◌≡◌, IfErr, IfSome, IsSome, OnOk};
-ghost use Rattle.explanations.specs.Compiling.{Compiles, IsFirstFault};
+ghost use Rattle.std.specs.Prelude.{◌≡◌, IfSome, IsSome};
+ghost use Rattle.explanations.specs.Compiling.{Compiles};
 ghost use Rattle.page.specs.Explaining.{ExplainsRobots, IsFaulty};
 ghost use Rattle.page.specs.Running.{IsAccepted};
 
@@ -12,13 +12,11 @@ use crate::robots::RobotFile;
 use crate::rows::Row;
 use crate::running::words_of;
 use crate::sheets::{FRAME_BYTES, Sheet};
-use crate::sources::SourceFeed;
-use code::Maker;
+use crate::sources::names_in;
 use derivations::{Located, Tokens, locate_in};
 use explanations::{Warnings, explain, warnings_before, warnings_of};
-use findings::{Event, Field};
 use grammar::{ParseFault, Profile};
-use parser::parse;
+use watching::{Event, Field};
 
 /// What is reported of a source beside a fault.
 #[derive(Clone, Copy, PartialEq, Eq)]
@@ -73,8 +71,8 @@ fn explain_source(profile: Profile, source: &[u8], topic: Topic, sheet: &mut She
         return Explained::Cut;
     }
     let tokens = tokens.as_slice();
-    match compile(source, profile) {
-        Ok(()) => {
+    match names_in(profile, source) {
+        Ok(_) => {
             match topic {
                 Topic::Warnings => tell_warnings(&warnings_of(tokens, profile), tokens, sheet),
                 Topic::Turns => tell_turns(tokens, profile, sheet),
@@ -91,18 +89,6 @@ fn explain_source(profile: Profile, source: &[u8], topic: Topic, sheet: &mut She
             told(Explained::Faulty, sheet)
         }
         Err(_) => Explained::Cut,
-    }
-}
-
-/// Compiles a source, and drops the code, as `explanations::compile` does. That reads another kind of device, and would
-/// bring a second parser into the module.
-fn compile(source: &[u8], profile: Profile) -> Result<(), ParseFault>
-    ensures compiles { OnOk result (Compiles profile source.now) }
-    ensures fault { IfErr result (IsFirstFault profile source.now) }
-{
-    match parse(&mut SourceFeed::new(source), &mut Maker::new(profile)) {
-        Ok(_) => Ok(()),
-        Err(fault) => Err(fault),
     }
 }
 

@@ -5,7 +5,7 @@ ghost use Rattle.grammar.specs.Tree.{File};
 ghost use Rattle.code.specs.Codes.{AreProgramsOf};
 ghost use Rattle.battles.specs.Battle.{battle};
 ghost use Rattle.battles.specs.Pairing.{robots_of};
-ghost use Rattle.playing.specs.Played.{EndsAt, IsPlayed};
+ghost use Rattle.watching.specs.Played.{EndsAt, IsPlayed};
 ghost use Rattle.series.specs.Compiling.{SourceFile};
 ghost use Rattle.series.specs.Pieces.{on_both};
 ghost use Rattle.series.specs.CompiledFiles.{Compiles};
@@ -22,16 +22,14 @@ use crate::places::{places_of, tell_places};
 use crate::robots::RobotFile;
 use crate::running::{feeds_of, words_of};
 use crate::sheets::Sheet;
-use crate::sources::SourceFeed;
+use crate::sources::{SourceFeed, names_in};
 use crate::stretches::Stretch;
 use crate::subjects::Subject;
 use arrayvec::ArrayVec;
-use code::Maker;
 use grammar::Profile;
 use grammar::laws::resolved_files;
-use parser::parse;
-use playing::{PlayEnd, UPDATE_CYCLES, play};
 use series::{MOST_FILES, Mode, Programs, RunFault, Settings, compile_files};
+use watching::{PlayEnd, UPDATE_CYCLES, play};
 
 /// Plays the first match that the order asks for of one to four robots, and writes on a sheet what the subject reports
 /// of it; if it asks for listings, writes where their instructions come from. The other sheet takes the diagnostics of
@@ -126,7 +124,7 @@ fn functions_of(profile: Profile, robots: &[RobotFile]) -> ArrayVec<Functions, M
 #[inline(never)]
 fn functions_in(profile: Profile, source: &[u8]) -> Functions {
     let mut functions = Functions::new();
-    if let Ok(names) = parse(&mut SourceFeed::new(source), &mut Maker::new(profile)) {
+    if let Ok(names) = names_in(profile, source) {
         for function in names.functions() {
             functions.push(*function.name());
         }

@@ -10,12 +10,13 @@ use arena::{Arena, MOST_BURSTS};
 use arrayvec::ArrayVec;
 use code::Cause;
 use derivations::SourcePositions;
-use findings::{Camera, Event, FILM_COLUMNS, FilmRows, Listener, Stance, function_at};
 use grammar::MOST_NAMES;
-use playing::{Exchange, Pilot, Turn, UPDATE_CYCLES, Watcher, word_of};
 use std::str;
 use tokens::Name;
-use trails::Place;
+use watching::{
+    Camera, Event, Exchange, FILM_COLUMNS, FilmRows, Listener, Pilot, Place, Stance, Turn,
+    UPDATE_CYCLES, Watcher, function_at, word_of,
+};
 
 /// The names of the functions of a file, by number.
 pub(crate) type Functions = ArrayVec<Name, MOST_NAMES>;

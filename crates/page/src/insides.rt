@@ -6,9 +6,9 @@ ghost use Rattle.code.specs.Codes.{AreProgramsOf};
 ghost use Rattle.code.specs.Generation.{Program};
 ghost use Rattle.battles.specs.Battle.{first_state, last_cycle};
 ghost use Rattle.battles.specs.Pairing.{paired, robots_of};
-ghost use Rattle.playing.specs.Played.{codes_of};
-ghost use Rattle.moments.specs.Moments.{IsMoment};
-ghost use Rattle.moments.specs.Searches.{Happens, IsLast, IsNext};
+ghost use Rattle.watching.specs.Played.{codes_of};
+ghost use Rattle.watching.specs.Moments.{IsMoment};
+ghost use Rattle.watching.specs.Searches.{Happens, IsLast, IsNext};
 
 use crate::films::add_columns;
 use crate::pilots::pilots_of;
@@ -17,10 +17,10 @@ use crate::sheets::Sheet;
 use crate::targets::Target;
 use arena::MOST_ROBOTS;
 use code::{Intrinsic, Machine, Want};
-use findings::{Event, Field};
-use moments::{Asked, Moment, Sought, moment_at, next_cycle, previous_cycle};
-use playing::{Pilot, word_of};
 use series::{Programs, Settings};
+use watching::{
+    Asked, Event, Field, Moment, Pilot, Sought, moment_at, next_cycle, previous_cycle, word_of,
+};
 
 /// Writes on a blank sheet where a robot is after a cycle of the first match of these programs, or at its end if that
 /// comes before.
@@ -84,7 +84,7 @@ pub(crate) fn tell_run(
     }
     let mut pilots = pilots_of(programs);
     let marked = target.marked();
-    let sought = Sought::Place(&marked, target.frames as usize);
+    let sought = Sought::Address(&marked, target.frames as usize);
     let pilots = &mut pilots[..programs.robots()];
     let found = if target.backwards == 0 {
         next_in(settings, pilots, robot, &sought, target.cycle)
@@ -157,7 +157,7 @@ struct Inside<'a> {
 impl Inside<'_> {
     /// Writes where the robot is, whose machine this is.
     fn tell(&mut self, moment: &Moment, machine: &Machine) {
-        self.tell_place(moment, machine);
+        self.tell_state(moment, machine);
         self.tell_next(moment);
         if let Some(asked) = moment.last {
             self.tell_asked(&asked);
@@ -178,7 +178,7 @@ impl Inside<'_> {
 
     /// Writes the next instruction's address, where the variables of its function begin, whether the robot lives, and
     /// whether the match is over.
-    fn tell_place(&mut self, moment: &Moment, machine: &Machine) {
+    fn tell_state(&mut self, moment: &Moment, machine: &Machine) {
         let address = i32::try_from(machine.address()).unwrap_or(i32::MAX);
         let home = i32::from(machine.home());
         let (alive, over) = (moment.is_alive, moment.game.ending().is_over);

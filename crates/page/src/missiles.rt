@@ -2,9 +2,8 @@
 
 ghost use Rattle.std.specs.Prelude.{◌≤◌};
 
-use playing::UPDATE_CYCLES;
 use series::MOST_CYCLES;
-use trails::{Place, Shot};
+use watching::{Place, Shot, UPDATE_CYCLES};
 
 /// A missile: who fired it, in which cycle, with which degree and range, where, and the update in which it bursts.
 #[derive(Clone, Copy, Default, Drop)]

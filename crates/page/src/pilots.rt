@@ -2,11 +2,11 @@
 
 ghost use Rattle.std.specs.Prelude.{◌≡◌, ◌<◌, ◌≤◌, Some, length, slice_get, take};
 ghost use Rattle.battles.specs.Pairing.{paired};
-ghost use Rattle.playing.specs.Played.{codes_of};
+ghost use Rattle.watching.specs.Played.{codes_of};
 
 use arena::MOST_ROBOTS;
-use playing::Pilot;
 use series::Programs;
+use watching::Pilot;
 
 /// Returns the pilots of the robots that fight, and after them as many more as there is room for.
 pub(crate) fn pilots_of(programs: &Programs) -> [Pilot<'_>; MOST_ROBOTS]

@@ -8,8 +8,8 @@ use crate::sheets::Sheet;
 use arrayvec::ArrayVec;
 use code::Program;
 use derivations::{SourcePositions, lines};
-use findings::{Event, Field};
 use series::{MOST_FILES, Programs};
+use watching::{Event, Field};
 
 /// The first line of a list of places: the names of its columns.
 const COLUMNS: &[u8] = b"address\trobot\tkind\tline\tcolumn\n";

@@ -1,9 +1,9 @@
 //! Rows of a film: fields with tabs between them.
 
 use arrayvec::ArrayString;
-use findings::{Event, Field};
 use std::fmt;
 use std::fmt::Write;
+use watching::{Event, Field};
 
 /// The most bytes of a row. A row of five numbers is never so long; of a longer one the fields are left out that don't
 /// fit.

@@ -1,7 +1,10 @@
-//! Sources as devices.
+//! Sources as devices, and the names of one.
 
-ghost use Rattle.std.specs.Prelude.{◌≡◌, [], Some, false};
+ghost use Rattle.std.specs.Prelude.{◌≡◌, [], IfErr, OnOk, Some, false};
+ghost use Rattle.explanations.specs.Compiling.{Compiles, IsFirstFault};
 
+use explanations::compile;
+use grammar::{ParseFault, Pools, Profile};
 use tokens::{DeviceFault, Feed};
 
 /// A source that is read, which never fails: the bytes still to come, and whether a read gave none.
@@ -43,5 +46,17 @@ impl Feed for SourceFeed<'_> {
         self.rest = &self.rest[count..];
         self.ended = count == 0;
         Ok(count)
+    }
+}
+
+/// Compiles a source, and drops the code: returns its names, or its first fault. By this device the module has one
+/// parser for all that it compiles.
+pub(crate) fn names_in(profile: Profile, source: &[u8]) -> Result<Pools, ParseFault>
+    ensures compiles { OnOk result (Compiles profile source.now) }
+    ensures fault { IfErr result (IsFirstFault profile source.now) }
+{
+    match compile(profile, &mut SourceFeed::new(source)) {
+        Ok(names) => Ok(names),
+        Err(fault) => Err(fault),
     }
 }

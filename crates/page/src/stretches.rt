@@ -2,7 +2,7 @@
 
 ghost use Rattle.std.specs.Prelude.{◌≡◌, ◌+◌, ◌*◌, ◌≤◌, ◌<◌, ◌==◌, ◌&&◌, ◌||◌, nat_lt, nat_le};
 
-use playing::UPDATE_CYCLES;
+use watching::UPDATE_CYCLES;
 
 /// Some windows of a match, each the 15 cycles between two updates. Any numbers make a stretch: one that begins after
 /// the match's end has nothing of it.

@@ -7,7 +7,7 @@ use arena::{Arena, Burst, LAST_METRE, MOST_BURSTS, MOST_RANGE, MOST_ROBOTS, flig
 use arith::{bears_within, cosine_at, norm_degree, root, sine_at};
 use arrayvec::ArrayVec;
 use code::Intrinsic;
-use playing::{Exchange, Turn};
+use watching::{Exchange, Turn};
 
 /// The greatest resolution of a scan.
 const MOST_RESOLUTION: u16 = 10;

@@ -2,8 +2,8 @@
 
 use crate::rows::add_turn;
 use notes::{Note, add_call, place_of};
-use playing::{Exchange, Pilot, Turn};
 use tools::{Draft, Text, add_signed};
+use watching::{Exchange, Pilot, Turn};
 
 /// The names of the columns.
 pub const ASK_COLUMNS: &str = "cycle\trobot\tfunction\tline\tcall\treply";

@@ -7,10 +7,11 @@ use crate::rows::Rows;
 use crate::tellers::Teller;
 use arena::{Arena, MOST_ROBOTS};
 use code::{Cause, Intrinsic};
-use findings::{Camera, Event, FILM_COLUMNS, Field, FilmRows, Listener};
 use notes::{Note, note_of, place_of};
-use playing::{Exchange, Pilot, Turn, Watcher, word_of};
 use tools::Fault;
+use watching::{
+    Camera, Event, Exchange, FILM_COLUMNS, Field, FilmRows, Listener, Pilot, Turn, Watcher, word_of,
+};
 
 /// What writes events as they happen: for a film with the robots' names, ways and scans.
 #[derive(Drop)]

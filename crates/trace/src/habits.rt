@@ -4,9 +4,9 @@ use crate::items::Items;
 use crate::subjects::Subject;
 use crate::tallies::{Calls, Deed, RobotCounts};
 use code::Intrinsic;
-use findings::{DIRECTION_DEGREES, DIRECTIONS, Streak, largest};
 use std::alloc::AllocError;
 use tools::{Draft, Text, add_left, add_right, add_signed};
+use watching::{DIRECTION_DEGREES, DIRECTIONS, Streak, largest};
 
 /// The report has a streak if it took at least one in this number of a robot's cycles.
 const TOLD_PART: u64 = 10;

@@ -2,9 +2,8 @@
 
 use arena::MOST_ROBOTS;
 use code::Program;
-use findings::{Event, Field};
 use notes::{Note, place_of};
-use playing::{Exchange, Pilot, Turn, UPDATE_CYCLES};
+use watching::{Event, Exchange, Field, Pilot, Turn, UPDATE_CYCLES};
 
 /// A question, and the cycle in which it was asked.
 #[derive(Clone, Copy)]

@@ -35,9 +35,9 @@ use crate::turns::Turns;
 use crate::watches::tell_changes;
 use arena::MOST_ROBOTS;
 use notes::{Note, compiled};
-use playing::{Pilot, pilots};
 use std::process::ExitCode;
 use tools::{Fault, MATCH_OPTIONS, Options, ProgramFrame, SPAN_OPTIONS, Work};
+use watching::{Pilot, pilots};
 
 /// The program's name, its line of wrong usage, and its options.
 const FRAME: ProgramFrame = ProgramFrame {

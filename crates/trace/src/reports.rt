@@ -9,11 +9,10 @@ use crate::restarts::add_restarts;
 use crate::subjects::Subject;
 use crate::tallies::{RobotCounts, add, take_largest};
 use code::Intrinsic;
-use findings::percent;
 use notes::{Note, note_of, plain};
-use playing::Pilot;
 use std::alloc::{AllocError, Global};
 use tools::{Draft, Text, add_right};
+use watching::{Pilot, percent};
 
 /// The most lines of a source that the report has.
 const MOST_TOLD: usize = 10;

@@ -1,9 +1,8 @@
 //! Rows of fields with tabs between them, on standard output.
 
-use findings::{Event, Field, FilmRows, Listener, MOST_FIELDS};
-use playing::Turn;
 use std::alloc::AllocError;
 use tools::{Draft, Fault, Output, Span, Text, add_signed};
+use watching::{Event, Field, FilmRows, Listener, MOST_FIELDS, Turn};
 
 /// Rows on a span of a match, which are written on standard output. After a fault nothing more is written, and `finish`
 /// answers it.

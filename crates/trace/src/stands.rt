@@ -4,10 +4,9 @@ ghost use Rattle.std.specs.Prelude.{◌≤◌, length};
 
 use crate::requests::Request;
 use arena::MOST_ROBOTS;
-use moments::moment_at;
 use notes::{Note, NotedProgram, add_moment, note_of};
-use playing::Pilot;
 use tools::{Draft, Fault, Output, Text};
+use watching::{Pilot, moment_at};
 
 /// Writes where each chosen robot is after a cycle: its number and its file's name, the rows on it, and an empty line.
 pub fn tell_moments(

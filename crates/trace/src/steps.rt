@@ -3,10 +3,10 @@
 use crate::rows::add_turn;
 use grammar::Name;
 use notes::{NotedProgram, add_instruction, add_words, name_in};
-use playing::{Pilot, Turn};
 use std::alloc::AllocError;
 use std::str;
 use tools::{Draft, Text, add_signed};
+use watching::{Pilot, Turn};
 
 /// The names of the columns.
 pub const STEP_COLUMNS: &str = "cycle\trobot\taddress\tinstruction\tstack\tline\tname\tchanged";

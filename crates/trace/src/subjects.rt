@@ -2,8 +2,8 @@
 
 use crate::tallies::RobotCounts;
 use code::Program;
-use findings::function_at;
 use notes::Note;
+use watching::function_at;
 
 /// A robot of the report: what was counted of it, and what gives these counts their lines and names.
 #[derive(Clone, Copy)]

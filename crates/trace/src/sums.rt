@@ -9,10 +9,9 @@ use crate::tallies::RobotCounts;
 use crate::tellers::Teller;
 use arena::Arena;
 use code::Cause;
-use findings::{Source, losses};
 use notes::Note;
-use playing::{Exchange, Pilot, Turn, Watcher};
 use tools::{Draft, Fault, Span, write_text};
+use watching::{Exchange, Pilot, Source, Turn, Watcher, losses};
 
 /// What counts. The sums are written at once when the match is over.
 #[derive(Drop)]

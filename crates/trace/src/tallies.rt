@@ -7,10 +7,11 @@ use crate::misses::{MissCounts, Misses, count_miss};
 use crate::restarts::{Crowd, crowd_of};
 use arena::MOST_ROBOTS;
 use code::{Cause, Frame, Intrinsic, Program};
-use findings::{Call, DIRECTIONS, Loss, Shares, Source, Streak, direction_of, largest, purpose_of};
-use playing::Exchange;
 use std::alloc::{AllocError, Global};
 use std::mem;
+use watching::{
+    Call, DIRECTIONS, Exchange, Loss, Shares, Source, Streak, direction_of, largest, purpose_of,
+};
 
 /// How many intrinsic functions there are.
 const INTRINSICS: usize = Intrinsic::ALL.len();

@@ -4,8 +4,8 @@ ghost use Rattle.std.specs.Prelude.{◌≤◌, length};
 
 use crate::requests::Request;
 use arena::MOST_ROBOTS;
-use playing::{Pilot, Watcher, play};
 use tools::Fault;
+use watching::{Pilot, Watcher, play};
 
 /// A watcher that reports a match as it is played.
 pub trait Teller: Watcher {

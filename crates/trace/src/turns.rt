@@ -9,8 +9,8 @@ use arena::{Arena, MOST_ROBOTS};
 use code::Machine;
 use grammar::MOST_NAMES;
 use notes::{Note, NotedProgram, note_of};
-use playing::{Exchange, Pilot, Turn, Watcher};
 use tools::Fault;
+use watching::{Exchange, Pilot, Turn, Watcher};
 
 /// What writes questions as they are asked, or steps before they are done.
 #[derive(Drop)]

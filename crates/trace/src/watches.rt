@@ -7,12 +7,11 @@ use crate::requests::Request;
 use crate::rows::{Rows, add_turn};
 use arena::MOST_ROBOTS;
 use code::Machine;
-use findings::function_at;
 use grammar::Var;
 use notes::{Note, Variable, note_of, variables_named};
-use playing::{Game, Pilot, Turn, Watcher};
 use std::alloc::{AllocError, Global};
 use tools::{Draft, Fault, Plain, Text, add_signed};
+use watching::{Game, Nobody, Pilot, Turn, function_at};
 
 /// The names of the columns.
 const COLUMNS: &str = "cycle\trobot\tfunction\tline\tname\tbefore\tafter";
@@ -35,12 +34,6 @@ struct Robot<'a> {
     address: usize,
     home: u16,
 }
-
-/// A watcher that does nothing.
-#[derive(Drop)]
-struct Nobody;
-
-impl Watcher for Nobody {}
 
 /// Writes a row for each cycle in which a watched variable of a chosen robot gets another value: one of a function
 /// within one call of it.

@@ -2,7 +2,7 @@
 
 use crate::svg::{add_length, add_number, add_step};
 use tools::{Draft, Text};
-use trails::{MARGIN, SIDE};
+use watching::{MARGIN, SIDE};
 
 /// The distance between two lines of the grid: 100 metres.
 const GRID: u32 = 100;

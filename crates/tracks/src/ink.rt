@@ -3,9 +3,8 @@
 use crate::matches::Recording;
 use crate::requests::View;
 use arena::MOST_ROBOTS;
-use playing::UPDATE_CYCLES;
 use tools::{Draft, Text, visible};
-use trails::opacity;
+use watching::{UPDATE_CYCLES, opacity};
 
 /// The colours of the robots, in order: those of replays in the light theme, which differ for the colour-blind too.
 const COLOURS: [&str; MOST_ROBOTS] = ["#0b6fb1", "#cd2d4d", "#00520e", "#7143d6"];

@@ -2,13 +2,13 @@
 
 use crate::ink::{add_name, add_short_name, cycle_of};
 use crate::matches::Track;
-use crate::paths::mark_step;
+use crate::paths::path_spacing;
 use crate::requests::View;
 use crate::scenes::{Robot, Scene};
 use crate::svg::{add_number, add_words};
 use arena::MOST_ROBOTS;
 use tools::{Draft, Text};
-use trails::Shots;
+use watching::Shots;
 
 /// What explains the signs of the picture.
 const SIGNS: &str =
@@ -31,7 +31,7 @@ pub fn add_legend(text: &mut Draft, scene: &Scene<'_>) {
         add_entry(text, &scene.robot(index, track));
     }
     text.add("<text x=\"1116\" y=\"936\">each ");
-    text.number(u64::from(mark_step(scene.period)));
+    text.number(u64::from(path_spacing(scene.period)));
     text.add(" cycles</text>\n</g>\n");
     text.add(SIGNS);
 }

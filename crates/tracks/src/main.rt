@@ -18,11 +18,11 @@ use crate::matches::{Recording, record};
 use crate::picture::drawn;
 use crate::requests::{Request, VIEW_OPTIONS};
 use notes::compiled;
-use playing::pilots;
 use std::process::ExitCode;
 use tools::{
     Fault, MATCH_OPTIONS, OUTPUT_OPTIONS, Options, ProgramFrame, SPAN_OPTIONS, Work, write_to,
 };
+use watching::pilots;
 
 /// The program's name, its line of wrong usage, and its options.
 const FRAME: ProgramFrame = ProgramFrame {

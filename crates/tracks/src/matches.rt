@@ -6,9 +6,8 @@ ghost use Rattle.std.specs.Option.{option_or};
 use crate::requests::View;
 use arena::{Arena, DEADLY, MOST_ROBOTS};
 use arrayvec::ArrayVec;
-use playing::{Exchange, Pilot, Turn, UPDATE_CYCLES, Watcher};
 use settings::Settings;
-use trails::{Path, Place, Shot, Shots};
+use watching::{Exchange, Path, Pilot, Place, Shot, Shots, Turn, UPDATE_CYCLES, Watcher};
 
 /// The most times that a robot's damage grows: each time by a percent at least.
 const MOST_GROWTHS: usize = 100;
@@ -127,7 +126,7 @@ pub fn record(pilots: &mut [Pilot<'_>], wish: &Settings<'_>, view: View) -> Reco
         tracks: ArrayVec::new(),
         shots: Shots::new(),
     };
-    let ending = playing::play(
+    let ending = watching::play(
         pilots,
         &mut recorder,
         wish.seed(),

@@ -6,9 +6,8 @@ use crate::ink::{Period, cycle_of};
 use crate::matches::Track;
 use crate::scenes::Robot;
 use crate::svg::{add_number, add_step, add_words};
-use playing::UPDATE_CYCLES;
 use tools::{Draft, Text};
-use trails::{Path, Place, column, row, step_of};
+use watching::{Path, Place, UPDATE_CYCLES, column, mark_spacing, row};
 
 /// The number of pieces of a path that differ in opacity.
 const PIECES: usize = 16;
@@ -17,17 +16,17 @@ const PIECES: usize = 16;
 const MOST_MARKS: u32 = 50;
 
 /// The fewest cycles between two marks of time.
-const LEAST_STEP: u32 = 10_000;
+const LEAST_SPACING: u32 = 10_000;
 
 /// The column beyond which a robot's number is on its left.
 const LAST_COLUMN: u32 = 1000;
 
 /// Returns the cycles between two marks of time on the paths.
-pub fn mark_step(period: Period) -> u32
+pub fn path_spacing(period: Period) -> u32
     ensures { 1 ≤ result }
 {
     let cycles = cycle_of(period.last.saturating_sub(period.first));
-    step_of(cycles, MOST_MARKS).max(LEAST_STEP)
+    mark_spacing(cycles, MOST_MARKS).max(LEAST_SPACING)
 }
 
 /// Adds a robot's path with a light edge, its marks of time and its start.
@@ -129,10 +128,13 @@ fn add_pair(text: &mut Draft, x: u32, y: u32) {
 
 /// Adds the marks of time on a path, but none at its start.
 fn add_marks(text: &mut Draft, track: &Track, period: Period) {
-    let step = mark_step(period);
-    let (first, last) = (cycle_of(period.first) / step, cycle_of(period.last) / step);
+    let spacing = path_spacing(period);
+    let (first, last) = (
+        cycle_of(period.first) / spacing,
+        cycle_of(period.last) / spacing,
+    );
     for mark in first..=last {
-        let cycle = mark.saturating_mul(step);
+        let cycle = mark.saturating_mul(spacing);
         if let Some(place) = place_at(track, cycle) {
             add_mark(text, place, cycle);
         }

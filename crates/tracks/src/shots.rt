@@ -3,7 +3,7 @@
 use crate::ink::{Period, colour, cycle_of};
 use crate::svg::{add_number, add_step, add_words};
 use tools::{Draft, Text};
-use trails::{Shot, column, row};
+use watching::{Shot, column, row};
 
 /// Adds the shots: first all lines, then the dots of bursts that hurt nobody, and above them the rings of those that
 /// hurt.

@@ -5,7 +5,9 @@ use crate::scenes::{Robot, Scene};
 use crate::svg::{add_length, add_number, add_step, add_words};
 use arena::MOST_ROBOTS;
 use tools::{Draft, Text};
-use trails::{STRIP_LEFT, STRIP_PERCENT, STRIP_TOP, STRIP_WIDTH, step_of, strip_column, strip_row};
+use watching::{
+    STRIP_LEFT, STRIP_PERCENT, STRIP_TOP, STRIP_WIDTH, mark_spacing, strip_column, strip_row,
+};
 
 /// The most marks of the axis of time, beside the one at 0.
 const MOST_MARKS: u32 = 5;
@@ -67,9 +69,9 @@ fn add_percents(text: &mut Draft) {
 
 /// Adds the marks of the axis of time.
 fn add_cycles(text: &mut Draft, cycles: u32) {
-    let step = step_of(cycles, MOST_MARKS);
-    for mark in 0..=cycles / step {
-        let cycle = mark.saturating_mul(step);
+    let spacing = mark_spacing(cycles, MOST_MARKS);
+    for mark in 0..=cycles / spacing {
+        let cycle = mark.saturating_mul(spacing);
         let x = strip_column(cycle, cycles);
         text.add("<path stroke=\"#777777\" d=\"");
         add_step(text, "M", x, STRIP_TOP + HEIGHT);
@@ -77,14 +79,14 @@ fn add_cycles(text: &mut Draft, cycles: u32) {
         add_number(text, "x", x);
         add_number(text, "y", STRIP_TOP + HEIGHT + 22);
         text.add(" font-size=\"12\" text-anchor=\"middle\">");
-        add_short_cycle(text, cycle, step);
+        add_short_cycle(text, cycle, spacing);
         text.add("</text>\n");
     }
 }
 
 /// Adds a cycle at a mark: in millions, if the marks are whole millions apart.
-fn add_short_cycle(text: &mut Draft, cycle: u32, step: u32) {
-    if cycle > 0 && step % MILLION == 0 {
+fn add_short_cycle(text: &mut Draft, cycle: u32, spacing: u32) {
+    if cycle > 0 && spacing % MILLION == 0 {
         text.number(u64::from(cycle / MILLION));
         text.add("M");
     } else {

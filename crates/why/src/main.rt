@@ -14,6 +14,7 @@ use explanations::{Note, Warnings, compile, explain, warnings_before, warnings_o
 use grammar::{Diagnostic, ParseFault, Profile};
 use std::alloc::Global;
 use std::process::ExitCode;
+use tokens::{MemoryFeed, WINDOW_BYTES};
 use tools::{
     Fault, Known, Options, Output, PROFILE_OPTIONS, Plain, ProgramFrame, Work, profile, source_of,
 };
@@ -120,12 +121,15 @@ fn explain_file(
         source: bytes.as_slice(),
         profile: wish.profile,
     };
-    match compile(file.source, file.profile) {
-        Ok(()) if wish.lint => {
+    match compile(
+        file.profile,
+        &mut MemoryFeed::new(file.source, WINDOW_BYTES),
+    ) {
+        Ok(_) if wish.lint => {
             let is_warned = tell_all_warnings(output, alloc, &file, tokens.as_slice())?;
             Ok(wish.strict && is_warned)
         }
-        Ok(()) => Ok(false),
+        Ok(_) => Ok(false),
         Err(ParseFault::Source(diagnostic)) => {
             tell_fault(output, wish, &file, tokens.as_slice(), &diagnostic)?;
             if wish.all {

@@ -6,7 +6,7 @@ use derivations::{Located, locate};
 use explanations::{compile, explain, fault_token};
 use grammar::{Code, Diagnostic, ParseFault, Profile};
 use std::alloc::{AllocError, Global};
-use tokens::Token;
+use tokens::{MemoryFeed, Token, WINDOW_BYTES};
 use tools::{Draft, Fault, Text};
 
 /// The most faults of a file that are explained.
@@ -119,7 +119,8 @@ impl Rest {
     /// Returns the first fault of what is left, if there is one: a function that isn't there may be one that was left
     /// out.
     fn fault(&self) -> Option<Diagnostic> {
-        match compile(self.bytes.as_slice(), self.profile) {
+        let mut feed = MemoryFeed::new(self.bytes.as_slice(), WINDOW_BYTES);
+        match compile(self.profile, &mut feed) {
             Err(ParseFault::Source(fault)) if !self.lacks_heads || !is_absence(fault.code) => {
                 Some(fault)
             }

@@ -1,7 +1,7 @@
 use Rattle.std.proofs.Common.{◌≡◌, take, sym}
-use Rattle.playing.proofs.Playing.{plain_robots}
+use Rattle.watching.proofs.Playing.{plain_robots}
 use Rattle.battles.specs.Pairing.{paired, robots_of}
-use Rattle.playing.specs.Played.{codes_of}
+use Rattle.watching.specs.Played.{codes_of}
 use Rattle.page.proofs.filming.play_programs.Goals as goal
 
 pub returns : goal.returns

@@ -1,5 +1,5 @@
 use Rattle.std.proofs.Common.{sym}
-use Rattle.playing.proofs.Playing.{plain_robots}
+use Rattle.watching.proofs.Playing.{plain_robots}
 use Rattle.battles.specs.Pairing.{robots_of}
 use Rattle.page.proofs.insides.next_in.Goals as goal
 

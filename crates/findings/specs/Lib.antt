@@ -1,4 +1,0 @@
-pub mod Purposes
-pub mod Runs
-pub mod Directions
-pub mod Streaks

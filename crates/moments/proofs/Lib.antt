@@ -1,7 +1,0 @@
-pub mod KnownHits
-pub mod Hitting
-pub mod Replies
-pub mod Asking
-pub mod Moments
-pub mod Happening
-pub mod Searching

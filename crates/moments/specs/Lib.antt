@@ -1,4 +1,0 @@
-pub mod Moments
-pub mod Hits
-pub mod KnownHits
-pub mod Searches

@@ -1,9 +1,0 @@
-use Rattle.std.proofs.Common.{◌+◌, ◌%◌, ap}
-use Rattle.std.specs.Prelude.{nat_eq}
-use Rattle.battles.specs.Battle.{is_due}
-use Rattle.playing.specs.Games.{Game}
-use Rattle.playing.proofs.games.Game.is_update_due.Goals as goal
-
-pub returns : goal.returns
-unfolding is_due
-returns c = ap (λ (game : Game). nat_eq ((game.ending.cycles + 1) % 15) 0) c.self.view_is

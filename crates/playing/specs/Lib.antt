@@ -1,3 +1,0 @@
-pub mod Pilot
-pub mod Played
-pub mod Games

@@ -1,0 +1,17 @@
+use Rattle.std.proofs.Common.{◌≡◌, ◌∙◌, length, arith}
+use Rattle.battles.specs.Battle.{battle, first_state}
+use Rattle.watching.proofs.games.play.Goals as goal
+
+pub returns-clause-battle : goal.returns-clause-battle
+unfolding battle
+returns-clause-battle g c = λ robots are.
+    let come =
+    (rw c.new-game.ensures.codes at
+    (c.play_on.ensures.battle robots (first_state (length robots) c.args.seed c.args.number)))
+    are (c.new-game.ensures.battle robots are) in
+    let limit : c.play_on.new.game.limit ≡ c.args.limit = c.play_on.ensures.limit ∙ c.new-game.ensures.limit in
+    rw c.ending.ensures.ending (rw limit at come.ends)
+
+pub returns-clause-limit : goal.returns-clause-limit
+returns-clause-limit g c =
+    omega (arith, c.ending.ensures.limit, c.play_on.ensures.limit, c.new-game.ensures.limit)

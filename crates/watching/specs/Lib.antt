@@ -1,0 +1,13 @@
+pub mod Pilot
+pub mod Played
+pub mod Games
+pub mod Path
+pub mod Shots
+pub mod Runs
+pub mod Purposes
+pub mod Directions
+pub mod Streaks
+pub mod Moments
+pub mod Hits
+pub mod KnownHits
+pub mod Searches

@@ -1,0 +1,108 @@
+//! Events of a match: the kind of each, and what is said of it.
+
+use crate::runs::Stance;
+use crate::update_losses::{Loss, Source, losses};
+use arena::{Arena, Burst, MOST_ROBOTS};
+use arrayvec::ArrayVec;
+
+/// The most fields of an event.
+pub const MOST_FIELDS: usize = 5;
+
+/// A field of an event.
+#[derive(Clone, Copy)]
+pub enum Field<'a> {
+    /// A number.
+    Number(i64),
+    /// A text.
+    Text(&'a str),
+}
+
+impl Default for Field<'_> {
+    fn default() -> Self {
+        Field::Text("")
+    }
+}
+
+/// What happened: its kind, and up to five fields that say more of it.
+#[derive(Drop)]
+pub struct Event<'a> {
+    /// Its kind.
+    pub kind: &'static str,
+    /// Its fields, in order.
+    pub fields: ArrayVec<Field<'a>, MOST_FIELDS>,
+}
+
+impl<'a> Event<'a> {
+    /// Makes an event of this kind with these fields, of which five count.
+    pub fn new(kind: &'static str, fields: &[Field<'a>]) -> Event<'a> {
+        let mut event = Event {
+            kind,
+            fields: ArrayVec::new(),
+        };
+        for field in fields {
+            let _ = event.fields.try_push(*field);
+        }
+        event
+    }
+
+    /// Makes an event of this kind with these numbers.
+    pub fn of_numbers(kind: &'static str, numbers: &[i32]) -> Event<'a> {
+        let mut event = Event::new(kind, &[]);
+        for number in numbers {
+            let _ = event.fields.try_push(Field::Number(i64::from(*number)));
+        }
+        event
+    }
+
+    /// Makes the event that a robot is at a place: its place, heading, speed and damage.
+    pub fn stance(kind: &'static str, stance: &Stance) -> Event<'a> {
+        let (x, y) = (i32::from(stance.x), i32::from(stance.y));
+        let (heading, speed) = (i32::from(stance.heading), i32::from(stance.speed));
+        Event::of_numbers(kind, &[x, y, heading, speed, i32::from(stance.damage)])
+    }
+
+    /// Makes the event that a missile bursts: the place.
+    pub fn burst(burst: &Burst) -> Event<'a> {
+        Event::of_numbers("burst", &[i32::from(burst.x()), i32::from(burst.y())])
+    }
+
+    /// Makes the event that an update takes damage from a robot: how much, which robot caused it, and where that one's
+    /// shot bursts.
+    pub fn loss(loss: &Loss) -> Event<'a> {
+        let percent = i32::from(loss.percent);
+        match loss.source {
+            Source::Wall => Event::of_numbers("wall", &[percent]),
+            Source::Collision(other) => Event::of_numbers(
+                "collision",
+                &[percent, number_of(other)],
+            ),
+            Source::Shot(by, x, y) => {
+                let (by, x, y) = (number_of(by), i32::from(x), i32::from(y));
+                Event::of_numbers("hurt", &[percent, by, x, y])
+            }
+        }
+    }
+}
+
+/// Takes the events of a match, one by one.
+pub trait Listener {
+    /// Takes an event of a robot in a cycle.
+    fn tell(&mut self, cycle: u32, robot: usize, event: &Event<'_>);
+
+    /// Takes what the update does that follows this cycle: the bursts, and what each robot loses.
+    fn tell_update(&mut self, cycle: u32, arena: &Arena) {
+        for burst in &arena.due() {
+            self.tell(cycle, burst.robot(), &Event::burst(burst));
+        }
+        for robot in 0..arena.robot_count() {
+            for loss in &losses(arena, robot) {
+                self.tell(cycle, robot, &Event::loss(loss));
+            }
+        }
+    }
+}
+
+/// Returns a robot's number, which counts from 1 in events.
+fn number_of(robot: usize) -> i32 {
+    robot.min(MOST_ROBOTS) as i32 + 1
+}
