@@ -17,7 +17,7 @@ use crate::parser::Parser;
 use crate::scoped_cursor::{ScopedCursor, open_cursor};
 use crate::token_predicates::{is_keyword, is_punctuator};
 use grammar::{Build, Code, Diagnostic, ParseFault, Pools, Scope};
-use tokens::{Feed, Keyword, Punctuator, Token};
+use tokens::{Cursor, Feed, Keyword, Punctuator, Token};
 
 /// Reads a source from the device in one pass, reports its actions to the builder, and returns its names.
 ///
@@ -73,7 +73,9 @@ pub fn parse_into<F: Feed, B: Build>(
     ensures taken { TakesEnough result (B.stands build.old) (F.device feed.old).to_come (F.device feed.new).to_come }
     ensures counted { CountsRefusal result (F.device feed.old).account (F.device feed.new).account }
 {
-    let cursor = open_cursor(feed)?;
+    // (it is opened where it was made: in a result, it would be blanked and moved once for each caller)
+    let mut cursor = Cursor::new();
+    open_cursor(&mut cursor, feed)?;
     let parser = ScopedCursor::new(cursor, scope, feed);
     let mut reader = Parser {
         tokens: parser,

@@ -4,7 +4,7 @@ ghost use Rattle.std.specs.Prelude.{◌≡◌, ◌-◌, ◌^◌, ◌<◌, ◌≤
 ghost use Rattle.tokens.specs.Feed.{Counts};
 ghost use Rattle.tokens.specs.Tokens.{tokens, is_last};
 ghost use Rattle.tokens.specs.Cursors.{FitsToken};
-ghost use Rattle.tokens.specs.Window.{MayHaveAsked, MayAsk};
+ghost use Rattle.tokens.specs.Window.{MayHaveAsked, MayAsk, untouched};
 ghost use Rattle.tokens.specs.declared.located_tokens.LocatedToken.{LocatedToken};
 ghost use Rattle.tokens.specs.Cursors.{OpensCursor, AdvancesCursor, shown, bytes_taken, undecided_reach_of};
 
@@ -36,6 +36,18 @@ impl Model for Cursor {
 }
 
 impl Cursor {
+    /// Makes a cursor that hasn't begun. It is large, and made where it stays.
+    #[inline(always)]
+    pub fn new() -> Cursor
+        ensures { result.window ≡ untouched }
+    {
+        Cursor {
+            lexer: Lexer::new(),
+            next: LocatedToken::blank(),
+            after: LocatedToken::blank(),
+        }
+    }
+
     /// Opens a cursor at the first token of a device's bytes. The only error is that of the device.
     pub fn open<F: Feed>(feed: &mut F) -> Result<Cursor, DeviceFault>
         requires countable { (F.device feed.old).account.failures < 2 ^ 64 - 1 }
@@ -46,14 +58,29 @@ impl Cursor {
             × ((F.device feed.new).to_come ≡ Some (drop count bytes)) × (count ≤ undecided_reach_of (tokens bytes))) }
         ensures count { Counts result (F.device feed.old).account (F.device feed.new).account }
     {
-        let mut lexer = Lexer::new();
-        let mut next = LocatedToken::blank();
-        lexer.read_token(&mut next, feed)?;
-        let mut after = next;
-        if !next.token.is_last() {
-            lexer.read_token(&mut after, feed)?;
+        let mut cursor = Cursor::new();
+        cursor.begin(feed)?;
+        Ok(cursor)
+    }
+
+    /// Begins at the first token of a device's bytes, as `open` does, with a new cursor that stays where it is. After an
+    /// `Err` the cursor can't be used any more.
+    pub fn begin<F: Feed>(&mut self, feed: &mut F) -> Result<(), DeviceFault>
+        requires new { self.old.window ≡ untouched }
+        requires countable { (F.device feed.old).account.failures < 2 ^ 64 - 1 }
+        requires not_ended { (F.device feed.old).ended ≡ false }
+        ensures opens { OnOk result (
+            OpensCursor self.new (F.device feed.old).to_come (F.device feed.new).to_come (F.device feed.new).ended) }
+        ensures stopped { OnErr result ((bytes : List ℕ) → (F.device feed.old).to_come ≡ Some bytes → (count : ℕ)
+            × ((F.device feed.new).to_come ≡ Some (drop count bytes)) × (count ≤ undecided_reach_of (tokens bytes))) }
+        ensures count { Counts result (F.device feed.old).account (F.device feed.new).account }
+    {
+        self.lexer.read_token(&mut self.next, feed)?;
+        self.after = self.next;
+        if !self.next.token.is_last() {
+            self.lexer.read_token(&mut self.after, feed)?;
         }
-        Ok(Cursor { lexer, next, after })
+        Ok(())
     }
 
     /// Returns the next token.

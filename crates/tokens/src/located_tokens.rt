@@ -1,6 +1,7 @@
 //! Tokens, with their lines and ends in the source.
 
 ghost use Rattle.std.specs.Prelude.{◌≡◌};
+ghost use Rattle.tokens.specs.Cursors.{FitsToken};
 
 use crate::names::Name;
 
@@ -160,7 +161,9 @@ impl Token {
 
 impl LocatedToken {
     /// Makes what fills the field of a token before one is read.
-    pub(crate) fn blank() -> LocatedToken {
+    pub(crate) fn blank() -> LocatedToken
+        ensures { FitsToken result.token }
+    {
         LocatedToken {
             token: Token::End,
             line: 0,
