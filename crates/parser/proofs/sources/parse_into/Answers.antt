@@ -8,28 +8,28 @@ use Rattle.parser.proofs.Keeping.{file_left, refused_left}
 use Rattle.parser.proofs.Wholes.{IsWhole, first_refused, first_taking, has_taken, lacking, lacks_taking, stopped, stops_taking, whole_file, whole_takes}
 use Rattle.parser.proofs.sources.parse_into.Goals as goal
 
-pub returns-in_err-cursor-clause-refused : goal.returns-in_err-cursor-clause-refused
-returns-in_err-cursor-clause-refused g c =
+pub returns-in_err-open_cursor-clause-refused : goal.returns-in_err-open_cursor-clause-refused
+returns-in_err-open_cursor-clause-refused g c =
     let p = err_from_is_err_and c.from_residual.result c.from_residual.ensures.1 in
     rw (p.1, p.2)
-    (first_refused (g.B.Build.stands c.args.build.now) _ _ c.in_err-cursor.field-0.0 _
-    c.in_err-cursor.ensures.refused)
+    (first_refused (g.B.Build.stands c.args.build.now) _ _ c.in_err-open_cursor.field-0.0 _
+    c.in_err-open_cursor.ensures.refused)
 
-pub returns-in_err-cursor-clause-taken : goal.returns-in_err-cursor-clause-taken
-returns-in_err-cursor-clause-taken g c =
+pub returns-in_err-open_cursor-clause-taken : goal.returns-in_err-open_cursor-clause-taken
+returns-in_err-open_cursor-clause-taken g c =
     let p = err_from_is_err_and c.from_residual.result c.from_residual.ensures.1 in
     rw (p.1, p.2)
-    (first_taking (g.B.Build.stands c.args.build.now) _ _ c.in_err-cursor.field-0.0 c.in_err-cursor.ensures.refused)
+    (first_taking (g.B.Build.stands c.args.build.now) _ _ c.in_err-open_cursor.field-0.0 c.in_err-open_cursor.ensures.refused)
 
 pub returns-in_err-read-clause-refused : goal.returns-in_err-read-clause-refused
 returns-in_err-read-clause-refused g c =
     let nothing : scope_at c.new-parser.result.position ≡ no_names =
     rw (c.new-parser.ensures.position, c.requires.new.1) refl in
     let tells : tokens_at c.new-parser.result.position ≡ option_map tokens (g.F.Feed.device c.args.feed.now).to_come =
-    rw c.new-parser.ensures.position c.in_ok-cursor.ensures.opens.tokens in
+    rw c.new-parser.ensures.position c.in_ok-open_cursor.ensures.opens.tokens in
     let opened : c.new-parser.result.position.to_come ≡
     option_map (drop (taken_at c.new-parser.result.position)) (g.F.Feed.device c.args.feed.now).to_come =
-    rw c.new-parser.ensures.position c.in_ok-cursor.ensures.opens.took in
+    rw c.new-parser.ensures.position c.in_ok-open_cursor.ensures.opens.took in
     let p = err_from_is_err_and c.from_residual-in_err-read.result c.from_residual-in_err-read.ensures.1 in
     rw (p.1, p.2) (refused_left (g.B.Build.stands c.args.build.now) _
     (g.B.Build.stands c.source-read.new.self.builder.now) g.B.Build.denied
@@ -46,10 +46,10 @@ returns-in_err-read-clause-taken g c =
     let nothing : scope_at c.new-parser.result.position ≡ no_names =
     rw (c.new-parser.ensures.position, c.requires.new.1) refl in
     let tells : tokens_at c.new-parser.result.position ≡ option_map tokens (g.F.Feed.device c.args.feed.now).to_come =
-    rw c.new-parser.ensures.position c.in_ok-cursor.ensures.opens.tokens in
+    rw c.new-parser.ensures.position c.in_ok-open_cursor.ensures.opens.tokens in
     let opened : c.new-parser.result.position.to_come ≡
     option_map (drop (taken_at c.new-parser.result.position)) (g.F.Feed.device c.args.feed.now).to_come =
-    rw c.new-parser.ensures.position c.in_ok-cursor.ensures.opens.took in
+    rw c.new-parser.ensures.position c.in_ok-open_cursor.ensures.opens.took in
     let p = err_from_is_err_and c.from_residual-in_err-read.result c.from_residual-in_err-read.ensures.1 in
     rw (p.1, p.2) (stops_taking _ (g.B.Build.stands c.args.build.now) _ _ _ c.new-parser.result.position
     c.in_err-read.field-0.0 _ nothing tells
@@ -62,7 +62,7 @@ returns-in_err-checked-clause-refused g c =
     let nothing : scope_at c.new-parser.result.position ≡ no_names =
     rw (c.new-parser.ensures.position, c.requires.new.1) refl in
     let tells : tokens_at c.new-parser.result.position ≡ option_map tokens (g.F.Feed.device c.args.feed.now).to_come =
-    rw c.new-parser.ensures.position c.in_ok-cursor.ensures.opens.tokens in
+    rw c.new-parser.ensures.position c.in_ok-open_cursor.ensures.opens.tokens in
     let whole : IsWhole (g.B.Build.stands c.args.build.now) (g.B.Build.stands c.source-read.new.self.builder.now)
     (g.F.Feed.device c.args.feed.now).to_come c.new-parser.result.position c.source-read.new.self.tokens.position =
     record
@@ -80,10 +80,10 @@ returns-in_err-checked-clause-taken g c =
     let nothing : scope_at c.new-parser.result.position ≡ no_names =
     rw (c.new-parser.ensures.position, c.requires.new.1) refl in
     let tells : tokens_at c.new-parser.result.position ≡ option_map tokens (g.F.Feed.device c.args.feed.now).to_come =
-    rw c.new-parser.ensures.position c.in_ok-cursor.ensures.opens.tokens in
+    rw c.new-parser.ensures.position c.in_ok-open_cursor.ensures.opens.tokens in
     let opened : c.new-parser.result.position.to_come ≡
     option_map (drop (taken_at c.new-parser.result.position)) (g.F.Feed.device c.args.feed.now).to_come =
-    rw c.new-parser.ensures.position c.in_ok-cursor.ensures.opens.took in
+    rw c.new-parser.ensures.position c.in_ok-open_cursor.ensures.opens.took in
     let whole : IsWhole (g.B.Build.stands c.args.build.now) (g.B.Build.stands c.source-read.new.self.builder.now)
     (g.F.Feed.device c.args.feed.now).to_come c.new-parser.result.position c.source-read.new.self.tokens.position =
     record
@@ -100,7 +100,7 @@ returns-clause-file g c =
     let nothing : scope_at c.new-parser.result.position ≡ no_names =
     rw (c.new-parser.ensures.position, c.requires.new.1) refl in
     let tells : tokens_at c.new-parser.result.position ≡ option_map tokens (g.F.Feed.device c.args.feed.now).to_come =
-    rw c.new-parser.ensures.position c.in_ok-cursor.ensures.opens.tokens in
+    rw c.new-parser.ensures.position c.in_ok-open_cursor.ensures.opens.tokens in
     let whole : IsWhole (g.B.Build.stands c.args.build.now) (g.B.Build.stands c.source-read.new.self.builder.now)
     (g.F.Feed.device c.args.feed.now).to_come c.new-parser.result.position c.source-read.new.self.tokens.position =
     record
@@ -115,10 +115,10 @@ returns-clause-taken g c =
     let nothing : scope_at c.new-parser.result.position ≡ no_names =
     rw (c.new-parser.ensures.position, c.requires.new.1) refl in
     let tells : tokens_at c.new-parser.result.position ≡ option_map tokens (g.F.Feed.device c.args.feed.now).to_come =
-    rw c.new-parser.ensures.position c.in_ok-cursor.ensures.opens.tokens in
+    rw c.new-parser.ensures.position c.in_ok-open_cursor.ensures.opens.tokens in
     let opened : c.new-parser.result.position.to_come ≡
     option_map (drop (taken_at c.new-parser.result.position)) (g.F.Feed.device c.args.feed.now).to_come =
-    rw c.new-parser.ensures.position c.in_ok-cursor.ensures.opens.took in
+    rw c.new-parser.ensures.position c.in_ok-open_cursor.ensures.opens.took in
     let whole : IsWhole (g.B.Build.stands c.args.build.now) (g.B.Build.stands c.source-read.new.self.builder.now)
     (g.F.Feed.device c.args.feed.now).to_come c.new-parser.result.position c.source-read.new.self.tokens.position =
     record
