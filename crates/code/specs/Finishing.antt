@@ -1,5 +1,5 @@
 -- What a maker's owner shows at the end, and what a program keeps.
-use Rattle.std.specs.Prelude.{ℕ, ◌≡◌, ◌≤◌, Some, length, map}
+use Rattle.std.specs.Prelude.{ℕ, ◌≡◌, ◌≤◌, Some, length, map, take}
 use Rattle.grammar.specs.Actions.{actions}
 use Rattle.grammar.specs.Compiled.{main_name}
 use Rattle.grammar.specs.Pools.{Pools, FunctionNames, pools_of}
@@ -7,7 +7,7 @@ use Rattle.grammar.specs.Profile.{Profile}
 use Rattle.grammar.specs.Resolved.{IsResolved}
 use Rattle.grammar.specs.Scope.{number_of_name}
 use Rattle.grammar.specs.Tree.{File}
-use Rattle.code.specs.Generation.{Program}
+use Rattle.code.specs.Generation.{Program, code_of}
 use Rattle.code.specs.Codes.{IsProgramOf}
 use Rattle.code.specs.Making.{Maker}
 use Rattle.code.specs.Reported.{MakerRepresents}
@@ -28,6 +28,11 @@ pub record RepresentsSomeFile (maker : Maker) (names : Pools) : Type 0 where
   pub profile : Profile
   pub file : File
   pub reported : MakerRepresentsFile maker profile names file
+
+-- the maker's code is that of the file's program, and so are its addresses, of as many functions as have names
+pub record HasCodeOf (maker : Maker) (p : Profile) (names : Pools) (file : File) : Type 0 where
+  pub instructions : maker.code ≡ (code_of p file).instructions
+  pub addresses : take (length names.functions) maker.addresses ≡ (code_of p file).addresses
 
 -- The code is that of a resolved file by its profile, within the profile's limit, and the function of main's number is
 -- named main.

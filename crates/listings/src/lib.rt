@@ -6,5 +6,5 @@ mod listing;
 mod worked_listings;
 
 pub use instructions::instruction_text;
-pub use listing::put_listing;
+pub use listing::{put_code, put_listing};
 pub use worked_listings::known_listings;

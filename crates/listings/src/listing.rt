@@ -3,7 +3,7 @@
 ghost use Rattle.std.specs.Prelude.{◌≡◌, ◌+◌, ◌-◌, ◌^◌, ◌<◌, ◌≤◌, [], ◌++◌, get_or, length};
 ghost use Rattle.sinks.specs.Pens.{Adds, MayFail};
 ghost use Rattle.sinks.specs.Puts.{CanFail, Puts};
-ghost use Rattle.listings.specs.Listing.{code_lines, externals_lines, function_lines, instr_line, listing_of, name_line, numbered};
+ghost use Rattle.listings.specs.Listing.{code_lines, code_listing, externals_lines, function_lines, instr_line, listing_of, name_line, numbered};
 
 use crate::instructions::add_instruction;
 use code::{Instr, MOST_INSTRUCTIONS, Program};
@@ -21,13 +21,35 @@ pub fn put_listing<S: Sink>(
     ensures { Puts result (S.written sink.old) (S.written sink.new)
         (listing_of name.now names.now program.now) }
 {
+    put_code(
+        sink,
+        name,
+        names,
+        program.addresses(),
+        program.instructions(),
+    )
+}
+
+/// Puts the listing of a program whose functions have these addresses, and which consists of these instructions.
+pub fn put_code<S: Sink>(
+    sink: &mut S,
+    name: &[u8],
+    names: &Pools,
+    addresses: &[u16],
+    instrs: &[Instr],
+) -> Result<(), DeviceFault>
+    requires few { length instrs.now ≤ MOST_INSTRUCTIONS }
+    requires countable { CanFail (S.written sink.old) }
+    ensures { Puts result (S.written sink.old) (S.written sink.new)
+        (code_listing name.now names.now addresses.now instrs.now) }
+{
     let mut pen = Pen::new();
     pen.add(sink, b"File ");
     pen.add(sink, name);
     pen.add_byte(sink, b'\n');
     add_externals(&mut pen, sink, names.externals());
-    add_functions(&mut pen, sink, names.functions(), program.addresses());
-    add_code(&mut pen, sink, program.instructions());
+    add_functions(&mut pen, sink, names.functions(), addresses);
+    add_code(&mut pen, sink, instrs);
     pen.finish(sink)
 }
 

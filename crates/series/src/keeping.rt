@@ -17,7 +17,7 @@ ghost use Rattle.sinks.specs.Puts.{CanFail, CountsSink};
 use battles::Programs;
 use code::{Maker, Program};
 use grammar::Pools;
-use listings::put_listing;
+use listings::{put_code, put_listing};
 use settings::Mode;
 use sinks::Sink;
 use tokens::DeviceFault;
@@ -95,20 +95,9 @@ impl TakesPrograms for Keeper {
     }
 }
 
-/// Lists each program and lets it go, so that only one program takes room at a time.
+/// Lists each program and lets it go. It has no place for one: code is listed where it was made.
 #[derive(Drop)]
-pub(crate) struct Lister {
-    program: Program,
-}
-
-impl Lister {
-    /// Makes a lister, with room for the program that it lists.
-    pub(crate) fn new() -> Lister {
-        Lister {
-            program: Program::default(),
-        }
-    }
-}
+pub(crate) struct Lister;
 
 impl TakesPrograms for Lister {
     ghost kept = { λ lister. None };
@@ -122,7 +111,13 @@ impl TakesPrograms for Lister {
         maker: &mut Maker,
         out: &mut S,
     ) -> Result<(), DeviceFault> {
-        maker.finish_into(names, &mut self.program);
-        put_listing(out, name, names, &self.program)
+        maker.end_code(names);
+        put_code(
+            out,
+            name,
+            names,
+            maker.addresses(names),
+            maker.instructions(),
+        )
     }
 }

@@ -58,9 +58,6 @@ pub fn run<F: Feed, O: Sink, E: Sink>(
 }
 
 /// Compiles the files and lists them.
-///
-/// A program is large: it has a frame of its own, which a run that plays matches doesn't need.
-#[inline(never)]
 fn list_files<F: Feed, O: Sink, E: Sink>(
     settings: &Settings,
     feeds: &mut [F],
@@ -79,7 +76,7 @@ fn list_files<F: Feed, O: Sink, E: Sink>(
         (failures F.device feeds.old (O.written out.old) (E.written err.old))
         (failures F.device feeds.new (O.written out.new) (E.written err.new)) }
 {
-    compile_all(&mut Lister::new(), settings, feeds, out, err)
+    compile_all(&mut Lister, settings, feeds, out, err)
 }
 
 /// Compiles the files, and plays the matches of their programs if no file has a fault.
