@@ -5,11 +5,12 @@ from __future__ import annotations
 import os
 import shutil
 import subprocess
+import sys
 import tempfile
 from pathlib import Path
 
-import ledgers  # noqa: F401  (it says where the catalog is)
-from catalog import crates
+sys.path.insert(0, str(Path(__file__).resolve().parent.parent / "scripts"))
+from catalog import crates  # noqa: E402
 
 STATIC = ("--crate-type", "staticlib")
 
@@ -67,6 +68,9 @@ class Prover:
         return self._top / "crates" / name / "out" / "rlib"
 
 
-def linked(one: str, other: str) -> object:
+def linked(one: str, other: str) -> None:
     """Copies a file of what was proved; the prover replaces such files and changes none, so a link does."""
-    return os.link(one, other) if one.endswith(".oantt") else shutil.copy2(one, other)
+    if one.endswith(".oantt"):
+        os.link(one, other)
+    else:
+        shutil.copy2(one, other)
