@@ -31,12 +31,8 @@ function_lines addresses number f =
 unfoldable pub code_lines : List Instr → List ℕ
 code_lines instrs = codes "Code " ++ decimal (length instrs) ++ codes "\n" ++ numbered instr_line 0 instrs
 
--- the listing of functions at these addresses and of their instructions, the name of the file in front
-abbrev pub code_listing : List ℕ → Pools → List ℕ → List Instr → List ℕ
-code_listing name names addresses instrs =
-    codes "File " ++ name ++ codes "\n" ++ externals_lines names.externals
-    ++ numbered (function_lines addresses) 0 names.functions ++ code_lines instrs
-
 -- the listing of a program and its names, the name of the file in front
 abbrev pub listing_of : List ℕ → Pools → Program → List ℕ
-listing_of name names code = code_listing name names code.addresses code.instructions
+listing_of name names code =
+    codes "File " ++ name ++ codes "\n" ++ externals_lines names.externals
+    ++ numbered (function_lines code.addresses) 0 names.functions ++ code_lines code.instructions

@@ -1,9 +1,10 @@
 //! The listing of a program, line by line.
 
 ghost use Rattle.std.specs.Prelude.{◌≡◌, ◌+◌, ◌-◌, ◌^◌, ◌<◌, ◌≤◌, [], ◌++◌, get_or, length};
+ghost use Rattle.code.specs.Generation.{Program};
 ghost use Rattle.sinks.specs.Pens.{Adds, MayFail};
 ghost use Rattle.sinks.specs.Puts.{CanFail, Puts};
-ghost use Rattle.listings.specs.Listing.{code_lines, code_listing, externals_lines, function_lines, instr_line, listing_of, name_line, numbered};
+ghost use Rattle.listings.specs.Listing.{code_lines, externals_lines, function_lines, instr_line, listing_of, name_line, numbered};
 
 use crate::instructions::add_instruction;
 use code::{Instr, MOST_INSTRUCTIONS, Program};
@@ -30,7 +31,7 @@ pub fn put_listing<S: Sink>(
     )
 }
 
-/// Puts the listing of a program whose functions have these addresses, and which consists of these instructions.
+/// Puts the listing of the program whose functions have these addresses, and which consists of these instructions.
 pub fn put_code<S: Sink>(
     sink: &mut S,
     name: &[u8],
@@ -40,8 +41,8 @@ pub fn put_code<S: Sink>(
 ) -> Result<(), DeviceFault>
     requires few { length instrs.now ≤ MOST_INSTRUCTIONS }
     requires countable { CanFail (S.written sink.old) }
-    ensures { Puts result (S.written sink.old) (S.written sink.new)
-        (code_listing name.now names.now addresses.now instrs.now) }
+    ensures { (program : Program) → program.addresses ≡ addresses.now → program.instructions ≡ instrs.now
+        → Puts result (S.written sink.old) (S.written sink.new) (listing_of name.now names.now program) }
 {
     let mut pen = Pen::new();
     pen.add(sink, b"File ");

@@ -1,4 +1,5 @@
+use Rattle.std.proofs.Common.{sym}
 use Rattle.listings.proofs.listing.put_listing.Goals as goal
 
 pub returns : goal.returns
-returns g c = rw (c.instructions.ensures.code, c.addresses.ensures.addresses) at c.put_code.ensures
+returns g c = c.put_code.ensures c.args.program.now (sym c.addresses.ensures.addresses) (sym c.instructions.ensures.code)
