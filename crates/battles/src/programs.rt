@@ -59,8 +59,7 @@ impl Programs {
         ensures { self.new ≡ self.old ++ program ∷ [] }
     {
         let file = self.programs.len();
-        translate(&program, &mut self.operations[file]);
-        self.programs.push(Some(program));
+        translate_in_place(&mut self.programs, &mut self.operations[file], program);
     }
 
     /// Returns the program of the file with this index.
@@ -100,5 +99,23 @@ impl Programs {
     {
         let file = if self.len() == 1 { 0 } else { robot };
         Executable::new(self.program(file), self.translation(file))
+    }
+}
+
+/// Adds a program to others, and translates it there: it is large, so it is moved once.
+fn translate_in_place(
+    programs: &mut ArrayVec<Option<Program>, MOST_FILES>,
+    operations: &mut Operations,
+    program: Program,
+)
+    requires room { length programs.old.items < MOST_FILES }
+    ensures kept { programs.new.items ≡ programs.old.items ++ Some program ∷ [] }
+    ensures translated { IsTranslated (executable_of program (translated operations.new)) }
+{
+    let file = programs.len();
+    programs.push(Some(program));
+    match &programs.as_slice()[file] {
+        Some(kept) => translate(kept, operations),
+        None => unreachable!(),
     }
 }
