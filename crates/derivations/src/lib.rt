@@ -10,6 +10,7 @@ mod locations;
 mod scheme;
 mod steps;
 mod symbols;
+mod walks;
 
 pub use addresses::{MOST_PLACES, SourcePosition, SourcePositions, lines};
 pub use candidates::{Fitting, MOST_FITTING, fitting, spelled};
@@ -18,3 +19,4 @@ pub use emissions::{Emission, MOST_ACTIONS, Origin};
 pub use locations::{Located, MOST_TOKENS, Tokens, locate, locate_in};
 pub use steps::{Derivation, Pending, StepEnd};
 pub use symbols::{Item, MOST_ITEMS, Production, Role, SemanticAction, Symbol};
+pub use walks::{Event, Meaning, Walk};
