@@ -1,5 +1,6 @@
 //! The derivation of a source as a value, step by step, for tools that explain sources: the grammar's table as code,
-//! the tokens with their columns, what each step emits, and the position that each instruction comes from.
+//! the tokens with their columns, what each step emits, the walk that says what each step comes upon, and the position
+//! that each instruction comes from.
 #![tactic(auto)]
 
 mod addresses;

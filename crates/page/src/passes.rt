@@ -1,4 +1,4 @@
-//! What the turns of a source's loops take, from its tokens, in memory of fixed size.
+//! What the turns of a source's loops take, from a walk along its derivation, in memory of fixed size.
 //!
 //! No contract says so, but by the same rules as `cycles::source_spans`, which wants trees, and so memory.
 
