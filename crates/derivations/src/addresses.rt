@@ -95,11 +95,9 @@ impl SourcePositions {
     fn keep(&mut self, automaton: &Automaton, profile: Profile, next: &Located) -> bool {
         let emission = automaton.emission(&next.token);
         let place = automaton.origin(emission.origin(), next);
-        for action in emission.actions() {
-            for _ in 0..action.instructions(profile) {
-                if self.places.try_push(place).is_err() {
-                    return false;
-                }
+        for _ in 0..emission.instructions(profile) {
+            if self.places.try_push(place).is_err() {
+                return false;
             }
         }
         true

@@ -1,7 +1,7 @@
 //! What a step of a derivation emits: actions, and the token that they come from.
 
 use arrayvec::ArrayVec;
-use grammar::Action;
+use grammar::{Action, Profile};
 
 /// The most actions of a step: those of `v++`.
 pub const MOST_ACTIONS: usize = 4;
@@ -41,6 +41,15 @@ impl Emission {
     /// Returns the actions, the first to be reported first.
     pub fn actions(&self) -> &[Action] {
         self.actions.as_slice()
+    }
+
+    /// Returns how many instructions the actions make in a profile.
+    pub fn instructions(&self, profile: Profile) -> usize {
+        let mut made = 0usize;
+        for action in self.actions() {
+            made = made.saturating_add(usize::from(action.instructions(profile)));
+        }
+        made
     }
 
     /// Returns the token that they come from: an operator's own, a call's name, the word of a test or of a return, a

@@ -1,5 +1,6 @@
 //! The derivation of a source as a value, step by step, for tools that explain sources: the grammar's table as code,
-//! the tokens with their columns, what each step emits, and the position that each instruction comes from.
+//! the tokens with their columns, what each step emits, the walk that says what each step comes upon, and the position
+//! that each instruction comes from.
 #![tactic(auto)]
 
 mod addresses;
@@ -10,6 +11,7 @@ mod locations;
 mod scheme;
 mod steps;
 mod symbols;
+mod walks;
 
 pub use addresses::{MOST_PLACES, SourcePosition, SourcePositions, lines};
 pub use candidates::{Fitting, MOST_FITTING, fitting, spelled};
@@ -18,3 +20,4 @@ pub use emissions::{Emission, MOST_ACTIONS, Origin};
 pub use locations::{Located, MOST_TOKENS, Tokens, locate, locate_in};
 pub use steps::{Derivation, Pending, StepEnd};
 pub use symbols::{Item, MOST_ITEMS, Production, Role, SemanticAction, Symbol};
+pub use walks::{Event, Meaning, Walk};

@@ -204,7 +204,7 @@ impl<'a> Derivation<'a> {
 
     /// Derives tokens until the one of an index is next for the first time, or one doesn't fit, or the derivation is
     /// done.
-    pub(crate) fn reached(tokens: &'a [Located], index: usize) -> Derivation<'a> {
+    pub fn reached(tokens: &'a [Located], index: usize) -> Derivation<'a> {
         let mut derivation = Derivation::start(tokens);
         derivation.run_to(index);
         derivation

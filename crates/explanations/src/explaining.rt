@@ -10,9 +10,8 @@ use crate::scenes::Scene;
 use crate::searches::Search;
 use crate::sizes::add_sizes;
 use crate::told::add_token;
-use crate::walks::Walk;
 use crate::wanted::add_wanted;
-use derivations::{Located, fitting};
+use derivations::{Located, Walk, fitting};
 use grammar::{Code, Diagnostic, MOST_NAMES, MOST_NESTED, Profile};
 use tokens::{MOST_CONSTANT_VALUE, MOST_NAME_BYTES, MOST_SOURCE_BYTES};
 

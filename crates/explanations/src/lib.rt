@@ -26,7 +26,6 @@ mod statements;
 mod told;
 mod values;
 mod variables;
-mod walks;
 mod wanted;
 mod warnings;
 

@@ -3,9 +3,8 @@
 
 use crate::constants::operated;
 use crate::misnamed::name_at;
-use crate::walks::{Event, Meaning, Walk};
 use arrayvec::ArrayVec;
-use derivations::{Located, SemanticAction};
+use derivations::{Event, Located, Meaning, SemanticAction, Walk};
 use grammar::{Callee, MOST_NAMES, MOST_NESTED, Op, Profile, StoreOp, Var};
 
 /// The most nodes of a source that compiles: each makes at least one instruction.

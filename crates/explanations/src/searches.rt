@@ -1,8 +1,7 @@
 //! The search for the token of a source's fault.
 
-use crate::walks::{Event, Meaning, Walk};
 use arrayvec::ArrayVec;
-use derivations::{Derivation, Located};
+use derivations::{Derivation, Event, Located, Meaning, Walk};
 use grammar::{Callee, Code, Diagnostic, MOST_NAMES, Profile};
 
 /// Returns the index of the token of a source's fault, which `compile` found by the same profile; the tokens are the
@@ -38,8 +37,7 @@ impl<'a> Search<'a> {
             match self.walk.step() {
                 Event::Named { token, meaning } => self.note(token, meaning),
                 Event::Refused { token, code } if code == wanted.code => return token,
-                Event::Refused { .. } if self.is_stuck() => break,
-                Event::Done => break,
+                _ if self.walk.is_over() => break,
                 _ => {}
             }
         }
@@ -59,11 +57,6 @@ impl<'a> Search<'a> {
     /// Returns the indices of the names of functions whose definition has begun, in order.
     pub fn defined(&self) -> &[usize] {
         self.defined.as_slice()
-    }
-
-    /// Reports whether the walk stays where it is: at a token that doesn't fit.
-    fn is_stuck(&self) -> bool {
-        self.walk.is_stuck()
     }
 
     /// Notes a function that is mentioned or defined.

@@ -4,8 +4,8 @@ use crate::explaining::Found;
 use crate::misnamed::name_at;
 use crate::notes::Note;
 use crate::told::text_of;
-use crate::walks::{Event, Meaning, Walk};
 use arrayvec::ArrayVec;
+use derivations::{Event, Meaning, Walk};
 use grammar::MOST_NAMES;
 
 /// The most functions that are named.
@@ -36,8 +36,7 @@ pub fn add_sizes(note: &mut Note, found: &Found<'_>) {
                     instructions: 0,
                 });
             }
-            Event::Done => break,
-            Event::Refused { .. } if walk.is_stuck() => break,
+            _ if walk.is_over() => break,
             _ => {}
         }
         if let Some(size) = sizes.as_mut_slice().last_mut() {

@@ -65,7 +65,7 @@ impl Facts {
         let numbers = chain(alloc, &mut MemoryFeed::new(source, WINDOW_BYTES), profile)?;
         let mut maker = TreeMaker::new(alloc, profile);
         let names = parse(&mut MemoryFeed::new(source, WINDOW_BYTES), &mut maker)?;
-        let places = kept(Places::of(alloc, source))?;
+        let places = kept(Places::of(alloc, source, profile))?;
         let finder = Finder {
             alloc,
             source,

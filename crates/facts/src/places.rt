@@ -1,10 +1,10 @@
 //! Where the functions and loops of a source begin.
 
 use crate::facts::KINDS;
-use derivations::{Located, locate};
-use grammar::Intrinsic;
+use derivations::{Event, Located, Meaning, SemanticAction, Walk, locate};
+use grammar::{Intrinsic, Profile};
 use std::alloc::{AllocError, Global};
-use tokens::{Keyword, Punctuator, Token};
+use tokens::{Keyword, Token};
 
 /// Where functions and loops begin, each in the order of the source: the line and the column of the name or the word.
 /// And which intrinsic functions are named.
@@ -16,45 +16,52 @@ pub struct Places {
 }
 
 impl Places {
-    /// Finds those of a source that compiles. The only error is that memory is refused.
-    pub fn of(alloc: Global, source: &[u8]) -> Result<Places, AllocError> {
+    /// Finds those of a source that compiles by this profile. The only error is that memory is refused.
+    pub fn of(alloc: Global, source: &[u8], profile: Profile) -> Result<Places, AllocError> {
         let mut places = Places {
             functions: Vec::new(alloc),
             loops: Vec::new(alloc),
             named: [false; KINDS],
         };
         let tokens = locate(alloc, source)?;
-        let mut depth = 0u32;
-        let mut before: Option<Located> = None;
-        for token in tokens.as_slice() {
-            places.pass(before, token, depth)?;
-            depth = depth_behind(depth, &token.token);
-            before = Some(*token);
+        let tokens = tokens.as_slice();
+        let mut walk = Walk::start(tokens, profile);
+        for _ in 0..u64::MAX {
+            match walk.step() {
+                Event::Named { token, meaning } => places.name(tokens.get(token), meaning)?,
+                Event::Made {
+                    action: SemanticAction::Empty,
+                    chosen_at,
+                    ..
+                } => places.begin(tokens.get(chosen_at))?,
+                _ if walk.is_over() => break,
+                _ => {}
+            }
         }
         Ok(places)
     }
 
-    /// Passes a token so deep in braces: a name before a bracket outside of all braces is that of a function.
-    fn pass(
-        &mut self,
-        before: Option<Located>,
-        token: &Located,
-        depth: u32,
-    ) -> Result<(), AllocError> {
-        match token.token {
-            Token::Keyword(Keyword::While) => self.loops.push((token.line, token.column))?,
-            Token::Punctuator(Punctuator::OpenRound) if depth == 0 => {
-                if let Some(name) = before {
-                    self.functions.push((name.line, name.column))?;
-                }
+    /// Notes a name with its meaning.
+    fn name(&mut self, located: Option<&Located>, meaning: Meaning) -> Result<(), AllocError> {
+        if let Some(located) = located
+            && let Token::Name(name) = located.token
+        {
+            if matches!(meaning, Meaning::Begins(_)) {
+                self.functions.push((located.line, located.column))?;
             }
-            Token::Name(name) => {
-                for (intrinsic, is_named) in Intrinsic::ALL.iter().zip(&mut self.named) {
-                    *is_named |= name.has_bytes(intrinsic.name().as_bytes());
-                }
+            for (intrinsic, is_named) in Intrinsic::ALL.iter().zip(&mut self.named) {
+                *is_named |= name.has_bytes(intrinsic.name().as_bytes());
             }
-            // no other token begins a function or a loop
-            _ => {}
+        }
+        Ok(())
+    }
+
+    /// Notes the word that a body begins by, if it is a loop's.
+    fn begin(&mut self, word: Option<&Located>) -> Result<(), AllocError> {
+        if let Some(located) = word
+            && located.token == Token::Keyword(Keyword::While)
+        {
+            self.loops.push((located.line, located.column))?;
         }
         Ok(())
     }
@@ -72,15 +79,5 @@ impl Places {
     /// Returns the line and the column of a loop, by how many begin before it; 0 if there is none.
     pub fn of_loop(&self, index: usize) -> (u32, u32) {
         self.loops.get(index).copied().unwrap_or((0, 0))
-    }
-}
-
-/// Returns how many braces are open after a token.
-fn depth_behind(depth: u32, token: &Token) -> u32 {
-    match token {
-        Token::Punctuator(Punctuator::OpenCurly) => depth.saturating_add(1),
-        Token::Punctuator(Punctuator::CloseCurly) => depth.saturating_sub(1),
-        // no other token opens or closes a brace
-        _ => depth,
     }
 }

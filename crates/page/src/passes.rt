@@ -1,12 +1,12 @@
-//! What the turns of a source's loops take, from its tokens, in memory of fixed size.
+//! What the turns of a source's loops take, from a walk along its derivation, in memory of fixed size.
 //!
 //! No contract says so, but by the same rules as `cycles::source_spans`, which wants trees, and so memory.
 
 use arrayvec::ArrayVec;
 use cycles::{Ends, Span};
-use derivations::{Derivation, Item, Located, Pending, Role, SemanticAction, StepEnd};
-use grammar::{Callee, MOST_NAMES, Op, Profile, Scope};
-use tokens::{Keyword, Name, Token};
+use derivations::{Event, Located, Meaning, SemanticAction, Walk};
+use grammar::{Callee, MOST_NAMES, Op, Profile};
+use tokens::{Keyword, Token};
 
 /// The most loops of a source that compiles: each has at least four instructions.
 const MOST_LOOPS: usize = 1000;
@@ -73,7 +73,6 @@ struct Pass<'a> {
     functions: usize,
     /// The number of the function that was begun last.
     number: usize,
-    scope: Scope,
     loops: Loops,
     open: ArrayVec<Open, MOST_OPEN>,
 }
@@ -88,46 +87,35 @@ impl<'a> Pass<'a> {
             found: known,
             functions: 0,
             number: 0,
-            scope: Scope::new(),
             loops: ArrayVec::new(),
             open: ArrayVec::new(),
         };
-        let mut derivation = Derivation::start(tokens);
+        let mut walk = Walk::start(tokens, profile);
         for _ in 0..u64::MAX {
-            if let Some(pending) = derivation.front() {
-                pass.take(&pending, &derivation.next());
-            }
-            if derivation.step() != StepEnd::Stepped {
-                break;
+            match walk.step() {
+                Event::Named { meaning, .. } => pass.name(meaning),
+                Event::Number { .. } => pass.value(1),
+                Event::Made {
+                    action,
+                    chosen_at,
+                    ..
+                } => pass.make(action, chosen_at),
+                Event::Passed => {}
+                Event::Refused { .. } | Event::Done => break,
             }
         }
         pass
     }
 
-    /// Takes what the next step of the derivation comes upon.
-    fn take(&mut self, pending: &Pending, next: &Token) {
-        match (pending.item, *next) {
-            (Item::Naming(Role::Called), Token::Name(name)) => self.call(&name),
-            (Item::Naming(Role::Defined), Token::Name(name)) => self.begin_definition(&name),
-            (Item::Number, _) => self.value(1),
-            (Item::Make(action), _) => self.make(action, pending.chosen_at),
-            // nothing else takes cycles
+    /// Takes a name: a call or a function that it begins. No other takes cycles itself.
+    fn name(&mut self, meaning: Meaning) {
+        match meaning {
+            Meaning::Calls(callee) => self.open(Open::Call(callee, Span::exactly(0))),
+            Meaning::Begins(number) => {
+                self.number = usize::from(number);
+                self.functions = self.functions.saturating_add(1);
+            }
             _ => {}
-        }
-    }
-
-    /// Opens a call.
-    fn call(&mut self, name: &Name) {
-        if let Ok(callee) = self.scope.resolve_call(name, 1) {
-            self.open(Open::Call(callee, Span::exactly(0)));
-        }
-    }
-
-    /// Begins a function.
-    fn begin_definition(&mut self, name: &Name) {
-        if let Ok(number) = self.scope.begin_definition(name, 1) {
-            self.number = usize::from(number);
-            self.functions = self.functions.saturating_add(1);
         }
     }
 
@@ -289,7 +277,6 @@ impl<'a> Pass<'a> {
 
     /// Ends a function: after its statements two cycles return 0.
     fn define(&mut self) {
-        self.scope.end_definition();
         let (body, _) = self.take_body();
         let through = body.followed(two_cycles()).through;
         let ends = match (body.returns, through) {

@@ -2,7 +2,7 @@
 
 use crate::code_rows::listing;
 use crate::origins::Origins;
-use derivations::{Derivation, Item, Located, StepEnd, Symbol, locate};
+use derivations::{Derivation, Item, Located, Symbol, Walk, locate};
 use grammar::Profile;
 use std::alloc::{AllocError, Global};
 use tokens::{MemoryFeed, Punctuator, Token, WINDOW_BYTES};
@@ -49,22 +49,21 @@ pub fn listing_to_limit(
 /// Returns the statements up to which a source has no more code than a profile takes, in order.
 fn cuts_of(alloc: Global, tokens: &[Located], profile: Profile) -> Result<Vec<Cut>, AllocError> {
     let mut cuts = Vec::new(alloc);
-    let mut derivation = Derivation::start(tokens);
-    let mut instructions = 0u16;
+    let mut walk = Walk::start(tokens, profile);
     for _ in 0..u64::MAX {
+        let derivation = walk.derivation();
         if let Some(pending) = derivation.front()
             && pending.item == Item::Part(Symbol::Statement)
         {
             cuts.push(Cut {
                 token: derivation.place(),
-                blocks: blocks_in(&derivation),
-                instructions: usize::from(instructions),
+                blocks: blocks_in(derivation),
+                // without the NOP
+                instructions: walk.instructions().saturating_sub(1),
             })?;
         }
-        for action in derivation.emission().actions() {
-            instructions = instructions.saturating_add(action.instructions(profile));
-        }
-        if instructions >= profile.instructions() || derivation.step() != StepEnd::Stepped {
+        walk.step();
+        if walk.is_over() || walk.instructions() > usize::from(profile.instructions()) {
             break;
         }
     }

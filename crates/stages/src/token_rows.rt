@@ -1,6 +1,6 @@
 //! The tokens of a source as rows.
 
-use derivations::{Derivation, Located, StepEnd, locate};
+use derivations::{Derivation, Located, locate};
 use grammar::{Code, Diagnostic};
 use std::alloc::{AllocError, Global};
 use std::str;
@@ -17,7 +17,7 @@ pub fn token_rows(
 ) -> Result<String, AllocError> {
     let mut text = Draft::new(alloc);
     let tokens = locate(alloc, source)?;
-    let last = last_fitting(tokens.as_slice());
+    let last = first_misfit(tokens.as_slice());
     for (index, located) in tokens.iter().enumerate() {
         add_row(&mut text, source, located);
         if index == last {
@@ -32,14 +32,8 @@ pub fn token_rows(
 }
 
 /// Returns the index of the first token that doesn't fit, or one past the last token.
-fn last_fitting(tokens: &[Located]) -> usize {
-    let mut derivation = Derivation::start(tokens);
-    for _ in 0..u64::MAX {
-        if derivation.step() != StepEnd::Stepped {
-            break;
-        }
-    }
-    derivation.place()
+fn first_misfit(tokens: &[Located]) -> usize {
+    Derivation::reached(tokens, tokens.len()).place()
 }
 
 /// Adds the row of a token.

@@ -1,6 +1,8 @@
-//! A walk along the derivation of a source, with what each name means at its token.
+//! The walk along the derivation of a source: what each step comes upon, with what each name means at its token.
 
-use derivations::{Derivation, Item, Located, Role, SemanticAction, StepEnd};
+use crate::locations::Located;
+use crate::steps::{Derivation, StepEnd};
+use crate::symbols::{Item, Role, SemanticAction};
 use grammar::{Callee, Code, MOST_NESTED, Profile, Scope, Var, lexical_error_code};
 use tokens::{Keyword, Name, Token};
 
@@ -68,7 +70,7 @@ pub struct Walk<'a> {
     scope: Scope,
     profile: Profile,
     instructions: usize,
-    is_stuck: bool,
+    is_over: bool,
 }
 
 impl<'a> Walk<'a> {
@@ -80,7 +82,7 @@ impl<'a> Walk<'a> {
             scope: Scope::new(),
             profile,
             instructions: 1,
-            is_stuck: false,
+            is_over: false,
         }
     }
 
@@ -99,33 +101,28 @@ impl<'a> Walk<'a> {
         self.instructions
     }
 
-    /// Reports whether the next token doesn't fit: then the walk stays where it is.
-    pub fn is_stuck(&self) -> bool {
-        self.is_stuck
+    /// Reports whether it goes no further: it is at the end, or at a token that doesn't fit.
+    pub fn is_over(&self) -> bool {
+        self.is_over
     }
 
-    /// Does a step, and returns what it came upon. After a token that doesn't fit it stays there.
+    /// Does a step, and returns what it came upon. At a token that doesn't fit, and at the end, it stays.
     pub fn step(&mut self) -> Event {
         let event = self.coming();
         self.count();
         let were_too_many = self.has_too_many_levels();
         let outcome = self.derivation.step();
+        self.is_over = outcome != StepEnd::Stepped;
         let token = self.derivation.place();
         match outcome {
-            StepEnd::Full => {
-                self.is_stuck = true;
-                Event::Refused {
-                    token,
-                    code: Code::NestedTooDeeply,
-                }
-            }
-            StepEnd::Misfit => {
-                self.is_stuck = true;
-                Event::Refused {
-                    token,
-                    code: misfit(&self.derivation.next()),
-                }
-            }
+            StepEnd::Full => Event::Refused {
+                token,
+                code: Code::NestedTooDeeply,
+            },
+            StepEnd::Misfit => Event::Refused {
+                token,
+                code: misfit(&self.derivation.next()),
+            },
             StepEnd::Done => Event::Done,
             StepEnd::Stepped if !were_too_many && self.has_too_many_levels() => {
                 Event::Refused {
@@ -216,11 +213,8 @@ impl<'a> Walk<'a> {
 
     /// Counts the instructions that the next step makes.
     fn count(&mut self) {
-        let emission = self.derivation.emission();
-        for action in emission.actions() {
-            let instructions = action.instructions(self.profile);
-            self.instructions = self.instructions.saturating_add(usize::from(instructions));
-        }
+        let made = self.derivation.emission().instructions(self.profile);
+        self.instructions = self.instructions.saturating_add(made);
     }
 }
 
