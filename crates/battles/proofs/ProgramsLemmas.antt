@@ -91,14 +91,3 @@ looked_up exes codes n exe same here =
     take_more codes n exe.program (slice_get_within codes n exe.program here)
     ∙ ap (λ y. take n codes ++ y ∷ [])
     (get_or_from_slice_get codes n exe.program exe.program here))
-
--- the program that was added last is the one behind those before
-pub kept_last : {A : Type 0} (kept shelf : List (Option A)) (x : A) (found : Option A) → shelf ≡ kept ++ Some x ∷ [] →
-    found ≡ get_or shelf (length kept) found → found ≡ Some x
-kept_last [] shelf x found same here = here ∙ ap (λ l. get_or l 0 found) same
-kept_last (k ∷ kept) shelf x found same here =
-    here ∙ ap (λ l. get_or l (suc (length kept)) found) same ∙ last kept
-  where
-    last : (kept : List (Option A)) → get_or (kept ++ Some x ∷ []) (length kept) found ≡ Some x
-    last [] = refl
-    last (k ∷ kept) = last kept

@@ -59,7 +59,8 @@ impl Programs {
         ensures { self.new ≡ self.old ++ program ∷ [] }
     {
         let file = self.programs.len();
-        translate_in_place(&mut self.programs, &mut self.operations[file], program);
+        let operations = &mut self.operations[file];
+        translate_in_place(&mut self.programs, operations, program);
     }
 
     /// Returns the program of the file with this index.
