@@ -19,7 +19,8 @@ pub returns-in_err-open_cursor-clause-taken : goal.returns-in_err-open_cursor-cl
 returns-in_err-open_cursor-clause-taken g c =
     let p = err_from_is_err_and c.from_residual.result c.from_residual.ensures.1 in
     rw (p.1, p.2)
-    (first_taking (g.B.Build.stands c.args.build.now) _ _ c.in_err-open_cursor.field-0.0 c.in_err-open_cursor.ensures.refused)
+    (first_taking (g.B.Build.stands c.args.build.now) _ _ c.in_err-open_cursor.field-0.0
+    c.in_err-open_cursor.ensures.refused)
 
 pub returns-in_err-read-clause-refused : goal.returns-in_err-read-clause-refused
 returns-in_err-read-clause-refused g c =

@@ -31,11 +31,15 @@ invariant_of-self c =
     translated_more codes (take n ops) c.args.program c.translate_in_place.new.operations c.self.invariant.1
     c.translate_in_place.ensures.translated in
     let count : length c.translate_in_place.new.programs.items ≡ n + 1 =
-    ap (λ (l : List (Option Program)). length l) c.translate_in_place.ensures.kept ∙ length-append kept (Some c.args.program ∷ [])
+    ap (λ (l : List (Option Program)). length l) c.translate_in_place.ensures.kept ∙
+    length-append kept (Some c.args.program ∷ [])
     in
-    let put : take (length c.translate_in_place.new.programs.items) (set ops c.len-file.result c.translate_in_place.new.operations)
+    let put : take (length c.translate_in_place.new.programs.items)
+    (set ops c.len-file.result c.translate_in_place.new.operations)
     ≡ take n ops ++ c.translate_in_place.new.operations ∷ [] =
-    ap (λ (k : ℕ). take (length c.translate_in_place.new.programs.items) (set ops k c.translate_in_place.new.operations)) index
+    ap
+    (λ (k : ℕ). take (length c.translate_in_place.new.programs.items) (set ops k c.translate_in_place.new.operations))
+    index
     ∙ ap (λ (k : ℕ). take k (set ops n c.translate_in_place.new.operations)) count
     ∙ take_more_set ops n c.translate_in_place.new.operations (omega (
       arith,
@@ -44,7 +48,8 @@ invariant_of-self c =
     ))
     in (
       all,
-      subst (λ (l : List Operations). AreTranslated (flat_map option_to_list c.translate_in_place.new.programs.items) l) (sym put)
+      subst (λ (l : List Operations). AreTranslated (flat_map option_to_list c.translate_in_place.new.programs.items) l)
+          (sym put)
           (subst (λ (l : List Program). AreTranslated l (take n ops ++ c.translate_in_place.new.operations ∷ []))
           (sym (ap (flat_map option_to_list) c.translate_in_place.ensures.kept ∙ list_more kept c.args.program)) are),
     )
