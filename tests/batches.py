@@ -27,7 +27,7 @@ class Function:
 
     path: str  # its file
     lines: range  # those of the function, from 1, with its attributes
-    proof: str  # the folder of its proof; functions of a cycle of calls have one
+    proof: str  # the end of its proof's folder: its type or module, and its name; functions of a cycle of calls have one proof
 
 
 @dataclass(frozen=True)
@@ -79,12 +79,10 @@ def function(crate: str, path: str, text: str, at: int, old: str) -> Function | 
 
 def described(path: str, lines: list[str], head: int, end: int) -> Function:
     """The function whose head is in this line, and which ends before that one."""
-    module = path.removeprefix("src/").removesuffix(".rt").removesuffix("/mod")
-    folder = ["proofs", *([] if module in ("lib", "main") else module.split("/"))]
-    is_inside = lines[head].startswith(" ")
+    owner = path.removesuffix(".rt").removesuffix("/mod").rpartition("/")[2]
     above = next((line for line in reversed(lines[:head]) if line.strip() and not line.startswith(" ")), "")
-    if is_inside and (block := IMPL.match(above)):
-        folder.append(f"{block[2]}{block[1] or ''}")
+    if lines[head].startswith(" ") and (block := IMPL.match(above)):
+        owner = f"{block[2]}{block[1] or ''}"
     name = NAME.search(lines[head])
     own = name[1] if name else ""
     first = head
@@ -92,7 +90,7 @@ def described(path: str, lines: list[str], head: int, end: int) -> Function:
         first -= 1
         if cycle := CYCLE.match(lines[first]):
             own = f"+{cycle[1]}"
-    return Function(path, range(first + 1, end + 1), "/".join([*folder, own]))
+    return Function(path, range(first + 1, end + 1), f"{owner}/{own}")
 
 
 def together(edits: list[Edit], are_apart: bool = False) -> list[list[Edit]]:
@@ -128,7 +126,7 @@ def refused(edits: list[Edit], said: str) -> set[str]:
     if not any(line.startswith("logic=not-proved") for line in lines):
         return set()
     goals = {(it[1], int(it[2])) for line in lines if (it := GOAL.match(line))}
-    wrong = {it[1] for line in lines if (it := ERROR.match(line))}
+    wrong = {"/".join(it[1].split("/")[-2:]) for line in lines if (it := ERROR.match(line))}
     wrong = {it for it in wrong if sum(it in edit.proofs() for edit in edits) == 1}
     return {edit.name for edit in edits for it in edit.functions
             if it.proof in wrong or any(path == it.path and line in it.lines for path, line in goals)}
