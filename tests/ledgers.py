@@ -8,8 +8,7 @@ over. The file further-edits.tried has a line a crate that has such edits:
 REFUSED is how many edits were refused on that DAY, in a run of SECONDS seconds. The digest is of all that decides
 whether an edit is refused: the edits themselves with their names, the crate's definitions, its code without bodies, and
 what the crates below promise. So if a contract changes, the line is out of date, and the edits are to be tried again; if
-only bodies and proofs do, it isn't. A line `NAME untried` is of a crate whose edits are yet to be tried under the contracts
-of today."""
+only bodies and proofs do, it isn't."""
 
 from __future__ import annotations
 
@@ -25,7 +24,6 @@ from catalog import crates  # noqa: E402
 
 MOST_EDITS, MOST_EDITS_OF_A_CRATE = 120, 12
 TRIED = "further-edits.tried"
-UNTRIED = "untried"
 
 
 @dataclass(frozen=True)
@@ -39,8 +37,6 @@ class Line:
     seconds: int
 
     def text(self) -> str:
-        if self.digest == UNTRIED:
-            return f"{self.crate} {UNTRIED}"
         return f"{self.crate} {self.digest} {self.day} {self.refused} {self.seconds}"
 
 
@@ -77,19 +73,13 @@ class Ledger:
         """The ledger's lines by their crates; a line that is none is passed over."""
         path = self._top / TRIED
         rows = [row.split() for row in path.read_text(encoding="utf-8").splitlines()] if path.exists() else []
-        untried = {row[0]: Line(row[0], UNTRIED, "", 0, 0) for row in rows if row[1:] == [UNTRIED]}
-        return untried | {row[0]: Line(row[0], row[1], row[2], int(row[3]), int(row[4]))
-                          for row in rows if len(row) == 5 and row[3].isdigit() and row[4].isdigit()}
+        return {row[0]: Line(row[0], row[1], row[2], int(row[3]), int(row[4]))
+                for row in rows if len(row) == 5 and row[3].isdigit() and row[4].isdigit()}
 
     def is_tried(self, crate: str) -> bool:
         """Reports whether each further edit of a crate was refused under its contracts of today."""
         line = self.lines().get(crate)
         return line is not None and line.refused == len(self.edits(crate)) and line.digest == self.digest(crate)
-
-    def is_untried(self, crate: str) -> bool:
-        """Reports whether a crate's further edits are yet to be tried under its contracts of today."""
-        line = self.lines().get(crate)
-        return line is not None and line.digest == UNTRIED
 
     def write(self, line: Line) -> None:
         """Puts a line in the place of the one that the crate had; lines of crates without such edits go."""
