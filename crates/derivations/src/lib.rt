@@ -1,11 +1,13 @@
 //! The derivation of a source as a value, step by step, for tools that explain sources: the grammar's table as code,
 //! the tokens with their columns, what each step emits, the walk that says what each step comes upon, the tree that is
-//! made along it, and the position that each instruction comes from.
+//! made along it, and the position that each instruction comes from. Beside it, the call by which all tools compile a
+//! source.
 #![tactic(auto)]
 
 mod addresses;
 mod candidates;
 mod choices;
+mod compiling;
 mod emissions;
 mod locations;
 mod scheme;
@@ -18,6 +20,7 @@ mod walks;
 pub use addresses::{MOST_PLACES, SourcePosition, SourcePositions, lines};
 pub use candidates::{Fitting, MOST_FITTING, fitting, spelled};
 pub use choices::{choice, enters};
+pub use compiling::{Compiled, compile};
 pub use emissions::{Emission, MOST_ACTIONS, Origin};
 pub use locations::{Located, MOST_TOKENS, Tokens, locate, locate_in};
 pub use source_tree::{Body, MOST_NODES, Node, NodeKind, SourceTree};

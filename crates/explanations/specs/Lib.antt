@@ -1,2 +1,1 @@
-pub mod Compiling
 pub mod Spelling

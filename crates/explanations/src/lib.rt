@@ -6,7 +6,6 @@ mod branches;
 mod calls;
 mod carets;
 mod comments;
-mod compiling;
 mod constants;
 mod explaining;
 mod flow;
@@ -29,7 +28,6 @@ mod variables;
 mod wanted;
 mod warnings;
 
-pub use compiling::compile;
 pub use explaining::explain;
 pub use heads::is_head;
 pub use notes::Note;

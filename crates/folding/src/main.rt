@@ -11,12 +11,12 @@ use crate::folder::Folder;
 use crate::folds::Folds;
 use crate::listing::folded;
 use code::{Maker, Profile, Program};
+use derivations::compile;
 use grammar::{Diagnostic, ParseFault, Watched};
 use parser::parse;
 use std::io::{ErrorKind, Write};
 use std::{env, fs, io};
-use tokens::{DeviceFault, MemoryFeed, WINDOW_BYTES};
-use tools::{Compiled, compile};
+use tokens::{MemoryFeed, WINDOW_BYTES};
 
 /// Lists the folded code of the file that the command line names, or writes its first fault.
 fn main(rt: HostRuntime) -> io::Result<()> {
@@ -40,11 +40,8 @@ fn main(rt: HostRuntime) -> io::Result<()> {
 
 /// Compiles a source by a profile, and finds what can be folded in its code.
 fn compiled(source: &[u8], profile: Profile) -> Result<(Program, Folds), ParseFault> {
-    match compile(profile, &mut MemoryFeed::new(source, WINDOW_BYTES)) {
-        Ok(Ok(Compiled { program, .. })) => Ok((program, folds_of(source, profile)?)),
-        Ok(Err(diagnostic)) => Err(ParseFault::Source(diagnostic)),
-        Err(DeviceFault) => Err(ParseFault::Device),
-    }
+    let made = compile(profile, &mut MemoryFeed::new(source, WINDOW_BYTES))?;
+    Ok((made.program, folds_of(source, profile)?))
 }
 
 /// Finds what can be folded in the code of a source.

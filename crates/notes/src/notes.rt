@@ -3,13 +3,13 @@
 ghost use Rattle.std.specs.Prelude.{◌≡◌, ◌<◌, ◌≤◌, IfOk, length};
 
 use code::{Profile, Program};
-use derivations::{SourcePositions, lines};
-use grammar::Pools;
+use derivations::{Compiled, SourcePositions, compile, lines};
+use grammar::{ParseFault, Pools};
 use settings::{MOST_FILES, Settings};
 use std::alloc::{AllocError, Global};
 use std::str;
 use tokens::{MemoryFeed, WINDOW_BYTES};
-use tools::{Compiled, Fault, compile, name_of, source_of, tell_diagnostic};
+use tools::{Fault, name_of, source_of, tell_diagnostic};
 use watching::function_at;
 
 /// What is known of a file beside its program.
@@ -151,15 +151,16 @@ fn compiled_file(
         wish.profile(),
         &mut MemoryFeed::new(text.as_slice(), WINDOW_BYTES),
     ) {
-        Ok(Ok(Compiled { program, names })) => {
+        Ok(Compiled { program, names }) => {
             let note = noted(rt.alloc(), wish.profile(), word, text, names)?;
             Ok(Some((program, note)))
         }
-        Ok(Err(diagnostic)) => {
+        Err(ParseFault::Source(diagnostic)) => {
             tell_diagnostic(rt, word, &diagnostic);
             Ok(None)
         }
-        Err(_) => Err(Fault::Read),
+        Err(ParseFault::Device) => Err(Fault::Read),
+        Err(ParseFault::Memory) => Err(Fault::Memory),
     }
 }
 

@@ -1,6 +1,6 @@
 -- What an explanation and its code say of a source.
 use Rattle.std.proofs.Common.{◌≡◌, ◌≢◌, ◌⊎◌, ◌≤◌, ℕ, List, Option, Some, None, IfSome, IsSome, refl, arith, inl, inr, rules}
-use Rattle.explanations.specs.Compiling.{Compiles}
+use Rattle.derivations.specs.Compiling.{Compiles}
 use Rattle.grammar.specs.Profile.{Profile}
 use Rattle.page.specs.Explaining.{Explains, ExplainsRobots, IsExplained, IsFaulty, code_explained}
 use Rattle.page.specs.declared.explaining.Explained.{Explained}

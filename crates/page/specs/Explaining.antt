@@ -1,6 +1,6 @@
 -- What is said of the source of an order's first robot.
 use Rattle.std.specs.Prelude.{ℕ, ◌≡◌, List, Option, Some, None, Err, slice_get}
-use Rattle.explanations.specs.Compiling.{Compiles}
+use Rattle.derivations.specs.Compiling.{Compiles}
 use Rattle.grammar.specs.Compiled.{compiled}
 use Rattle.grammar.specs.Profile.{Profile}
 use Rattle.grammar.specs.ProfileNumbers.{profile_numbered}

@@ -2,7 +2,7 @@
 //! what its loops take.
 
 ghost use Rattle.std.specs.Prelude.{◌≡◌, IfSome, IsSome};
-ghost use Rattle.explanations.specs.Compiling.{Compiles};
+ghost use Rattle.derivations.specs.Compiling.{Compiles};
 ghost use Rattle.page.specs.Explaining.{ExplainsRobots, IsFaulty};
 ghost use Rattle.page.specs.Running.{IsAccepted};
 

@@ -1,9 +1,9 @@
 //! Sources as devices, and the names of one.
 
 ghost use Rattle.std.specs.Prelude.{◌≡◌, [], IfErr, OnOk, Some, false};
-ghost use Rattle.explanations.specs.Compiling.{Compiles, IsFirstFault};
+ghost use Rattle.derivations.specs.Compiling.{Compiles, IsFirstFault};
 
-use explanations::compile;
+use derivations::compile;
 use grammar::{ParseFault, Pools, Profile};
 use tokens::{DeviceFault, Feed};
 
@@ -49,14 +49,11 @@ impl Feed for SourceFeed<'_> {
     }
 }
 
-/// Compiles a source, and drops the code: returns its names, or its first fault. By this device the module has one
+/// Compiles a source, and drops its program: returns its names, or its first fault. By this device the module has one
 /// parser for all that it compiles.
 pub(crate) fn names_in(profile: Profile, source: &[u8]) -> Result<Pools, ParseFault>
     ensures compiles { OnOk result (Compiles profile source.now) }
     ensures fault { IfErr result (IsFirstFault profile source.now) }
 {
-    match compile(profile, &mut SourceFeed::new(source)) {
-        Ok(names) => Ok(names),
-        Err(fault) => Err(fault),
-    }
+    Ok(compile(profile, &mut SourceFeed::new(source))?.names)
 }

@@ -6,8 +6,9 @@ use crate::markup::{COLOURS, add_escaped, add_number};
 use crate::origins::Origins;
 use crate::spelling::{instruction_at, name_at};
 use crate::texts::ascii;
+use derivations::Compiled;
 use std::alloc::{AllocError, Global};
-use tools::{Compiled, Draft, Text};
+use tools::{Draft, Text};
 
 /// The height of an instruction's row.
 const ROW: usize = 18;

@@ -3,8 +3,9 @@
 use crate::origins::Origins;
 use crate::spelling::{instruction_at, name_at};
 use crate::texts::{ascii, lines_of, shown};
+use derivations::Compiled;
 use std::alloc::{AllocError, Global};
-use tools::{Compiled, Draft, Text, add_left, add_right};
+use tools::{Draft, Text, add_left, add_right};
 
 /// Returns each line of a source, and below it the instructions that come from it, with the names that they speak of.
 pub fn listing(

@@ -2,11 +2,10 @@
 
 use crate::code_rows::listing;
 use crate::origins::Origins;
-use derivations::{Derivation, Item, Located, Symbol, Walk, locate};
+use derivations::{Derivation, Item, Located, Symbol, Walk, compile, locate};
 use grammar::Profile;
 use std::alloc::{AllocError, Global};
 use tokens::{MemoryFeed, Punctuator, Token, WINDOW_BYTES};
-use tools::compile;
 
 /// A statement before which a source may be cut off.
 #[derive(Clone, Copy)]
@@ -36,7 +35,7 @@ pub fn listing_to_limit(
         let shown = source.get(..statement.start).unwrap_or(source);
         let ended = ended(alloc, shown, tokens, cut)?;
         let mut feed = MemoryFeed::new(ended.as_slice(), WINDOW_BYTES);
-        if let Ok(Ok(made)) = compile(profile, &mut feed) {
+        if let Ok(made) = compile(profile, &mut feed) {
             let origins = Origins::up_to(alloc, ended.as_slice(), profile, cut.instructions)?;
             let mut rows = listing(alloc, shown.trim_ascii_end(), &made, &origins)?;
             rows.push_str("      | what follows is too much code\n")?;

@@ -7,9 +7,10 @@ use crate::replies::Replies;
 use crate::spelling::{instruction_at, name_at};
 use crate::texts::{ascii, text_of};
 use code::{Cause, Frame, Instr, Intrinsic, Machine, Want};
+use derivations::Compiled;
 use grammar::{Name, Var};
 use std::alloc::{AllocError, Global};
-use tools::{Compiled, Draft, Text, add_left, add_right, add_signed};
+use tools::{Draft, Text, add_left, add_right, add_signed};
 
 /// The first line.
 const HEAD: &str =

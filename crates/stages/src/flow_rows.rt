@@ -4,8 +4,9 @@ use crate::flow::{Block, blocks_of};
 use crate::origins::Origins;
 use crate::spelling::beginning_at;
 use crate::texts::text_of;
+use derivations::Compiled;
 use std::alloc::{AllocError, Global};
-use tools::{Compiled, Draft, Text, add_left, add_right};
+use tools::{Draft, Text, add_left, add_right};
 
 /// The first line.
 const HEAD: &str = "  from    to  lines         goes to\n";

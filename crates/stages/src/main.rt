@@ -34,15 +34,16 @@ use crate::operation_rows::operation_rows;
 use crate::origins::Origins;
 use crate::pages::page;
 use crate::token_rows::token_rows;
+use derivations::{Compiled, compile};
 use facts::{Facts, add_rows};
-use grammar::{Code, Diagnostic, Profile};
+use grammar::{Code, Diagnostic, ParseFault, Profile};
 use parser::parse;
 use std::alloc::Global;
 use std::process::ExitCode;
-use tokens::{DeviceFault, MemoryFeed, WINDOW_BYTES};
+use tokens::{MemoryFeed, WINDOW_BYTES};
 use tools::{
-    Compiled, Draft, Fault, OUTPUT_OPTIONS, Options, PROFILE_OPTIONS, ProgramFrame, Work, compile,
-    name_of, source_of, tell_diagnostic, write_to,
+    Draft, Fault, OUTPUT_OPTIONS, Options, PROFILE_OPTIONS, ProgramFrame, Work, name_of, source_of,
+    tell_diagnostic, write_to,
 };
 use trees::TreeMaker;
 
@@ -70,19 +71,20 @@ impl Work for Stages {
         let source = source.as_slice();
         let mut feed = MemoryFeed::new(source, WINDOW_BYTES);
         match compile(request.profile, &mut feed) {
-            Ok(Ok(made)) => {
+            Ok(made) => {
                 let text = whole(rt.alloc(), &mut request, source, &made)?;
                 write_to(rt, options, text.as_str())
             }
-            Ok(Err(fault)) => {
+            Err(ParseFault::Source(fault)) => {
                 if let Some(text) = before_fault(rt.alloc(), &request, source, fault)? {
                     write_to(rt, options, text.as_str())?;
                 }
                 tell_diagnostic(rt, request.file, &fault);
                 Err(Fault::Source)
             }
-            // (a source in memory never fails to be read)
-            Err(DeviceFault) => Err(Fault::Read),
+            // (neither happens: the source is in memory, and compiling asks for none)
+            Err(ParseFault::Device) => Err(Fault::Read),
+            Err(ParseFault::Memory) => Err(Fault::Memory),
         }
     }
 }

@@ -12,9 +12,10 @@ use crate::markup::{COLOURS, add_escaped, add_line, add_number, hue};
 use crate::origins::Origins;
 use crate::spelling::{instruction_at, name_at};
 use crate::texts::{ascii, lines_of, shown};
+use derivations::Compiled;
 use facts::{Facts, Part, add_call, add_gap, add_room, add_shot, add_turn};
 use std::alloc::{AllocError, Global};
-use tools::{Compiled, Draft, Text};
+use tools::{Draft, Text};
 
 /// Returns the page of a source, whose file has this name.
 pub fn page(

@@ -7,10 +7,10 @@ ghost use Rattle.stages.specs.Owners.{Owns};
 
 use crate::texts::text_of;
 use code::{Instr, Program};
+use derivations::Compiled;
 use grammar::{Callee, Var};
 use listings::instruction_text;
 use std::alloc::{AllocError, Global};
-use tools::Compiled;
 
 /// Returns the instruction of an address as a listing has it, if there is one.
 pub fn instruction_at(

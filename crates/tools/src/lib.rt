@@ -3,8 +3,8 @@
 #![tactic(auto)]
 
 mod command_line;
-mod compiling;
 mod complaints;
+mod diagnostics;
 mod faults;
 mod files;
 mod frames;
@@ -18,7 +18,7 @@ mod texts;
 mod version;
 mod wishes;
 
-pub use compiling::{Compiled, compile, name_of, tell_diagnostic};
+pub use diagnostics::{name_of, tell_diagnostic};
 pub use faults::{Fault, Wrong};
 pub use files::source_of;
 pub use frames::{ProgramFrame, Work};

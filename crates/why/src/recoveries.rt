@@ -2,8 +2,8 @@
 
 use crate::parts::{PartKind, part_at};
 use crate::source_files::SourceFile;
-use derivations::{Located, locate};
-use explanations::{compile, explain, fault_token};
+use derivations::{Located, compile, locate};
+use explanations::{explain, fault_token};
 use grammar::{Code, Diagnostic, ParseFault, Profile};
 use std::alloc::{AllocError, Global};
 use tokens::{MemoryFeed, Token, WINDOW_BYTES};

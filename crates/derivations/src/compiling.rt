@@ -1,0 +1,41 @@
+//! What a source compiles to.
+
+ghost use Rattle.std.specs.Prelude.{◌≡◌, ◌≢◌, ℕ, IfErr, IfOk, List, Some};
+ghost use Rattle.derivations.specs.Compiling.{IsCompiled, IsFirstFault};
+ghost use Rattle.parser.specs.Segment.{CountsRefusal};
+ghost use Rattle.tokens.specs.Feed.{MayRead};
+
+use code::{Maker, Program};
+use grammar::{ParseFault, Pools, Profile};
+use parser::parse;
+use tokens::Feed;
+
+/// What a source compiles to: its program, and its names, which the program hasn't.
+#[derive(Drop)]
+pub struct Compiled {
+    /// The program.
+    pub program: Program,
+    /// The names of its externals, functions and variables.
+    pub names: Pools,
+}
+
+/// Compiles the source of a feed by a profile, as the main program does: returns its program and names.
+///
+/// The page and all tools compile by it. It asks for no memory, since the page in a browser has none to ask for.
+///
+/// # Errors
+/// `Source` with the first fault; `Device` if the feed failed before that, or the end, was known.
+pub fn compile<F: Feed>(profile: Profile, feed: &mut F) -> Result<Compiled, ParseFault>
+    requires ready { MayRead (F.device feed.old) }
+    ensures compiles { IfOk result (λ made. (bytes : List ℕ) → (F.device feed.old).to_come ≡ Some bytes
+        → IsCompiled profile bytes made) }
+    ensures fault { IfErr result (λ fault. (bytes : List ℕ) → (F.device feed.old).to_come ≡ Some bytes
+        → IsFirstFault profile bytes fault) }
+    ensures memory { IfErr result (λ fault. fault ≢ ParseFault.Memory) }
+    ensures counted { CountsRefusal result (F.device feed.old).account (F.device feed.new).account }
+{
+    let mut maker = Maker::new(profile);
+    let names = parse(feed, &mut maker)?;
+    let program = maker.finish(&names);
+    Ok(Compiled { program, names })
+}
