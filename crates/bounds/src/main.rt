@@ -9,8 +9,8 @@ use facts::{Facts, add_rows};
 use grammar::{ParseFault, Profile};
 use std::process::ExitCode;
 use tools::{
-    Draft, Fault, Known, Options, Output, PROFILE_OPTIONS, ProgramFrame, Work, profile, source_of,
-    tell_diagnostic,
+    Draft, Fault, Known, Options, Output, PROFILE_OPTIONS, ProgramFrame, TellsOfFile, Work,
+    profile, source_of, tell_diagnostic, tell_files,
 };
 
 /// The program's name, its line of wrong usage, and its options.
@@ -33,20 +33,13 @@ fn main(rt: HostRuntime) -> ExitCode {
 struct Bounds;
 
 impl Work for Bounds {
-    /// Tells of the files one after the other. What is known of the files before one that can't be read is written.
+    /// Tells of the files one after the other.
     fn work(&self, rt: &HostRuntime, options: &Options<'_>) -> Result<(), Fault> {
-        let wish = match Wish::read(options) {
-            Ok(wish) => wish,
-            Err(fault) => return Err(fault),
+        let wish = Wish {
+            profile: profile(options)?,
+            as_json: options.has("json"),
         };
-        let mut output = Output::new(rt.alloc());
-        let told = tell_all(rt, &mut output, &wish, options.files());
-        output.finish(rt)?;
-        match told {
-            Ok(false) => Ok(()),
-            Ok(true) => Err(Fault::Source),
-            Err(fault) => Err(fault),
-        }
+        tell_files(rt, &wish, options.files())
     }
 }
 
@@ -57,56 +50,27 @@ struct Wish {
     as_json: bool,
 }
 
-impl Wish {
-    /// Reads what options ask for. No file is wrong usage.
-    fn read(options: &Options<'_>) -> Result<Wish, Fault> {
-        if options.files().is_empty() {
-            return Err(Fault::Usage);
-        }
-        match profile(options) {
-            Ok(profile) => Ok(Wish {
-                profile,
-                as_json: options.has("json"),
-            }),
-            Err(fault) => Err(fault),
-        }
-    }
-}
-
-/// Tells of files. Reports whether one has a fault.
-fn tell_all(
-    rt: &HostRuntime,
-    output: &mut Output,
-    wish: &Wish,
-    files: &[&str],
-) -> Result<bool, Fault> {
-    let mut is_faulty = false;
-    for path in files {
-        is_faulty |= tell(rt, output, wish, path)?;
-        output.pass(rt)?;
-    }
-    Ok(is_faulty)
-}
-
-/// Tells of a file. Reports whether it has a fault, whose diagnostic is then written.
-fn tell(rt: &HostRuntime, output: &mut Output, wish: &Wish, path: &str) -> Result<bool, Fault> {
-    let (bytes, alloc) = (source_of(rt, FRAME.name, path)?, rt.alloc());
-    match Facts::of(alloc, bytes.as_slice(), wish.profile) {
-        Ok(facts) => {
-            let mut text = Draft::new(alloc);
-            if wish.as_json {
-                add_object(&mut text, path, &facts);
-            } else {
-                add_rows(&mut text, path, &facts);
+impl TellsOfFile for Wish {
+    /// Tells of a file. If it has a fault, its diagnostic is written.
+    fn tell(&self, rt: &HostRuntime, output: &mut Output, word: &str) -> Result<bool, Fault> {
+        let (bytes, alloc) = (source_of(rt, FRAME.name, word)?, rt.alloc());
+        match Facts::of(alloc, bytes.as_slice(), self.profile) {
+            Ok(facts) => {
+                let mut text = Draft::new(alloc);
+                if self.as_json {
+                    add_object(&mut text, word, &facts);
+                } else {
+                    add_rows(&mut text, word, &facts);
+                }
+                text.move_behind(output.text())?;
+                Ok(false)
             }
-            text.move_behind(output.text())?;
-            Ok(false)
+            Err(ParseFault::Source(diagnostic)) => {
+                tell_diagnostic(rt, word, &diagnostic);
+                Ok(true)
+            }
+            Err(ParseFault::Device) => Err(Fault::Read),
+            Err(ParseFault::Memory) => Err(Fault::Memory),
         }
-        Err(ParseFault::Source(diagnostic)) => {
-            tell_diagnostic(rt, path, &diagnostic);
-            Ok(true)
-        }
-        Err(ParseFault::Device) => Err(Fault::Read),
-        Err(ParseFault::Memory) => Err(Fault::Memory),
     }
 }

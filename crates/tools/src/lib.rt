@@ -6,6 +6,7 @@ mod command_line;
 mod complaints;
 mod diagnostics;
 mod faults;
+mod file_tellers;
 mod files;
 mod frames;
 mod helps;
@@ -20,6 +21,7 @@ mod wishes;
 
 pub use diagnostics::{name_of, tell_diagnostic};
 pub use faults::{Fault, Wrong};
+pub use file_tellers::{TellsOfFile, tell_files};
 pub use files::source_of;
 pub use frames::{ProgramFrame, Work};
 pub use known::{COMMON_OPTIONS, Known, OUTPUT_OPTIONS};

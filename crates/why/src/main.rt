@@ -16,7 +16,8 @@ use std::alloc::Global;
 use std::process::ExitCode;
 use tokens::{MemoryFeed, WINDOW_BYTES};
 use tools::{
-    Fault, Known, Options, Output, PROFILE_OPTIONS, Plain, ProgramFrame, Work, profile, source_of,
+    Fault, Known, Options, Output, PROFILE_OPTIONS, Plain, ProgramFrame, TellsOfFile, Work,
+    profile, source_of, tell_files,
 };
 
 /// The program's name, its line of wrong usage, and its options.
@@ -46,20 +47,9 @@ fn main(rt: HostRuntime) -> ExitCode {
 struct Why;
 
 impl Work for Why {
-    /// Explains the files one after the other. What is known of the files before one that can't be read is written.
+    /// Explains the files one after the other.
     fn work(&self, rt: &HostRuntime, options: &Options<'_>) -> Result<(), Fault> {
-        let wish = match Wish::read(options) {
-            Ok(wish) => wish,
-            Err(fault) => return Err(fault),
-        };
-        let mut output = Output::new(rt.alloc());
-        let explained = explain_all(rt, &mut output, &wish, options.files());
-        output.finish(rt)?;
-        match explained {
-            Ok(false) => Ok(()),
-            Ok(true) => Err(Fault::Source),
-            Err(fault) => Err(fault),
-        }
+        tell_files(rt, &Wish::read(options)?, options.files())
     }
 }
 
@@ -73,72 +63,51 @@ struct Wish {
 }
 
 impl Wish {
-    /// Reads what options ask for. No file is wrong usage, and so is `--strict` without `--lint`.
+    /// Reads what options ask for. `--strict` without `--lint` is wrong usage.
     fn read(options: &Options<'_>) -> Result<Wish, Fault> {
         let (lint, strict) = (options.has("lint"), options.has("strict"));
-        if options.files().is_empty() || strict && !lint {
+        if strict && !lint {
             return Err(Fault::Usage);
         }
-        match profile(options) {
-            Ok(profile) => Ok(Wish {
-                profile,
-                all: options.has("all"),
-                lint,
-                strict,
-            }),
-            Err(fault) => Err(fault),
-        }
+        Ok(Wish {
+            profile: profile(options)?,
+            all: options.has("all"),
+            lint,
+            strict,
+        })
     }
 }
 
-/// Explains files. Reports whether one has a fault, or a warning if warnings count.
-fn explain_all(
-    rt: &HostRuntime,
-    output: &mut Output,
-    wish: &Wish,
-    files: &[&str],
-) -> Result<bool, Fault> {
-    let mut is_faulty = false;
-    for path in files {
-        is_faulty |= explain_file(rt, output, wish, path)?;
-        output.pass(rt)?;
-    }
-    Ok(is_faulty)
-}
-
-/// Explains a file. Reports whether it has a fault, or a warning if warnings count.
-fn explain_file(
-    rt: &HostRuntime,
-    output: &mut Output,
-    wish: &Wish,
-    path: &str,
-) -> Result<bool, Fault> {
-    let (bytes, alloc) = (source_of(rt, FRAME.name, path)?, rt.alloc());
-    let name = format!(in alloc; "{}", Plain(path))?;
-    let tokens = locate(alloc, bytes.as_slice())?;
-    let file = SourceFile {
-        path: name.as_str(),
-        source: bytes.as_slice(),
-        profile: wish.profile,
-    };
-    match compile(
-        file.profile,
-        &mut MemoryFeed::new(file.source, WINDOW_BYTES),
-    ) {
-        Ok(_) if wish.lint => {
-            let is_warned = tell_all_warnings(output, alloc, &file, tokens.as_slice())?;
-            Ok(wish.strict && is_warned)
-        }
-        Ok(_) => Ok(false),
-        Err(ParseFault::Source(diagnostic)) => {
-            tell_fault(output, wish, &file, tokens.as_slice(), &diagnostic)?;
-            if wish.all {
-                add_later_faults(output.text(), alloc, &file, &diagnostic)?;
+impl TellsOfFile for Wish {
+    /// Explains a file. It is faulty too if it has a warning, and warnings count.
+    fn tell(&self, rt: &HostRuntime, output: &mut Output, word: &str) -> Result<bool, Fault> {
+        let (bytes, alloc) = (source_of(rt, FRAME.name, word)?, rt.alloc());
+        let name = format!(in alloc; "{}", Plain(word))?;
+        let tokens = locate(alloc, bytes.as_slice())?;
+        let file = SourceFile {
+            path: name.as_str(),
+            source: bytes.as_slice(),
+            profile: self.profile,
+        };
+        match compile(
+            file.profile,
+            &mut MemoryFeed::new(file.source, WINDOW_BYTES),
+        ) {
+            Ok(_) if self.lint => {
+                let is_warned = tell_all_warnings(output, alloc, &file, tokens.as_slice())?;
+                Ok(self.strict && is_warned)
             }
-            Ok(true)
+            Ok(_) => Ok(false),
+            Err(ParseFault::Source(diagnostic)) => {
+                tell_fault(output, self, &file, tokens.as_slice(), &diagnostic)?;
+                if self.all {
+                    add_later_faults(output.text(), alloc, &file, &diagnostic)?;
+                }
+                Ok(true)
+            }
+            Err(ParseFault::Device) => Err(Fault::Read),
+            Err(ParseFault::Memory) => Err(Fault::Memory),
         }
-        Err(ParseFault::Device) => Err(Fault::Read),
-        Err(ParseFault::Memory) => Err(Fault::Memory),
     }
 }
 
