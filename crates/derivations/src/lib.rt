@@ -1,7 +1,7 @@
 //! The derivation of a source as a value, step by step, for tools that explain sources: the grammar's table as code,
-//! the tokens with their columns, what each step emits, the walk that says what each step comes upon, the tree that is
-//! made along it, and the position that each instruction comes from. Beside it, the call by which all tools compile a
-//! source.
+//! the tokens with their columns, what each step emits, the walk that says what each step comes upon, the tree and the
+//! sums that are made along it, and the position that each instruction comes from. Beside it, the call by which all
+//! tools compile a source.
 #![tactic(auto)]
 
 mod addresses;
@@ -13,6 +13,7 @@ mod locations;
 mod scheme;
 mod source_tree;
 mod steps;
+mod sums;
 mod symbols;
 mod tree_growth;
 mod walks;
@@ -25,5 +26,6 @@ pub use emissions::{Emission, MOST_ACTIONS, Origin};
 pub use locations::{Located, MOST_TOKENS, Tokens, locate, locate_in};
 pub use source_tree::{Body, MOST_NODES, Node, NodeKind, SourceTree};
 pub use steps::{Derivation, Pending, StepEnd};
+pub use sums::{Loop, Sum, Sums};
 pub use symbols::{Item, MOST_ITEMS, Production, Role, SemanticAction, Symbol};
 pub use walks::{Event, Meaning, Walk};

@@ -2,9 +2,9 @@
 
 use crate::chains::{Chain, Link};
 use crate::places::Places;
-use crate::turns::stretches;
-use crate::ways::{Pair, Stretch};
+use crate::ways::{Stretch, Ways};
 use cycles::{Counted, Run, SourceSpans, Span, Turn, source_spans};
+use derivations::{Located, Sums, locate};
 use grammar::{Intrinsic, Name, ParseFault, Pools, Profile};
 use parser::parse;
 use room::{Bound, bounds, chain};
@@ -65,10 +65,13 @@ impl Facts {
         let numbers = chain(alloc, &mut MemoryFeed::new(source, WINDOW_BYTES), profile)?;
         let mut maker = TreeMaker::new(alloc, profile);
         let names = parse(&mut MemoryFeed::new(source, WINDOW_BYTES), &mut maker)?;
-        let places = kept(Places::of(alloc, source, profile))?;
+        let tokens = kept(locate(alloc, source))?;
+        let tokens = tokens.as_slice();
+        let places = kept(Places::of(alloc, tokens, profile))?;
         let finder = Finder {
             alloc,
             source,
+            tokens,
             profile,
             maker: &maker,
             names: &names,
@@ -90,6 +93,7 @@ impl Facts {
 struct Finder<'a> {
     alloc: Global,
     source: &'a [u8],
+    tokens: &'a [Located],
     profile: Profile,
     maker: &'a TreeMaker,
     names: &'a Pools,
@@ -102,7 +106,6 @@ impl Finder<'_> {
         let told = self.told(Counted::Questions)?;
         let mut functions = kept(self.functions(told.runs.as_slice()))?;
         let mut loops = kept(self.loops(told.turns.as_slice()))?;
-        kept(self.note_stretches(&mut loops))?;
         for (kind, intrinsic) in Intrinsic::ALL.iter().enumerate() {
             let told = self.told(Counted::QuestionsOf(*intrinsic))?;
             for (part, run) in functions.iter_mut().zip(told.runs.as_slice()) {
@@ -130,30 +133,20 @@ impl Finder<'_> {
         Ok(parts)
     }
 
-    /// Lists the loops with their cycles.
+    /// Lists the loops with their cycles, and what lies between the questions of their turns.
     fn loops(&self, turns: &[Turn]) -> Result<Vec<Part>, AllocError> {
+        let sums: Sums<'_, Ways> = Sums::of(self.tokens, self.profile);
         let mut parts = Vec::new(self.alloc);
-        for (index, turn) in turns.iter().enumerate() {
-            parts.push(self.part(turn.function, self.places.of_loop(index), turn.cycles))?;
+        for (turn, found) in turns.iter().zip(sums.loops()) {
+            let place = (found.position.line, found.position.column);
+            let mut part = self.part(turn.function, place, turn.cycles);
+            if let Some(ways) = found.turn {
+                part.gap = ways.gap();
+                part.shot = ways.shot();
+            }
+            parts.push(part)?;
         }
         Ok(parts)
-    }
-
-    /// Notes what lies between the questions of the loops' turns.
-    fn note_stretches(&self, loops: &mut Vec<Part>) -> Result<(), AllocError> {
-        let gaps = self.stretches(Pair::Neighbours)?;
-        let shots = self.stretches(Pair::Shots)?;
-        let found = gaps.as_slice().iter().zip(shots.as_slice());
-        for (part, (gap, shot)) in loops.iter_mut().zip(found) {
-            part.gap = *gap;
-            part.shot = *shot;
-        }
-        Ok(())
-    }
-
-    /// Lists what lies between such questions of the loops' turns.
-    fn stretches(&self, pair: Pair) -> Result<Vec<Option<Stretch>>, AllocError> {
-        stretches(self.alloc, self.maker.functions(), self.profile, pair)
     }
 
     /// Makes a part of the function of this number, which has asked nothing so far.

@@ -6,7 +6,6 @@ mod chains;
 mod facts;
 mod places;
 mod rows;
-mod turns;
 mod ways;
 
 pub use chains::{Chain, Link};

@@ -1,39 +1,30 @@
-//! Where the functions and loops of a source begin.
+//! Where the functions of a source begin.
 
 use crate::facts::KINDS;
-use derivations::{Event, Located, Meaning, SemanticAction, Walk, locate};
+use derivations::{Event, Located, Meaning, Walk};
 use grammar::{Intrinsic, Profile};
 use std::alloc::{AllocError, Global};
-use tokens::{Keyword, Token};
+use tokens::Token;
 
-/// Where functions and loops begin, each in the order of the source: the line and the column of the name or the word.
-/// And which intrinsic functions are named.
+/// Where functions begin, in the order of the source: the line and the column of the name. And which intrinsic functions
+/// are named.
 #[derive(Drop)]
 pub struct Places {
     functions: Vec<(u32, u32)>,
-    loops: Vec<(u32, u32)>,
     named: [bool; KINDS],
 }
 
 impl Places {
     /// Finds those of a source that compiles by this profile. The only error is that memory is refused.
-    pub fn of(alloc: Global, source: &[u8], profile: Profile) -> Result<Places, AllocError> {
+    pub fn of(alloc: Global, tokens: &[Located], profile: Profile) -> Result<Places, AllocError> {
         let mut places = Places {
             functions: Vec::new(alloc),
-            loops: Vec::new(alloc),
             named: [false; KINDS],
         };
-        let tokens = locate(alloc, source)?;
-        let tokens = tokens.as_slice();
         let mut walk = Walk::start(tokens, profile);
         for _ in 0..u64::MAX {
             match walk.step() {
                 Event::Named { token, meaning } => places.name(tokens.get(token), meaning)?,
-                Event::Made {
-                    action: SemanticAction::Empty,
-                    chosen_at,
-                    ..
-                } => places.begin(tokens.get(chosen_at))?,
                 _ if walk.is_over() => break,
                 _ => {}
             }
@@ -56,16 +47,6 @@ impl Places {
         Ok(())
     }
 
-    /// Notes the word that a body begins by, if it is a loop's.
-    fn begin(&mut self, word: Option<&Located>) -> Result<(), AllocError> {
-        if let Some(located) = word
-            && located.token == Token::Keyword(Keyword::While)
-        {
-            self.loops.push((located.line, located.column))?;
-        }
-        Ok(())
-    }
-
     /// Returns which intrinsic functions are named, in the order of `Intrinsic::ALL`.
     pub fn named(&self) -> [bool; KINDS] {
         self.named
@@ -74,10 +55,5 @@ impl Places {
     /// Returns the line and the column of a function, by how many begin before it; 0 if there is none.
     pub fn function(&self, index: usize) -> (u32, u32) {
         self.functions.get(index).copied().unwrap_or((0, 0))
-    }
-
-    /// Returns the line and the column of a loop, by how many begin before it; 0 if there is none.
-    pub fn of_loop(&self, index: usize) -> (u32, u32) {
-        self.loops.get(index).copied().unwrap_or((0, 0))
     }
 }

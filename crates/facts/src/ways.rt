@@ -1,11 +1,12 @@
 //! What lies between questions, on all ways through a piece of a program.
 
 use cycles::Span;
+use derivations::Sum;
 use grammar::Intrinsic;
 
 /// Between which questions cycles are counted.
 #[derive(Clone, Copy)]
-pub enum Pair {
+enum Pair {
     /// From each question to the next one.
     Neighbours,
     /// From a scan to each shot before the next scan.
@@ -33,7 +34,7 @@ impl Pair {
 /// The cycles from one question to another.
 ///
 /// Of several such stretches it has the fewest cycles and the most, and the questions of the one with the most.
-#[derive(Clone, Copy)]
+#[derive(Clone, Copy, PartialEq, Eq)]
 pub struct Stretch {
     /// The cycles after the first question, up to the other one.
     pub cycles: Span,
@@ -54,9 +55,83 @@ impl Stretch {
     }
 }
 
-/// The ways through a piece of a program, by the stretches on them. A kind of stretch that no way has is none.
-#[derive(Clone, Copy)]
+/// The ways through a piece of a program, by the stretches on them between questions of each pair.
+#[derive(Clone, Copy, PartialEq, Eq)]
 pub struct Ways {
+    neighbours: Stretches,
+    shots: Stretches,
+    /// Whether all functions that are called are known.
+    is_known: bool,
+}
+
+impl Ways {
+    /// Returns the stretches from each question to the next one, if there are any and all functions are known.
+    pub fn gap(self) -> Option<Stretch> {
+        self.between(self.neighbours)
+    }
+
+    /// Returns the stretches from a scan to each shot before the next scan, if there are any and all functions are known.
+    pub fn shot(self) -> Option<Stretch> {
+        self.between(self.shots)
+    }
+
+    /// Returns the stretches from one question to another, if all functions are known.
+    fn between(self, stretches: Stretches) -> Option<Stretch> {
+        if self.is_known { stretches.inner } else { None }
+    }
+}
+
+impl Sum for Ways {
+    fn cycles(number: u32) -> Ways {
+        Ways {
+            neighbours: Stretches::cycles(number),
+            shots: Stretches::cycles(number),
+            is_known: true,
+        }
+    }
+
+    fn asking(asked: Intrinsic) -> Ways {
+        Ways {
+            neighbours: Stretches::asking(Pair::Neighbours, asked),
+            shots: Stretches::asking(Pair::Shots, asked),
+            is_known: true,
+        }
+    }
+
+    fn unknown() -> Ways {
+        let mut ways = Ways::cycles(0);
+        ways.is_known = false;
+        ways
+    }
+
+    fn then(self, next: Ways) -> Ways {
+        Ways {
+            neighbours: self.neighbours.then(next.neighbours),
+            shots: self.shots.then(next.shots),
+            is_known: self.is_known && next.is_known,
+        }
+    }
+
+    fn or(self, other: Ways) -> Ways {
+        Ways {
+            neighbours: self.neighbours.or(other.neighbours),
+            shots: self.shots.or(other.shots),
+            is_known: self.is_known && other.is_known,
+        }
+    }
+
+    fn any_number(self) -> Ways {
+        Ways {
+            neighbours: self.neighbours.any_number(),
+            shots: self.shots.any_number(),
+            is_known: self.is_known,
+        }
+    }
+}
+
+/// The stretches on all ways through a piece of a program. A kind of stretch that no way has is none.
+#[derive(Clone, Copy, PartialEq, Eq)]
+struct Stretches {
     /// The whole of a way on which no stretch begins.
     quiet: Option<Stretch>,
     /// From the beginning to a question, if no stretch has begun before it.
@@ -65,49 +140,39 @@ pub struct Ways {
     last: Option<Stretch>,
     /// From one question to another.
     inner: Option<Stretch>,
-    /// Whether all functions that are called are known.
-    is_known: bool,
 }
 
-impl Ways {
-    /// Makes the way of this number of cycles that ask nothing.
-    pub fn cycles(number: u32) -> Ways {
-        Ways {
+impl Stretches {
+    /// Makes the stretches of this number of cycles that ask nothing.
+    fn cycles(number: u32) -> Stretches {
+        Stretches {
             quiet: Some(Stretch::of(Span::exactly(number))),
             first: None,
             last: None,
             inner: None,
-            is_known: true,
         }
     }
 
-    /// Makes the way of a cycle that asks this function.
-    pub fn asking(pair: Pair, asked: Intrinsic) -> Ways {
-        let mut ways = Ways::cycles(1);
+    /// Makes the stretches of the cycle that asks this function.
+    fn asking(pair: Pair, asked: Intrinsic) -> Stretches {
+        let mut stretches = Stretches::cycles(1);
         if pair.ends(asked) {
             let mut first = Stretch::of(Span::exactly(1));
             first.to = Some(asked);
-            ways.first = Some(first);
+            stretches.first = Some(first);
         }
         if pair.begins(asked) {
             let mut last = Stretch::of(Span::exactly(0));
             last.from = Some(asked);
-            ways.last = Some(last);
-            ways.quiet = None;
+            stretches.last = Some(last);
+            stretches.quiet = None;
         }
-        ways
+        stretches
     }
 
-    /// Makes the ways through a function of which nothing is known.
-    pub fn unknown() -> Ways {
-        let mut ways = Ways::cycles(0);
-        ways.is_known = false;
-        ways
-    }
-
-    /// Returns these ways, and after each of them one of the next ways.
-    pub fn then(self, next: Ways) -> Ways {
-        Ways {
+    /// Returns the stretches of these ways, and after each of them one of the next ways.
+    fn then(self, next: Stretches) -> Stretches {
+        Stretches {
             quiet: joined(self.quiet, next.quiet),
             first: longer(self.first, joined(self.quiet, next.first)),
             last: longer(next.last, joined(self.last, next.quiet)),
@@ -115,41 +180,33 @@ impl Ways {
                 longer(self.inner, next.inner),
                 joined(self.last, next.first),
             ),
-            is_known: self.is_known && next.is_known,
         }
     }
 
-    /// Returns these ways and the others.
-    pub fn or(self, other: Ways) -> Ways {
-        Ways {
+    /// Returns the stretches of these ways and the others.
+    fn or(self, other: Stretches) -> Stretches {
+        Stretches {
             quiet: longer(self.quiet, other.quiet),
             first: longer(self.first, other.first),
             last: longer(self.last, other.last),
             inner: longer(self.inner, other.inner),
-            is_known: self.is_known && other.is_known,
         }
     }
 
-    /// Returns any number of these ways, one after the other.
-    pub fn any_number(self) -> Ways {
+    /// Returns the stretches of any number of these ways, one after the other.
+    fn any_number(self) -> Stretches {
         let cycles = match self.quiet {
             Some(quiet) => quiet.cycles.any_number(),
             None => Span::exactly(0),
         };
         let quiet = Some(Stretch::of(cycles));
         let last = joined(self.last, quiet);
-        Ways {
+        Stretches {
             quiet,
             first: joined(quiet, self.first),
             last,
             inner: longer(self.inner, joined(last, self.first)),
-            is_known: self.is_known,
         }
-    }
-
-    /// Returns the stretches from one question to another, if there are any and all functions are known.
-    pub fn between(self) -> Option<Stretch> {
-        if self.is_known { self.inner } else { None }
     }
 }
 

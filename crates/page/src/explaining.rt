@@ -6,17 +6,15 @@ ghost use Rattle.derivations.specs.Compiling.{Compiles};
 ghost use Rattle.page.specs.Explaining.{ExplainsRobots, IsFaulty};
 ghost use Rattle.page.specs.Running.{IsAccepted};
 
+use crate::loop_turns::tell_turns;
 use crate::orders::Order;
-use crate::passes::{Loop, turns_of};
 use crate::robots::RobotFile;
-use crate::rows::Row;
 use crate::running::words_of;
 use crate::sheets::{FRAME_BYTES, Sheet};
 use crate::sources::names_in;
 use derivations::{Located, Tokens, locate_in};
 use explanations::{Warnings, explain, warnings_before, warnings_of};
 use grammar::{ParseFault, Profile};
-use watching::{Event, Field};
 
 /// What is reported of a source beside a fault.
 #[derive(Clone, Copy, PartialEq, Eq)]
@@ -110,25 +108,6 @@ fn tell_warnings(warnings: &Warnings, tokens: &[Located], sheet: &mut Sheet) {
         let note = warning.note(tokens);
         tell(note.as_str(), sheet);
     }
-}
-
-/// Writes a row for each loop of a source: its line, and the fewest and the most cycles of a turn, as far as there are.
-fn tell_turns(tokens: &[Located], profile: Profile, sheet: &mut Sheet) {
-    for found in &turns_of(tokens, profile) {
-        sheet.add(Row::new(found.line, 0, &turn_event(found)).as_slice());
-    }
-}
-
-/// Returns the event that a loop takes this number of cycles.
-fn turn_event(found: &Loop) -> Event<'static> {
-    let mut event = Event::new("turn", &[]);
-    if let Some(turn) = found.turn {
-        let _ = event.fields.try_push(Field::Number(i64::from(turn.least)));
-        if let Some(most) = turn.most {
-            let _ = event.fields.try_push(Field::Number(i64::from(most)));
-        }
-    }
-    event
 }
 
 /// Writes a text.
