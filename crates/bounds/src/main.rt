@@ -9,8 +9,8 @@ use facts::{Facts, add_rows};
 use grammar::{ParseFault, Profile};
 use std::process::ExitCode;
 use tools::{
-    Draft, Fault, Known, Options, Output, PROFILE_OPTIONS, ProgramFrame, Work, profile, source_of,
-    tell_diagnostic,
+    Draft, Fault, Known, Options, Output, PROFILE_OPTIONS, Plain, ProgramFrame, Work, profile,
+    source_of, tell_diagnostic,
 };
 
 /// The program's name, its line of wrong usage, and its options.
@@ -93,11 +93,12 @@ fn tell(rt: &HostRuntime, output: &mut Output, wish: &Wish, path: &str) -> Resul
     let (bytes, alloc) = (source_of(rt, FRAME.name, path)?, rt.alloc());
     match Facts::of(alloc, bytes.as_slice(), wish.profile) {
         Ok(facts) => {
+            let name = format!(in alloc; "{}", Plain(path))?;
             let mut text = Draft::new(alloc);
             if wish.as_json {
                 add_object(&mut text, path, &facts);
             } else {
-                add_rows(&mut text, path, &facts);
+                add_rows(&mut text, name.as_str(), &facts);
             }
             text.move_behind(output.text())?;
             Ok(false)
