@@ -16,7 +16,8 @@ use std::alloc::Global;
 use std::process::ExitCode;
 use tokens::{MemoryFeed, WINDOW_BYTES};
 use tools::{
-    Fault, Known, Options, Output, PROFILE_OPTIONS, Plain, ProgramFrame, Work, profile, source_of,
+    Fault, Known, Options, Output, PROFILE_OPTIONS, Plain, ProgramFrame, Work, Wrong, profile,
+    source_of,
 };
 
 /// The program's name, its line of wrong usage, and its options.
@@ -76,8 +77,11 @@ impl Wish {
     /// Reads what options ask for. No file is wrong usage, and so is `--strict` without `--lint`.
     fn read(options: &Options<'_>) -> Result<Wish, Fault> {
         let (lint, strict) = (options.has("lint"), options.has("strict"));
-        if options.files().is_empty() || strict && !lint {
+        if options.files().is_empty() {
             return Err(Fault::Usage);
+        }
+        if strict && !lint {
+            return Err(Fault::Wrong(Wrong::Alone("strict", "lint")));
         }
         match profile(options) {
             Ok(profile) => Ok(Wish {
