@@ -1,14 +1,14 @@
-"""What tests share: how the methods of a class are run and counted, words of the command line, and tests that use another one.
+"""What tests share: how the methods of a class are run, how cases are counted, words of the command line, and tests that use another
+one.
 
 A test is a method whose name doesn't begin with `_`, of a class itself and not of one that it stands on: it answers what is wrong, a
-line each, and nothing if all is right."""
+line each, and nothing if all is right. A case is a name, and what is wrong, as lines or as a text."""
 
 from __future__ import annotations
 
 import importlib.machinery
 import importlib.util
 import os
-import re
 import signal
 import sys
 import tempfile
@@ -52,18 +52,35 @@ def take_signals() -> None:
 def run(tests: object, faults: tuple[type[Exception], ...] = (), but: Collection[str] = (), only: Collection[str] = ()) -> tuple[int, int]:
     """Runs the tests of an object but some, or some only; says what is wrong, and how long each took if TIMES is in the environment.
     These faults fail the test in which they come. Answers how many passed and how many failed."""
+    chosen = [name for name in names(tests) if name not in but and (not only or name in only)]
+    return judge((name.replace("_", " "), timed(name, lambda name=name: tried(getattr(tests, name), faults))) for name in chosen)
+
+
+def tried(test: Callable[[], Iterable[str]], faults: tuple[type[Exception], ...]) -> Iterable[str]:
+    """What is wrong by a test: also one of these faults, if it comes."""
+    try:
+        return test()
+    except faults as fault:
+        return [f"{type(fault).__name__}: {fault}"]
+
+
+def timed(name: str, test: Callable[[], Iterable[str]]) -> Iterable[str]:
+    """What is wrong by a test; says how long it took if TIMES is in the environment."""
+    begun = time.monotonic()
+    wrong = test()
+    if os.environ.get("TIMES"):
+        print(f"{time.monotonic() - begun:6.1f} {name}", flush=True)
+    return wrong
+
+
+def judge(cases: Iterable[tuple[str, str | Iterable[str]]]) -> tuple[int, int]:
+    """Says what is wrong with each case. Answers how many are right and how many aren't."""
     passed = failed = 0
-    for name in [name for name in names(tests) if name not in but and (not only or name in only)]:
-        begun = time.monotonic()
-        try:
-            wrong: Iterable[str] = getattr(tests, name)()
-        except faults as fault:
-            wrong = [f"{type(fault).__name__}: {fault}"]
-        passed, failed = passed + (not wrong), failed + bool(wrong)
-        if os.environ.get("TIMES"):
-            print(f"{time.monotonic() - begun:6.1f} {name}", flush=True)
-        for line in wrong:
-            print(f"{re.sub('_', ' ', name)}: {line}", flush=True)
+    for name, wrong in cases:
+        lines = ([wrong] if wrong else []) if isinstance(wrong, str) else [*wrong]
+        passed, failed = passed + (not lines), failed + bool(lines)
+        for line in lines:
+            print(f"{name}: {line}", flush=True)
     return passed, failed
 
 

@@ -1,4 +1,5 @@
-"""What a script answers that is asked about itself: its page of help, which is its own text, and its version."""
+"""What a script answers that is asked about itself: its page of help, which is its own text, and its version; and what is wrong
+with words that are names alone."""
 
 from __future__ import annotations
 
@@ -19,6 +20,16 @@ def is_asked(name: str, page: str, words: list[str]) -> bool:
         write(name, f"{name} {number()}\n")
         return True
     return False
+
+
+def strange(names: list[str], most: int) -> str:
+    """What is wrong with words that have to be names, at most so many; nothing if all is right."""
+    unknown = next((word for word in names if word.startswith("-")), None)
+    if unknown is not None:
+        return f"unknown option {unknown}"
+    if "" in names:
+        return "an empty name"
+    return f"one word too many: {names[most]}" if len(names) > most else ""
 
 
 def write(name: str, text: str) -> None:

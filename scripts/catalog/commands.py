@@ -1,6 +1,7 @@
 """The commands that are installed, in one table: installation, packages, completions and tests take them from here.
 
-A new command is a line of COMMANDS, a crate or a file of scripts/, and a manual page of its name."""
+A new command is a line of COMMANDS, a crate or a file of scripts/, and a manual page of its name. Beside the commands stand the
+programs that aren't installed."""
 
 from __future__ import annotations
 
@@ -9,6 +10,11 @@ from pathlib import Path
 
 TOP = Path(__file__).resolve().parent.parent.parent
 ROBOT = str(TOP / "robots" / "runner.r")
+
+
+def built(crate: str) -> Path:
+    """Where the program of a crate is once it is built."""
+    return TOP / "crates" / crate / "out" / crate
 
 
 @dataclass(frozen=True)
@@ -21,21 +27,33 @@ class Program:
 
     @property
     def path(self) -> Path:
-        """Where it is once it is built."""
-        return TOP / "crates" / self.crate / "out" / self.crate
+        return built(self.crate)
 
 
 @dataclass(frozen=True)
 class Script:
-    """A command that is a script: its file in scripts/, and the folders there whose modules it takes."""
+    """A command that is a script: its file in scripts/, the folders there whose modules it takes, and the program that it can't do
+    without."""
 
     name: str
     file: str
     packages: tuple[str, ...]
+    runs: str
 
     @property
     def path(self) -> Path:
         return TOP / "scripts" / self.file
+
+
+@dataclass(frozen=True)
+class Example:
+    """A program that isn't installed: an example of how the crates are used (docs/library.md)."""
+
+    crate: str
+
+    @property
+    def path(self) -> Path:
+        return built(self.crate)
 
 
 Command = Program | Script
@@ -51,16 +69,19 @@ PROGRAMS = (
     Program("crobots-debug", "debug", ("--help",)),
 )
 SCRIPTS = (
-    Script("crobots-tournament", "tournament", ("tools", "tournaments", "sites", "replays")),
-    Script("crobots-challenge", "challenge", ("tools", "tournaments", "sites", "replays")),
-    Script("crobots-compare", "compare", ("tools", "comparisons", "tournaments", "sites", "replays")),
-    Script("crobots-league", "league", ("tools", "leagues", "tournaments", "sites", "replays")),
-    Script("crobots-replay", "replay", ("tools", "replays")),
-    Script("crobots-step", "step", ("tools", "stepping")),
+    Script("crobots-tournament", "tournament", ("tools", "tournaments", "sites", "replays"), "crobots"),
+    Script("crobots-challenge", "challenge", ("tools", "tournaments", "sites", "replays"), "crobots"),
+    Script("crobots-compare", "compare", ("tools", "comparisons", "tournaments", "sites", "replays"), "crobots-trace"),
+    Script("crobots-league", "league", ("tools", "leagues", "tournaments", "sites", "replays"), "crobots"),
+    Script("crobots-replay", "replay", ("tools", "replays"), "crobots-trace"),
+    Script("crobots-step", "step", ("tools", "stepping"), "crobots-debug"),
 )
 COMMANDS: tuple[Command, ...] = (*PROGRAMS, *SCRIPTS)
 # The game by itself, which is installed before the others.
 GAME = PROGRAMS[0]
+EXAMPLES = (Example("outline"), Example("folding"), Example("duel"))
+# The crate of the program whose host instructions bench/run counts.
+COUNTED = "drills"
 
 
 def packages() -> list[str]:

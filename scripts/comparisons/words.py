@@ -3,6 +3,7 @@
 from __future__ import annotations
 
 import argparse
+from typing import NoReturn
 
 from tools.faults import Fault
 from tournaments.words import CYCLES_MAX, DEFAULTS, MATCHES_MAX, SEED_MAX, Parser, within
@@ -10,14 +11,21 @@ from tournaments.words import CYCLES_MAX, DEFAULTS, MATCHES_MAX, SEED_MAX, Parse
 MOST_ROBOTS = 4
 
 
+class MatchParser(Parser):
+    """A parser of words that choose one match. Who asks for a number of matches is told how one is chosen."""
+
+    def error(self, message: str) -> NoReturn:
+        super().error(f"{message} (the match is -k)" if message.startswith("unrecognized arguments: -m") else message)
+
+
 def parser(name: str) -> Parser:
     """The words of `compare`, under the name by which it was called."""
-    it = Parser(prog=name, description="Plays a match once with a robot and once with its older version, "
-                                       "and shows where they first do something else.", allow_abbrev=False)
+    it = MatchParser(prog=name, description="Plays a match once with a robot and once with its older version, "
+                                            "and shows where they first do something else.", allow_abbrev=False)
     it.add_version()
     it.add_argument("--old", metavar="OLD", required=True, help="the older version")
     it.add_argument("--robot", metavar="N", type=within(1, MOST_ROBOTS), default=1, help="number of the newer version among the files (default 1)")
-    it.add_argument("-k", dest="match", metavar="MATCH", type=within(1, MATCHES_MAX), default=1, help="number of the match (default 1)")
+    it.add_argument("-k", "-f", dest="match", metavar="MATCH", type=within(1, MATCHES_MAX), default=1, help="number of the match (default 1)")
     it.add_argument("-l", dest="cycles", metavar="CYCLES", type=within(1, CYCLES_MAX), default=DEFAULTS["cycles"],
                     help="most cycles of the match (default 500000)")
     it.add_argument("-s", dest="seed", metavar="SEED", type=within(0, SEED_MAX), default=DEFAULTS["seed"],

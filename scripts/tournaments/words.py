@@ -6,7 +6,7 @@ import argparse
 import os
 import re
 from decimal import Decimal
-from typing import Callable, NoReturn
+from typing import Any, Callable, NoReturn
 
 from tools.faults import Fault
 from tools.output import show
@@ -74,8 +74,20 @@ class Version(argparse.Action):
         parser.exit()
 
 
+class Help(argparse.HelpFormatter):
+    """A page of help on which an option's value stands once, behind all its names."""
+
+    def _format_action_invocation(self, action: argparse.Action) -> str:
+        if len(action.option_strings) < 2 or not action.metavar:
+            return super()._format_action_invocation(action)
+        return f"{', '.join(action.option_strings)} {action.metavar}"
+
+
 class Parser(argparse.ArgumentParser):
     """A parser whose faults are one line, and whose help is written as other output is."""
+
+    def __init__(self, **how: Any) -> None:
+        super().__init__(formatter_class=Help, **how)
 
     def add_version(self) -> None:
         """Takes `--version`, too."""

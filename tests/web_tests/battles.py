@@ -3,17 +3,15 @@
 from __future__ import annotations
 
 import getopt
-import importlib.machinery
-import importlib.util
 import itertools
 import os
 import random
 import re
 import subprocess
-import sys
 import tempfile
 from dataclasses import dataclass, field
-from types import ModuleType
+
+from harness import loaded
 
 HERE = os.path.dirname(os.path.abspath(__file__))
 ROBOTS = os.path.join(HERE, "..", "..", "robots")
@@ -143,17 +141,6 @@ def outcome(report: bytes) -> tuple[int, list[int]]:
     return int(first.splitlines()[0].split()[-1]), [int(damage) for damage in re.findall(r"damage +(\d+)%", first)]
 
 
-def script(name: str) -> ModuleType:
-    """A test script of this folder's parent, as a module."""
-    loader = importlib.machinery.SourceFileLoader(name, os.path.join(HERE, "..", name))
-    spec = importlib.util.spec_from_loader(name, loader)
-    assert spec
-    made = importlib.util.module_from_spec(spec)
-    sys.modules[name] = made
-    loader.exec_module(made)
-    return made
-
-
 def samples() -> list[tuple[str, bytes]]:
     """The sample robots."""
     robots = []
@@ -174,7 +161,7 @@ def sample_battles() -> list[Battle]:
 
 def random_battles(count: int, seed: int = 5) -> list[Battle]:
     """Battles of robots that a generator made."""
-    made, random_ = script("random_battles"), random.Random(seed)
+    made, random_ = loaded("random_battles"), random.Random(seed)
     battles = []
     for _ in range(count):
         drawn = made.Battle.drawn(random_)
@@ -191,5 +178,5 @@ def deepest() -> bytes:
 
 def hostile_battles() -> list[Battle]:
     """The sources with each fault and at each limit, to be listed."""
-    cases = script("hostile_sources").CASES
+    cases = loaded("hostile_sources").CASES
     return [Battle([("a.r", case.source)], Settings(profile=case.profile), "list") for case in cases]

@@ -9,8 +9,10 @@ import shutil
 import sys
 from typing import Any, Callable, ContextManager, Iterator
 
+from harness import loaded
+
 from . import everyone, helping, inside, keeping, paths, robust, seeing
-from .battles import Battle, Mistake, Settings, mistakes, outcome, random_battles, sample_battles, samples, script, vectors
+from .battles import Battle, Mistake, Settings, mistakes, outcome, random_battles, sample_battles, samples, vectors
 from .pages import Page, as_loaded, chromium, console, served, without
 
 DEBIAN = "/usr/lib/python3/dist-packages"
@@ -53,7 +55,7 @@ def reports(page: Page, crobots: str, battles: list[Battle]) -> list[str]:
 def diagnostics() -> dict[str, tuple[bytes, int]]:
     """For each diagnostic a source that has it, as short as can be, and its line."""
     found: dict[str, tuple[bytes, int]] = {}
-    for case in script("hostile_sources").CASES:
+    for case in loaded("hostile_sources").CASES:
         if case.is_faulty and case.profile == 1 and case.source.isascii():
             _, line, text = case.lines[0].split(":")
             known = found.get(text.strip())

@@ -4,7 +4,7 @@ use cycles::Span;
 use facts::{Facts, Link, Part, Stretch};
 use grammar::Intrinsic;
 use std::str;
-use tools::Text;
+use tools::{Text, visible};
 
 /// Adds what is known of a robot as an object, and a line end.
 pub fn add_object(text: &mut impl Text, path: &str, facts: &Facts) {
@@ -145,8 +145,7 @@ fn add_words(text: &mut impl Text, words: &str) {
         match character {
             '"' => text.add("\\\""),
             '\\' => text.add("\\\\"),
-            '\0'..='\x1f' => text.add("?"),
-            other => text.push(other),
+            other => text.push(visible(other)),
         }
     }
     text.push('"');

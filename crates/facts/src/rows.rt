@@ -7,15 +7,18 @@ use cycles::Span;
 use grammar::Intrinsic;
 use room::Room;
 use std::str;
-use tools::{Text, add_left, add_right};
+use tools::{Text, add_left, add_right, visible};
 
 /// The width of the longest name of a function that is laid out in a column.
 const NAMES: usize = 12;
 
 /// Adds a line on the room that a robot needs, one for each of its functions and of its loops, and lines on what lies
-/// between the questions of each loop's turn, if it asks so much.
+/// between the questions of each loop's turn, if it asks so much. A control character of the file's name is shown as a
+/// question mark.
 pub fn add_rows(text: &mut impl Text, path: &str, facts: &Facts) {
-    text.add(path);
+    for character in path.chars() {
+        text.push(visible(character));
+    }
     text.add(": ");
     add_room(text, facts);
     for part in &facts.functions {

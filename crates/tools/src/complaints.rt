@@ -42,6 +42,10 @@ pub fn tell_wrong(rt: &HostRuntime, program: &str, options: &Options<'_>, wrong:
             let (one, other) = (Dashed(one), Dashed(other));
             eprintln!(rt; "{program}: {one} and {other} exclude each other")
         }
+        Wrong::Alone(one, other) => {
+            let (one, other) = (Dashed(one), Dashed(other));
+            eprintln!(rt; "{program}: {one} without {other}")
+        }
         Wrong::Files => eprintln!(rt; "{program}: over four files"),
     };
 }

@@ -32,6 +32,8 @@ pub enum Wrong {
     Order,
     /// Only one of these two options may be given.
     Both(&'static str, &'static str),
+    /// The first of these two options may only be given with the other.
+    Alone(&'static str, &'static str),
     /// There are more files than robots may fight.
     Files,
 }

@@ -16,7 +16,7 @@ use std::alloc::Global;
 use std::process::ExitCode;
 use tokens::{MemoryFeed, WINDOW_BYTES};
 use tools::{
-    Fault, Known, Options, Output, PROFILE_OPTIONS, Plain, ProgramFrame, TellsOfFile, Work,
+    Fault, Known, Options, Output, PROFILE_OPTIONS, Plain, ProgramFrame, TellsOfFile, Work, Wrong,
     profile, source_of, tell_files,
 };
 
@@ -67,7 +67,7 @@ impl Wish {
     fn read(options: &Options<'_>) -> Result<Wish, Fault> {
         let (lint, strict) = (options.has("lint"), options.has("strict"));
         if strict && !lint {
-            return Err(Fault::Usage);
+            return Err(Fault::Wrong(Wrong::Alone("strict", "lint")));
         }
         Ok(Wish {
             profile: profile(options)?,
