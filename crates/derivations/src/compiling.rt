@@ -1,10 +1,11 @@
 //! What a source compiles to.
 
-ghost use Rattle.std.specs.Prelude.{◌≡◌, ◌≢◌, ℕ, IfErr, IfOk, List, Some};
+ghost use Rattle.std.specs.Prelude.{◌≡◌, ◌≢◌, ℕ, IfErr, IfOk, IfSome, List, Some, length};
 ghost use Rattle.derivations.specs.Compiling.{IsCompiled, IsFirstFault};
 ghost use Rattle.parser.specs.Segment.{CountsRefusal};
 ghost use Rattle.tokens.specs.Feed.{MayRead};
 
+use crate::addresses::{SourcePositions, lines};
 use code::{Maker, Program};
 use grammar::{ParseFault, Pools, Profile};
 use parser::parse;
@@ -38,4 +39,17 @@ pub fn compile<F: Feed>(profile: Profile, feed: &mut F) -> Result<Compiled, Pars
     let names = parse(feed, &mut maker)?;
     let program = maker.finish(&names);
     Ok(Compiled { program, names })
+}
+
+/// Finds the position of each instruction of a program in the source that it was compiled from. `None` if these are not
+/// as many as the program has: that is so for another source, and tests look that it isn't for its own.
+pub fn positions_of(program: &Program, source: &[u8]) -> Option<SourcePositions>
+    ensures each { IfSome result (λ positions. length positions ≡ length program.now.instructions) }
+{
+    let positions = lines(source, program.profile())?;
+    if positions.len() == program.instructions().len() {
+        Some(positions)
+    } else {
+        None
+    }
 }

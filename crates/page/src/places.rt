@@ -1,13 +1,10 @@
 //! The place in its source that each instruction of a robot comes from.
 
-ghost use Rattle.std.specs.Prelude.{◌≡◌, ◌≤◌, All, IfSome, length};
-
 use crate::robots::RobotFile;
 use crate::rows::Row;
 use crate::sheets::Sheet;
 use arrayvec::ArrayVec;
-use code::Program;
-use derivations::{SourcePositions, lines};
+use derivations::{SourcePositions, positions_of};
 use series::{MOST_FILES, Programs};
 use watching::{Event, Field};
 
@@ -22,23 +19,10 @@ pub(crate) fn places_of(
     let mut found = ArrayVec::new();
     for (file, robot) in robots.iter().enumerate() {
         if file < programs.len() {
-            let _ = found.try_push(places_in(programs.program(file), robot.source()));
+            let _ = found.try_push(positions_of(programs.program(file), robot.source()));
         }
     }
     found
-}
-
-/// Finds the place of each instruction of a program in the source that it was made of. `None` if these are not as many
-/// as the program has.
-fn places_in(program: &Program, source: &[u8]) -> Option<SourcePositions>
-    ensures each { IfSome result (λ places. length places ≡ length program.now.instructions) }
-{
-    let places = lines(source, program.profile())?;
-    if places.len() == program.instructions().len() {
-        Some(places)
-    } else {
-        None
-    }
 }
 
 /// Writes the places of the instructions of each file on a blank sheet, a row each.
