@@ -7,7 +7,7 @@ use crate::requests::View;
 use arena::{Arena, DEADLY, MOST_ROBOTS};
 use arrayvec::ArrayVec;
 use settings::Settings;
-use watching::{Exchange, Path, Pilot, Place, Shot, Shots, Turn, UPDATE_CYCLES, Watcher};
+use watching::{Exchange, Path, Pilot, Place, Shot, Shots, Turn, UPDATE_CYCLES, Watcher, play};
 
 /// The most times that a robot's damage grows: each time by a percent at least.
 const MOST_GROWTHS: usize = 100;
@@ -22,7 +22,7 @@ pub struct Growth {
 }
 
 /// What is recorded of a robot.
-#[derive(Drop)]
+#[derive(Default, Drop)]
 pub struct Track {
     /// The update after which it was at the first place of its path.
     pub first: u32,
@@ -36,19 +36,6 @@ pub struct Track {
     pub damage: u8,
     /// How its damage grew.
     pub growths: ArrayVec<Growth, MOST_GROWTHS>,
-}
-
-impl Default for Track {
-    fn default() -> Track {
-        Track {
-            first: 0,
-            path: Path::new(),
-            end: Place::default(),
-            death: None,
-            damage: 0,
-            growths: ArrayVec::new(),
-        }
-    }
 }
 
 impl Track {
@@ -98,6 +85,8 @@ impl Track {
 /// What is recorded of a match.
 #[derive(Drop)]
 pub struct Recording {
+    /// What of it is drawn.
+    view: View,
     /// How many cycles it had.
     pub cycles: u32,
     /// The robots, in order.
@@ -113,42 +102,7 @@ impl Recording {
     {
         self.cycles / UPDATE_CYCLES
     }
-}
 
-/// Plays the match that is asked for, and records what of it is drawn.
-pub fn record(pilots: &mut [Pilot<'_>], wish: &Settings<'_>, view: View) -> Recording
-    requires some { 2 ≤ length pilots.old }
-    requires most { length pilots.old ≤ MOST_ROBOTS }
-    ensures { result.cycles ≤ wish.now.limit }
-{
-    let mut recorder = MatchRecorder {
-        view,
-        tracks: ArrayVec::new(),
-        shots: Shots::new(),
-    };
-    let ending = watching::play(
-        pilots,
-        &mut recorder,
-        wish.seed(),
-        wish.first(),
-        wish.limit(),
-    );
-    Recording {
-        cycles: ending.cycles,
-        tracks: recorder.tracks,
-        shots: recorder.shots,
-    }
-}
-
-/// The watcher that makes a recording.
-#[derive(Drop)]
-struct MatchRecorder {
-    view: View,
-    tracks: ArrayVec<Track, MOST_ROBOTS>,
-    shots: Shots,
-}
-
-impl MatchRecorder {
     /// Records what each robot suffered up to the update of this number, and where it is, if that is drawn.
     fn watch(&mut self, arena: &Arena, update: u32) {
         let cycle = update.saturating_mul(UPDATE_CYCLES);
@@ -179,7 +133,25 @@ impl MatchRecorder {
     }
 }
 
-impl Watcher for MatchRecorder {
+/// Plays the match that is asked for, and records what of it is drawn.
+pub fn record(pilots: &mut [Pilot<'_>], wish: &Settings<'_>, view: View) -> Recording
+    requires some { 2 ≤ length pilots.old }
+    requires most { length pilots.old ≤ MOST_ROBOTS }
+    ensures { result.cycles ≤ wish.now.limit }
+{
+    let mut recording = Recording {
+        view,
+        cycles: 0,
+        tracks: ArrayVec::new(),
+        shots: Shots::new(),
+    };
+    let (seed, number, limit) = (wish.seed(), wish.first(), wish.limit());
+    let ending = play(pilots, &mut recording, seed, number, limit);
+    recording.cycles = ending.cycles;
+    recording
+}
+
+impl Watcher for Recording {
     fn begins(&mut self, arena: &Arena) {
         for _ in 0..arena.robot_count() {
             let _ = self.tracks.try_push(Track::default());
