@@ -4,7 +4,7 @@ ghost use Rattle.std.specs.Prelude.{◌≡◌, ◌<◌, ◌≤◌, IfOk, length}
 
 use code::{Profile, Program};
 use derivations::{SourcePositions, lines};
-use grammar::Pools;
+use grammar::{Name, Pools};
 use settings::{MOST_FILES, Settings};
 use std::alloc::{AllocError, Global};
 use std::str;
@@ -34,17 +34,10 @@ impl Note {
         }
     }
 
-    /// Returns the line that the instruction of an address of the file's program comes from, and the name of its
-    /// function.
-    pub fn place(&self, program: &Program, address: usize) -> (u32, &str) {
-        let function = function_at(program.addresses(), address);
-        (self.line(address), self.function_name(function))
-    }
-
     /// Returns the name of the function of this number.
     pub fn function_name(&self, number: usize) -> &str {
         match self.names.functions().get(number) {
-            Some(function) => str::from_utf8(function.name().as_bytes()).unwrap_or("?"),
+            Some(function) => name_text(function.name()),
             None => "?",
         }
     }
@@ -57,15 +50,6 @@ impl Note {
         }
         rest.get(..line_length(rest)).unwrap_or(&[])
     }
-}
-
-/// A program, and what is known of its file beside it.
-#[derive(Clone, Copy)]
-pub struct NotedProgram<'a> {
-    /// What is known of the file.
-    pub note: &'a Note,
-    /// The program.
-    pub program: &'a Program,
 }
 
 /// Returns what follows the first line of a text.
@@ -84,24 +68,38 @@ fn line_length(text: &[u8]) -> usize {
     text.len()
 }
 
-/// Returns the note of a robot's file: a single file is both robots'.
-pub fn note_of(notes: &[Note], robot: usize) -> Option<&Note> {
-    match notes {
-        [only] => Some(only),
-        _ => notes.get(robot),
-    }
+/// Returns a name as text.
+pub fn name_text(name: &Name) -> &str {
+    str::from_utf8(name.as_bytes()).unwrap_or("?")
 }
 
-/// Returns the line that the instruction of an address of a robot's program comes from, and the name of its function.
-pub fn place_of<'a>(
-    notes: &'a [Note],
-    robot: usize,
-    program: &Program,
-    address: usize,
-) -> (u32, &'a str) {
-    match note_of(notes, robot) {
-        Some(note) => note.place(program, address),
-        None => (0, "?"),
+/// A program, and what is known of its file beside it.
+#[derive(Clone, Copy)]
+pub struct NotedProgram<'a> {
+    /// What is known of the file.
+    pub note: &'a Note,
+    /// The program.
+    pub program: &'a Program,
+}
+
+impl<'a> NotedProgram<'a> {
+    /// Returns the number of the function that holds an address.
+    pub fn function(&self, address: usize) -> usize {
+        function_at(self.program.addresses(), address)
+    }
+
+    /// Returns the line that the instruction of an address comes from, and the name of its function.
+    pub fn place(&self, address: usize) -> (u32, &'a str) {
+        let function = self.function(address);
+        (self.note.line(address), self.note.function_name(function))
+    }
+
+    /// Returns the names of the variables of the function that holds an address.
+    pub(crate) fn variables(&self, address: usize) -> &'a [Name] {
+        match self.note.names.functions().get(self.function(address)) {
+            Some(function) => function.variables(),
+            None => &[],
+        }
     }
 }
 
@@ -112,6 +110,26 @@ pub struct Sources {
     pub programs: Vec<Program>,
     /// What is known beside them.
     pub notes: Vec<Note>,
+}
+
+impl Sources {
+    /// Returns a robot's program and what is known of its file: a single file is both robots'.
+    pub fn robot(&self, robot: usize) -> Option<NotedProgram<'_>> {
+        let file = if self.notes.len() == 1 { 0 } else { robot };
+        Some(NotedProgram {
+            note: self.notes.get(file)?,
+            program: self.programs.get(file)?,
+        })
+    }
+
+    /// Returns the line that the instruction of an address of a robot's program comes from, and the name of its
+    /// function.
+    pub fn place(&self, robot: usize, address: usize) -> (u32, &str) {
+        match self.robot(robot) {
+            Some(noted) => noted.place(address),
+            None => (0, "?"),
+        }
+    }
 }
 
 /// Compiles the files of a wish, and writes the diagnostic of each faulty one, or a line about the first that can't be
@@ -147,10 +165,8 @@ fn compiled_file(
     word: &str,
 ) -> Result<Option<(Program, Note)>, Fault> {
     let text = source_of(rt, program, word)?;
-    match compile(
-        wish.profile(),
-        &mut MemoryFeed::new(text.as_slice(), WINDOW_BYTES),
-    ) {
+    let mut feed = MemoryFeed::new(text.as_slice(), WINDOW_BYTES);
+    match compile(wish.profile(), &mut feed) {
         Ok(Ok(Compiled { program, names })) => {
             let note = noted(rt.alloc(), wish.profile(), word, text, names)?;
             Ok(Some((program, note)))
@@ -171,13 +187,11 @@ fn noted(
     text: Vec<u8>,
     names: Pools,
 ) -> Result<Note, Fault> {
-    // the source of a program has a place for each instruction
-    let places = lines(text.as_slice(), profile).ok_or(Fault::Source)?;
-    let name = plain(alloc, name_of(word).as_bytes())?;
     Ok(Note {
-        name,
+        name: plain(alloc, name_of(word).as_bytes())?,
+        // the source of a program has a place for each instruction
+        places: lines(text.as_slice(), profile).ok_or(Fault::Source)?,
         text,
-        places,
         names,
     })
 }

@@ -1,12 +1,11 @@
 //! Where and why a robot restarted.
 
 use crate::items::Items;
-use crate::subjects::Subject;
-use crate::tallies::{add, take_largest};
+use crate::reports::Subject;
+use crate::tallies::{add, largest_first};
 use code::{Cause, Frame};
-use notes::Note;
 use std::alloc::{AllocError, Global};
-use tools::{Draft, Text};
+use tools::Draft;
 
 /// The most places of restarts that the report has.
 const MOST_TOLD: usize = 10;
@@ -53,12 +52,9 @@ fn calls_to(frames: &[Frame], back: u16) -> usize {
 /// are one.
 pub fn add_restarts(text: &mut Draft, subject: &Subject<'_>) -> Result<(), AllocError> {
     let mut items = Items::new("restarts", text, subject.columns);
-    let mut counts = restarts_by_place(text.alloc(), subject)?;
-    for _ in 0..MOST_TOLD {
-        let Some((address, count)) = take_largest(counts.as_mut_slice()) else {
-            break;
-        };
-        add_restart(items.begin(), address, count, subject);
+    let counts = restarts_by_place(text.alloc(), subject)?;
+    for (address, count) in &largest_first(counts, MOST_TOLD)? {
+        add_restart(items.begin(), *address, *count, subject);
     }
     items.end(text)
 }
@@ -93,45 +89,25 @@ fn place_and_cause(address: usize, subject: &Subject<'_>) -> (u32, usize, Option
         Some(spot) => spot.cause,
         None => None,
     };
-    let line = subject.note.line(address);
-    (line, subject.function(address), cause)
+    let noted = subject.noted;
+    (noted.note.line(address), noted.function(address), cause)
 }
 
-/// Adds the given number of restarts at an address.
+/// Adds the given number of restarts at an address, and how many of the open calls were from one line.
 fn add_restart(item: &mut Draft, address: usize, count: u64, subject: &Subject<'_>) {
     let Some(spot) = subject.tally.spots.get(address) else {
         return;
     };
-    let (line, function) = subject.place(address);
-    item.number(count);
-    item.add(" in line ");
-    item.number(u64::from(line));
-    item.add(" of ");
-    item.add(function);
-    item.add(": ");
-    item.add(reason(spot.cause));
+    let (line, function) = subject.noted.place(address);
+    let (reason, from) = match spot.cause {
+        Some(Cause::Words) => ("stack full", "calls open from"),
+        Some(Cause::Frames) => ("too many calls open", "from"),
+        Some(Cause::Returned) => ("main returned", "calls open from"),
+        None => ("", ""),
+    };
+    write!(item, "{count} in line {line} of {function}: {reason}");
     if let Some(crowd) = spot.crowd {
-        add_crowd(item, spot.cause, &crowd, subject.note);
-    }
-}
-
-/// Adds how many of the open calls were from one line.
-fn add_crowd(item: &mut Draft, cause: Option<Cause>, crowd: &Crowd, note: &Note) {
-    item.add(", ");
-    item.number(crowd.calls as u64);
-    item.add(match cause {
-        Some(Cause::Frames) => " from line ",
-        Some(Cause::Words) | Some(Cause::Returned) | None => " calls open from line ",
-    });
-    item.number(u64::from(note.line(crowd.address)));
-}
-
-/// Returns the words for the cause of a restart.
-fn reason(cause: Option<Cause>) -> &'static str {
-    match cause {
-        Some(Cause::Words) => "stack full",
-        Some(Cause::Frames) => "too many calls open",
-        Some(Cause::Returned) => "main returned",
-        None => "",
+        let line = subject.noted.note.line(crowd.address);
+        write!(item, ", {} {from} line {line}", crowd.calls);
     }
 }
