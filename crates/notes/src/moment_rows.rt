@@ -65,9 +65,9 @@ fn life(is_alive: bool) -> &'static str {
 /// Adds where the next instruction stands, the instruction as a listing has it, and the name of the variable or
 /// function in it.
 fn add_next(text: &mut Draft, noted: &NotedProgram<'_>, address: usize) -> Result<(), AllocError> {
-    let (line, function) = noted.place(address);
-    let column = match noted.note.places.place(address) {
-        Some(place) => place.column,
+    let (line, function) = noted.position(address);
+    let column = match noted.note.positions.place(address) {
+        Some(position) => position.column,
         None => 0,
     };
     writeln!(text, "at\t{address}\t{line}\t{column}\t{function}");
@@ -110,7 +110,7 @@ fn add_calls(text: &mut Draft, noted: &NotedProgram<'_>, machine: &Machine) {
     for frame in machine.frames().iter().rev() {
         // the first frame is main's, and each other call that has begun has an address to return to
         if depth == 1 || frame.back > 0 {
-            let (line, function) = noted.place(address);
+            let (line, function) = noted.position(address);
             writeln!(text, "call\t{depth}\t{line}\t{function}");
             let words = machine.words().get(usize::from(frame.base)..);
             add_values(

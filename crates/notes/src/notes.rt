@@ -20,7 +20,7 @@ pub struct Note {
     /// Its text.
     pub text: Vec<u8>,
     /// Where its instructions come from.
-    pub places: SourcePositions,
+    pub positions: SourcePositions,
     /// The names of its functions and variables.
     pub names: Pools,
 }
@@ -28,8 +28,8 @@ pub struct Note {
 impl Note {
     /// Returns the line that the instruction of an address comes from, 0 if there is none.
     pub fn line(&self, address: usize) -> u32 {
-        match self.places.place(address) {
-            Some(place) => place.line,
+        match self.positions.place(address) {
+            Some(position) => position.line,
             None => 0,
         }
     }
@@ -89,7 +89,7 @@ impl<'a> NotedProgram<'a> {
     }
 
     /// Returns the line that the instruction of an address comes from, and the name of its function.
-    pub fn place(&self, address: usize) -> (u32, &'a str) {
+    pub fn position(&self, address: usize) -> (u32, &'a str) {
         let function = self.function(address);
         (self.note.line(address), self.note.function_name(function))
     }
@@ -124,9 +124,9 @@ impl Sources {
 
     /// Returns the line that the instruction of an address of a robot's program comes from, and the name of its
     /// function.
-    pub fn place(&self, robot: usize, address: usize) -> (u32, &str) {
+    pub fn position(&self, robot: usize, address: usize) -> (u32, &str) {
         match self.robot(robot) {
-            Some(noted) => noted.place(address),
+            Some(noted) => noted.position(address),
             None => (0, "?"),
         }
     }
@@ -189,8 +189,8 @@ fn noted(
 ) -> Result<Note, Fault> {
     Ok(Note {
         name: plain(alloc, name_of(word).as_bytes())?,
-        // the source of a program has a place for each instruction
-        places: lines(text.as_slice(), profile).ok_or(Fault::Source)?,
+        // the source of a program has a position for each instruction
+        positions: lines(text.as_slice(), profile).ok_or(Fault::Source)?,
         text,
         names,
     })

@@ -83,8 +83,8 @@ impl Clock {
 
     /// Sets the mark of an address.
     fn mark(&mut self, address: usize, mark: Mark) {
-        if let Some(place) = self.marks.get_mut(address) {
-            *place = mark;
+        if let Some(kept) = self.marks.get_mut(address) {
+            *kept = mark;
         }
     }
 

@@ -105,7 +105,7 @@ impl Watcher for Events<'_> {
 
     fn restarts(&mut self, turn: Turn, pilot: &Pilot<'_>, cause: Cause) {
         let Turn { cycle, robot } = turn;
-        let (line, function) = self.sources.place(robot, pilot.machine().address());
+        let (line, function) = self.sources.position(robot, pilot.machine().address());
         let cause = word_of(cause);
         self.camera.restart(cycle, robot, cause, function, line);
     }

@@ -15,7 +15,7 @@ const TOLD_PART: u64 = 10;
 const DEGREES: &str =
     "   degrees           0      45      90     135     180     225     270     315\n";
 
-/// Adds the longest streak of calls from one place, if it took much of the robot's time: how many, of what, and where.
+/// Adds the longest streak of calls from one address, if it took much of the robot's time: how many, of what, and where.
 pub fn add_streak(text: &mut Draft, subject: &Subject<'_>) -> Result<(), AllocError> {
     let Some(streak) = subject.tally.longest else {
         return Ok(());
@@ -24,7 +24,7 @@ pub fn add_streak(text: &mut Draft, subject: &Subject<'_>) -> Result<(), AllocEr
     if streak.count == 1 || cycles < subject.tally.cycles() / TOLD_PART {
         return Ok(());
     }
-    let (line, function) = subject.noted.place(streak.first.address);
+    let (line, function) = subject.noted.position(streak.first.address);
     let (count, name) = (streak.count, streak.first.intrinsic.name());
     let mut items = Items::new("in a row", text, subject.columns);
     write!(items.begin(), "{count} {name} in line {line} of {function}");

@@ -45,7 +45,7 @@ impl<'a> Insides<'a> {
             return None;
         }
         inside.address = Some(address);
-        let (line, function) = self.sources.place(turn.robot, address);
+        let (line, function) = self.sources.position(turn.robot, address);
         let fields = [Field::Number(i64::from(line)), Field::Text(function)];
         Some(Event::new("line", &fields))
     }

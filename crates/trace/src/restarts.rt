@@ -7,10 +7,10 @@ use code::{Cause, Frame};
 use std::alloc::{AllocError, Global};
 use tools::Draft;
 
-/// The most places of restarts that the report has.
+/// The most positions of restarts that the report has.
 const MOST_TOLD: usize = 10;
 
-/// Open calls from one place of a program.
+/// Open calls from one address of a program.
 #[derive(Clone, Copy, Drop)]
 pub struct Crowd {
     /// The address of the call.
@@ -19,8 +19,8 @@ pub struct Crowd {
     pub calls: usize,
 }
 
-/// Returns the place from which most of the open calls were made, if there are several from one place: the first of
-/// several such places.
+/// Returns the address from which most of the open calls were made, if there are several from one address: the first of
+/// several such addresses.
 pub fn crowd_of(frames: &[Frame]) -> Option<Crowd> {
     let mut found = None;
     let mut most = 1;
@@ -48,11 +48,11 @@ fn calls_to(frames: &[Frame], back: u16) -> usize {
     calls
 }
 
-/// Adds where and why a robot restarted, the most frequent places first. Those in one line of a function for one cause
+/// Adds where and why a robot restarted, the most frequent positions first. Those in one line of a function for one cause
 /// are one.
 pub fn add_restarts(text: &mut Draft, subject: &Subject<'_>) -> Result<(), AllocError> {
     let mut items = Items::new("restarts", text, subject.columns);
-    let counts = restarts_by_place(text.alloc(), subject)?;
+    let counts = restarts_by_position(text.alloc(), subject)?;
     for (address, count) in &largest_first(counts, MOST_TOLD)? {
         add_restart(items.begin(), *address, *count, subject);
     }
@@ -60,7 +60,7 @@ pub fn add_restarts(text: &mut Draft, subject: &Subject<'_>) -> Result<(), Alloc
 }
 
 /// Returns how often a robot restarted at each address: what is alike counts for the first address of it.
-fn restarts_by_place(alloc: Global, subject: &Subject<'_>) -> Result<Vec<u64>, AllocError> {
+fn restarts_by_position(alloc: Global, subject: &Subject<'_>) -> Result<Vec<u64>, AllocError> {
     let mut counts = Vec::new(alloc);
     for (address, spot) in subject.tally.spots.iter().enumerate() {
         counts.push(0)?;
@@ -74,9 +74,9 @@ fn restarts_by_place(alloc: Global, subject: &Subject<'_>) -> Result<Vec<u64>, A
 
 /// Returns the first address at which the robot restarted for the same cause in the same line and function.
 fn first_alike(address: usize, subject: &Subject<'_>) -> usize {
-    let here = place_and_cause(address, subject);
+    let here = position_and_cause(address, subject);
     for before in 0..address {
-        if place_and_cause(before, subject) == here {
+        if position_and_cause(before, subject) == here {
             return before;
         }
     }
@@ -84,7 +84,7 @@ fn first_alike(address: usize, subject: &Subject<'_>) -> usize {
 }
 
 /// Returns the line and the function of an address, and why the robot restarted there, if it did.
-fn place_and_cause(address: usize, subject: &Subject<'_>) -> (u32, usize, Option<Cause>) {
+fn position_and_cause(address: usize, subject: &Subject<'_>) -> (u32, usize, Option<Cause>) {
     let cause = match subject.tally.spots.get(address) {
         Some(spot) => spot.cause,
         None => None,
@@ -98,7 +98,7 @@ fn add_restart(item: &mut Draft, address: usize, count: u64, subject: &Subject<'
     let Some(spot) = subject.tally.spots.get(address) else {
         return;
     };
-    let (line, function) = subject.noted.place(address);
+    let (line, function) = subject.noted.position(address);
     let (reason, from) = match spot.cause {
         Some(Cause::Words) => ("stack full", "calls open from"),
         Some(Cause::Frames) => ("too many calls open", "from"),

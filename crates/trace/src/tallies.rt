@@ -24,7 +24,7 @@ pub struct AddressCounts {
     pub restarts: u64,
     /// Why the last restart came.
     pub cause: Option<Cause>,
-    /// The place from which most calls were open at the last restart.
+    /// The address from which most calls were open at the last restart.
     pub crowd: Option<Crowd>,
 }
 
@@ -136,7 +136,7 @@ impl RobotCounts {
         if let Some(calls) = self.calls.get_mut(question.intrinsic as usize) {
             calls.count(question);
         }
-        self.turn_to(question);
+        self.count_direction(question);
         self.follow(Call {
             cycle,
             address,
@@ -146,7 +146,7 @@ impl RobotCounts {
     }
 
     /// Counts the direction of a call, its first argument, if the robot sees another one, shoots, or asks to drive there.
-    fn turn_to(&mut self, question: &Exchange) {
+    fn count_direction(&mut self, question: &Exchange) {
         let direction = direction_of(question.arguments[0]);
         match question.intrinsic {
             Intrinsic::Scan if question.reply > 0 => add(&mut self.saw, direction, 1),

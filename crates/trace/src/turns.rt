@@ -69,7 +69,7 @@ impl Watcher for Turns<'_> {
 
     fn asked(&mut self, turn: Turn, pilot: &Pilot<'_>, question: Exchange, _arena: &Arena) {
         if !self.is_stepwise && self.rows.span.has(turn.cycle, turn.robot) {
-            let (line, function) = self.sources.place(turn.robot, pilot.machine().address());
+            let (line, function) = self.sources.position(turn.robot, pilot.machine().address());
             let text = &mut self.rows.text;
             add_turn(text, turn);
             write!(text, "{function}\t{line}\t");

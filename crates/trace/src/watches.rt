@@ -103,7 +103,7 @@ impl Robot<'_> {
             let after = value_of(pilot.machine(), watched.variable);
             if after != watched.before && self.has_seen(pilot.machine(), watched.variable) {
                 let robot = self.number;
-                let (line, function) = self.noted.place(self.address);
+                let (line, function) = self.noted.position(self.address);
                 let (name, before) = (watched.name, watched.before);
                 add_turn(&mut rows.text, Turn { cycle, robot });
                 writeln!(rows.text, "{function}\t{line}\t{name}\t{before}\t{after}");
