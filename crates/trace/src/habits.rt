@@ -63,10 +63,13 @@ fn add_answers(text: &mut Draft, intrinsic: Intrinsic, calls: &Calls) {
 
 /// Adds the least and the greatest reply after some words, one if they are the same: nothing if there are none.
 fn add_replies(text: &mut Draft, before: &str, replies: Option<[i32; 2]>) {
-    match replies {
-        Some([least, most]) if least < most => write!(text, "{before}{least} to {most}"),
-        Some([only, _]) => write!(text, "{before}{only}"),
-        None => {}
+    let Some(span) = replies else {
+        return;
+    };
+    let [least, most] = span;
+    write!(text, "{before}{least}");
+    if least < most {
+        write!(text, " to {most}");
     }
 }
 

@@ -61,8 +61,9 @@ impl<'a> Rows<'a> {
     /// Writes what is left, and returns the first fault if there was one.
     pub fn finish(mut self) -> Result<(), Fault> {
         self.pass();
+        let rt = self.rt;
         self.state?;
-        self.output.finish(self.rt)
+        self.output.finish(rt)
     }
 }
 

@@ -165,10 +165,9 @@ impl RobotCounts {
             streak = last;
         }
         self.streak = Some(streak);
-        match self.longest {
-            Some(longest) if streak.cycles() <= longest.cycles() => {}
-            _ => self.longest = Some(streak),
-        }
+        let longest = self.longest.unwrap_or(streak);
+        let is_longer = longest.cycles() < streak.cycles();
+        self.longest = Some(if is_longer { streak } else { longest });
     }
 
     /// Counts a restart at an address, with these frames open.

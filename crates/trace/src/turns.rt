@@ -115,11 +115,12 @@ fn add_step(
 
 /// Adds the names of externals whose values changed, each with its new value.
 fn add_changes(text: &mut Draft, names: &[Name], before: &[i32], after: &[i32]) {
-    let mut gap = "";
+    let mut is_first = true;
     for ((name, old), new) in names.iter().zip(before).zip(after) {
         if new != old {
-            write!(text, "{gap}{}={new}", name_text(name));
-            gap = " ";
+            text.add(if is_first { "" } else { " " });
+            write!(text, "{}={new}", name_text(name));
+            is_first = false;
         }
     }
 }
