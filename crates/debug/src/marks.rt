@@ -41,19 +41,11 @@ pub fn mark_function(
 /// Reports whether the line of an instruction is entered at it: it is the line's first one, or a call or a jump leads to
 /// it from another line, or back within the line.
 fn is_entry(noted: &NotedProgram<'_>, address: usize) -> bool {
-    let line = noted.note.line(address);
-    let is_first = address == 0 || noted.note.line(address.saturating_sub(1)) != line;
-    is_first || begins_function(noted, address) || is_jumped_to(noted, address)
-}
-
-/// Reports whether a function begins at an address.
-fn begins_function(noted: &NotedProgram<'_>, address: usize) -> bool {
-    for begin in noted.program.addresses() {
-        if usize::from(*begin) == address {
-            return true;
-        }
-    }
-    false
+    let before = address.saturating_sub(1);
+    address == 0
+        || noted.note.line(before) != noted.note.line(address)
+        || noted.function(before) != noted.function(address)
+        || is_jumped_to(noted, address)
 }
 
 /// Reports whether a jump leads to an address from another line, or from a later address.

@@ -136,11 +136,12 @@ impl Aims {
         for burst in &arena.due() {
             if let Some(shot) = self.landed(burst.robot())
                 && let Some(target) = target_of(arena, &shot, burst)
+                && target < arena.robot_count()
             {
                 let _ = self.landings.try_push(Landing {
                     shot,
                     target,
-                    percent: taken(arena, target, burst),
+                    percent: arena.taken_by(target, burst),
                     place: (burst.x(), burst.y()),
                 });
             }
@@ -245,15 +246,6 @@ fn target_of(arena: &Arena, shot: &Shot, burst: &Burst) -> Option<usize> {
 /// Reports whether there is a robot of this number that lives.
 fn lives(arena: &Arena, robot: usize) -> bool {
     robot < arena.robot_count() && arena.alive(robot)
-}
-
-/// Returns what a burst takes from a robot in the next update, in percent.
-fn taken(arena: &Arena, robot: usize, burst: &Burst) -> u8 {
-    if robot < arena.robot_count() {
-        arena.taken_by(robot, burst)
-    } else {
-        0
-    }
 }
 
 /// Returns the live robot but one that is nearest to a burst.

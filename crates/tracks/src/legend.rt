@@ -65,10 +65,8 @@ fn add_share(text: &mut Draft, shots: &Shots) {
 
 /// Adds a robot's entry: its colour, its name, and how it ended.
 fn add_entry(text: &mut Draft, robot: &Robot<'_>) {
-    let (y, colour) = (
-        150 + (robot.index % MOST_ROBOTS) as u32 * 64,
-        colour(robot.index),
-    );
+    let y = 150 + (robot.index % MOST_ROBOTS) as u32 * 64;
+    let colour = colour(robot.index);
     text.add("<g><title>");
     add_name(text, robot.name);
     write!(text, r#"</title><rect x="1080" y="{}""#, y - 20);

@@ -48,10 +48,7 @@ impl Track {
 
     /// Reports whether the robot is dead after the update of this number.
     pub fn is_dead_after(&self, update: u32) -> bool {
-        match self.death {
-            Some(death) => death <= update,
-            None => false,
-        }
+        matches!(self.death, Some(death) if death <= update)
     }
 
     /// Records the robot's damage after the update of this number. Its death is in the first update after which it
@@ -103,13 +100,16 @@ impl Recording {
         self.cycles / UPDATE_CYCLES
     }
 
-    /// Records what each robot suffered up to the update of this number, and where it is, if that is drawn.
+    /// Records what each robot suffered up to the update of this number, and where it is, if that is drawn. The shots
+    /// whose bursts in it hurt a robot are marked: one whose damage grew, at the place where it is after it.
     fn watch(&mut self, arena: &Arena, update: u32) {
         let cycle = update.saturating_mul(UPDATE_CYCLES);
         for robot in 0..arena.robot_count() {
+            let (place, damage) = (Place::of(arena, robot), arena.damage(robot));
+            let mut is_hurt = false;
             if let Some(track) = self.tracks.as_mut_slice().get_mut(robot) {
-                track.suffer(arena.damage(robot), update);
-                let place = Place::of(arena, robot);
+                is_hurt = track.damage < damage;
+                track.suffer(damage, update);
                 if cycle <= self.view.span.to {
                     track.end = place;
                 }
@@ -117,17 +117,8 @@ impl Recording {
                     track.pass(place, update);
                 }
             }
-        }
-    }
-
-    /// Marks the shots whose bursts in the update of this number hurt a robot: one whose damage grew in it, at the
-    /// place where it is after it.
-    fn mark(&mut self, arena: &Arena, update: u32) {
-        for robot in 0..arena.robot_count() {
-            if let Some(track) = self.tracks.as_slice().get(robot)
-                && track.damage < arena.damage(robot)
-            {
-                self.shots.mark(update, Place::of(arena, robot));
+            if is_hurt {
+                self.shots.mark(update, place);
             }
         }
     }
@@ -170,8 +161,6 @@ impl Watcher for Recording {
     }
 
     fn updated(&mut self, cycle: u32, arena: &Arena) {
-        let update = cycle / UPDATE_CYCLES;
-        self.mark(arena, update);
-        self.watch(arena, update);
+        self.watch(arena, cycle / UPDATE_CYCLES);
     }
 }
