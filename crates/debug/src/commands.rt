@@ -1,98 +1,68 @@
 //! Commands: what a line asks for.
 
-use crate::aims::Aim;
 use crate::refusals::Refusal;
-use crate::sessions::Session;
+use crate::sought_events::sought;
+use notes::NotedProgram;
 use settings::{MOST_CYCLES, value_number};
-use std::alloc::Global;
+use std::str;
+use watching::Sought;
 
 /// What a line asks for.
-#[derive(Drop)]
-pub enum Command {
+#[derive(Clone, Copy)]
+pub enum Command<'m> {
     /// Nothing: it is blank.
     Nothing,
     /// Where the robot is after a cycle.
     At(u32),
     /// The first cycle after one in which something happens.
-    Next(u32, Aim),
+    Next(u32, Sought<'m>),
     /// The last cycle before one in which something happens.
-    Last(u32, Aim),
+    Last(u32, Sought<'m>),
     /// No more.
     Quit,
 }
 
-/// The forms of commands.
-const AT: &str = "at CYCLE";
-
-const NEXT: &str = "next CYCLE EVENT";
-
-const LAST: &str = "last CYCLE EVENT";
-
-const QUIT: &str = "quit";
-
-impl Command {
-    /// Reads the words of a line.
+impl<'m> Command<'m> {
+    /// Reads a line, about a robot of this program. The marks of what is sought are added to a list that has none.
     pub fn read<'a>(
-        alloc: Global,
-        session: &Session<'_>,
-        words: &[&'a str],
-    ) -> Result<Command, Refusal<'a>> {
-        match words {
+        line: &'a [u8],
+        noted: &NotedProgram<'_>,
+        marks: &'m mut Vec<bool>,
+    ) -> Result<Command<'m>, Refusal<'a>> {
+        let Ok(line) = str::from_utf8(line) else {
+            return Err(Refusal::NoText);
+        };
+        let words: Vec<&str> = line.split_whitespace().collect(*marks.allocator())?;
+        match words.as_slice() {
             [] => Ok(Command::Nothing),
-            [word, rest @ ..] => read_by(alloc, session, word, rest),
+            ["at", cycle] => Ok(Command::At(cycle_of(cycle)?)),
+            ["next", cycle, event, rest @ ..] => {
+                let cycle = cycle_of(cycle)?;
+                Ok(Command::Next(cycle, sought(event, rest, noted, marks)?))
+            }
+            ["last", cycle, event, rest @ ..] => {
+                let cycle = cycle_of(cycle)?;
+                Ok(Command::Last(cycle, sought(event, rest, noted, marks)?))
+            }
+            ["quit"] => Ok(Command::Quit),
+            [word, ..] => Err(misread(word)),
         }
     }
 }
 
-/// Reads the words after the first one.
-fn read_by<'a>(
-    alloc: Global,
-    session: &Session<'_>,
-    word: &'a str,
-    rest: &[&'a str],
-) -> Result<Command, Refusal<'a>> {
+/// Returns why the words after that of a command don't fit it: its form, if it is one.
+fn misread(word: &str) -> Refusal<'_> {
     match word {
-        "at" => Ok(Command::At(only_cycle(rest)?)),
-        "next" => {
-            let (cycle, aim) = cycle_and_aim(alloc, session, rest, NEXT)?;
-            Ok(Command::Next(cycle, aim))
-        }
-        "last" => {
-            let (cycle, aim) = cycle_and_aim(alloc, session, rest, LAST)?;
-            Ok(Command::Last(cycle, aim))
-        }
-        "quit" if rest.is_empty() => Ok(Command::Quit),
-        "quit" => Err(Refusal::Form(QUIT)),
-        other => Err(Refusal::Command(other)),
-    }
-}
-
-/// Reads the only word of these, which is a cycle.
-fn only_cycle<'a>(words: &[&'a str]) -> Result<u32, Refusal<'a>> {
-    match words {
-        [word] => cycle_of(word),
-        _ => Err(Refusal::Form(AT)),
-    }
-}
-
-/// Reads a cycle, and what is sought before or after it.
-fn cycle_and_aim<'a>(
-    alloc: Global,
-    session: &Session<'_>,
-    words: &[&'a str],
-    form: &'static str,
-) -> Result<(u32, Aim), Refusal<'a>> {
-    match words {
-        [cycle, event, rest @ ..] => {
-            let cycle = cycle_of(cycle)?;
-            Ok((cycle, Aim::read(alloc, session, event, rest)?))
-        }
-        _ => Err(Refusal::Form(form)),
+        "at" => Refusal::Form("at CYCLE"),
+        "next" => Refusal::Form("next CYCLE EVENT"),
+        "last" => Refusal::Form("last CYCLE EVENT"),
+        "quit" => Refusal::Form("quit"),
+        other => Refusal::Command(other),
     }
 }
 
 /// Reads a cycle: 0 is before the first one.
-fn cycle_of<'a>(word: &'a str) -> Result<u32, Refusal<'a>> {
+fn cycle_of(word: &str) -> Result<u32, Refusal<'_>> {
     match value_number(word, 0, u64::from(MOST_CYCLES)) {
         Some(cycle) => Ok(cycle as u32),
         None => Err(Refusal::Number(word, 0, i64::from(MOST_CYCLES))),

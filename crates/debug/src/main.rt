@@ -1,15 +1,14 @@
 //! Answers questions about one match: where a robot is after a cycle, and in which cycle something happens to it.
 #![tactic(auto)]
 
-mod aims;
 mod commands;
 mod marks;
 mod refusals;
 mod sessions;
-mod variables;
+mod sought_events;
 
 use crate::sessions::{Session, answer_all};
-use notes::{NotedProgram, compiled, note_of};
+use notes::compiled;
 use std::process::ExitCode;
 use tools::{Fault, Known, MATCH_OPTIONS, Options, ProgramFrame, Span, Work, wish};
 use watching::pilots;
@@ -45,17 +44,11 @@ impl Work for Debug {
         let robot = Span::read(options, robots)?.robot.unwrap_or(0);
         let sources = compiled(rt, FRAME.name, &wish)?;
         let mut pilots = pilots(rt.alloc(), sources.programs.as_slice())?;
-        // each file has a note
-        let note = note_of(sources.notes.as_slice(), robot).ok_or(Fault::Source)?;
         let session = Session {
-            noted: NotedProgram {
-                note,
-                program: pilots[robot].program(),
-            },
+            wish: &wish,
             robot,
-            seed: wish.seed(),
-            number: wish.first(),
-            limit: wish.limit(),
+            // each file has a note
+            noted: sources.robot(robot).ok_or(Fault::Source)?,
         };
         answer_all(rt, FRAME.name, &session, pilots.as_mut_slice())
     }

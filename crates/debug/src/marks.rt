@@ -1,76 +1,60 @@
 //! Marks of instructions: those of lines and of functions.
 
 use crate::refusals::Refusal;
-use crate::sessions::Session;
-use code::{Instr, Program};
-use notes::Note;
+use code::Instr;
+use notes::NotedProgram;
 use settings::value_number;
 use std::alloc::{AllocError, Global};
-use watching::function_at;
 
-/// Marks the instructions of the lines of a list, as `3` or `5,8-12`.
-pub fn instructions<'a>(
-    alloc: Global,
-    session: &Session<'_>,
+/// Marks the instructions of the lines of a list, as `3` or `5,8-12`: all of them, or only those at which a line is
+/// entered.
+pub fn mark_lines<'a>(
+    marks: &mut Vec<bool>,
+    noted: &NotedProgram<'_>,
     list: &'a str,
-) -> Result<Vec<bool>, Refusal<'a>> {
-    let lines = lines_of(alloc, list)?;
-    let mut marks = Vec::new(alloc);
-    for address in 0..session.noted.program.instructions().len() {
-        let is_marked = is_listed(lines.as_slice(), session.noted.note.line(address));
+    are_all: bool,
+) -> Result<(), Refusal<'a>> {
+    let lines = lines_of(*marks.allocator(), list)?;
+    for address in 0..noted.program.instructions().len() {
+        let is_marked = is_listed(lines.as_slice(), noted.note.line(address))
+            && (are_all || is_entry(noted, address));
         marks.push(is_marked).map_err(AllocError::from)?;
     }
-    some_of(marks, list)
-}
-
-/// Marks where the lines of a list are entered: the first instruction of a line, and where a call or a jump leads into
-/// it from another line, or back within it.
-pub fn entries<'a>(
-    alloc: Global,
-    session: &Session<'_>,
-    list: &'a str,
-) -> Result<Vec<bool>, Refusal<'a>> {
-    let lines = lines_of(alloc, list)?;
-    let mut marks = Vec::new(alloc);
-    for address in 0..session.noted.program.instructions().len() {
-        let is_marked = is_listed(lines.as_slice(), session.noted.note.line(address))
-            && is_entry(session.noted.program, session.noted.note, address);
-        marks.push(is_marked).map_err(AllocError::from)?;
-    }
-    some_of(marks, list)
-}
-
-/// Returns marks, or that there are none.
-fn some_of<'a>(marks: Vec<bool>, list: &'a str) -> Result<Vec<bool>, Refusal<'a>> {
     if marks.as_slice().contains(&true) {
-        return Ok(marks);
+        return Ok(());
     }
     Err(Refusal::NoCode(list))
 }
 
-/// Reports whether the line of an instruction is entered at it.
-fn is_entry(program: &Program, note: &Note, address: usize) -> bool {
-    let line = note.line(address);
-    let is_first = address == 0 || note.line(address.saturating_sub(1)) != line;
-    is_first || begins_function(program, address) || is_jumped_to(program, note, address)
+/// Marks the instructions of a function, by its number.
+pub fn mark_function(
+    marks: &mut Vec<bool>,
+    noted: &NotedProgram<'_>,
+    function: usize,
+) -> Result<(), AllocError> {
+    for address in 0..noted.program.instructions().len() {
+        marks.push(noted.function(address) == function)?;
+    }
+    Ok(())
 }
 
-/// Reports whether a function begins at an address.
-fn begins_function(program: &Program, address: usize) -> bool {
-    for begin in program.addresses() {
-        if usize::from(*begin) == address {
-            return true;
-        }
-    }
-    false
+/// Reports whether the line of an instruction is entered at it: it is the line's first one, or a call or a jump leads to
+/// it from another line, or back within the line.
+fn is_entry(noted: &NotedProgram<'_>, address: usize) -> bool {
+    let before = address.saturating_sub(1);
+    address == 0
+        || noted.note.line(before) != noted.note.line(address)
+        || noted.function(before) != noted.function(address)
+        || is_jumped_to(noted, address)
 }
 
 /// Reports whether a jump leads to an address from another line, or from a later address.
-fn is_jumped_to(program: &Program, note: &Note, address: usize) -> bool {
-    for (from, instr) in program.instructions().iter().enumerate() {
+fn is_jumped_to(noted: &NotedProgram<'_>, address: usize) -> bool {
+    let line = noted.note.line(address);
+    for (from, instr) in noted.program.instructions().iter().enumerate() {
         if let Instr::Branch(to) = instr
             && usize::from(*to) == address
-            && (from >= address || note.line(from) != note.line(address))
+            && (from >= address || noted.note.line(from) != line)
         {
             return true;
         }
@@ -78,46 +62,22 @@ fn is_jumped_to(program: &Program, note: &Note, address: usize) -> bool {
     false
 }
 
-/// Marks the instructions of a function, by its number.
-pub fn of_function(
-    alloc: Global,
-    program: &Program,
-    function: usize,
-) -> Result<Vec<bool>, AllocError> {
-    let mut marks = Vec::new(alloc);
-    for address in 0..program.instructions().len() {
-        marks.push(function_at(program.addresses(), address) == function)?;
-    }
-    Ok(marks)
-}
-
 /// Reads a list of lines: each part is a line, or the first and the last of some.
 fn lines_of<'a>(alloc: Global, list: &'a str) -> Result<Vec<(u32, u32)>, Refusal<'a>> {
     let mut lines = Vec::new(alloc);
     for part in list.split(',') {
-        let part = lines_in(part).ok_or(Refusal::Lines(list))?;
-        lines.push(part).map_err(AllocError::from)?;
+        let (first, last) = part.split_once('-').unwrap_or((part, part));
+        let (Some(first), Some(last)) = (line_in(first), line_in(last)) else {
+            return Err(Refusal::Lines(list));
+        };
+        lines.push((first, last)).map_err(AllocError::from)?;
     }
     Ok(lines)
 }
 
-/// Reads a part of a list.
-fn lines_in(part: &str) -> Option<(u32, u32)> {
-    match part.split_once('-') {
-        Some((first, last)) => Some((line_in(first)?, line_in(last)?)),
-        None => {
-            let line = line_in(part)?;
-            Some((line, line))
-        }
-    }
-}
-
 /// Reads the number of a line.
 fn line_in(word: &str) -> Option<u32> {
-    match value_number(word, 1, u64::from(u32::MAX)) {
-        Some(line) => Some(line as u32),
-        None => None,
-    }
+    Some(value_number(word, 1, u64::from(u32::MAX))? as u32)
 }
 
 /// Reports whether a line is in a list.

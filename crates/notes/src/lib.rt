@@ -2,13 +2,12 @@
 //! the line of each instruction. And how instructions, calls and moments are written.
 #![tactic(auto)]
 
-mod call_rows;
 mod moment_rows;
 mod notes;
 mod spelling;
 mod variables;
 
-pub use moment_rows::{add_moment, name_in};
-pub use notes::{Note, NotedProgram, Sources, compiled, note_of, place_of, plain};
-pub use spelling::{add_call, add_instruction, add_words};
+pub use moment_rows::add_moment;
+pub use notes::{Note, NotedProgram, Sources, compiled, name_text, plain};
+pub use spelling::{add_call, add_instruction, add_words, name_in};
 pub use variables::{Variable, variables_named};

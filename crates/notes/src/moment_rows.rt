@@ -1,34 +1,39 @@
 //! Where a robot is at a moment of a match, as rows of fields with tabs between them.
 
-ghost use Rattle.std.specs.Prelude.{◌<◌, length};
+ghost use Rattle.std.specs.Prelude.{◌<◌, ◌≤◌, length};
 
-use crate::call_rows::add_calls;
-use crate::notes::NotedProgram;
-use crate::spelling::{add_call, add_instruction, add_words};
-use arena::Arena;
-use code::{Instr, Machine, Want};
-use grammar::{Callee, Name, Var};
+use crate::notes::{NotedProgram, name_text};
+use crate::spelling::{add_call, add_instruction, add_words, name_in};
+use arena::{Arena, MOST_ROBOTS};
+use code::{Machine, Want};
+use grammar::Name;
+use settings::Settings;
 use std::alloc::AllocError;
-use std::str;
-use tools::{Draft, Text, add_signed};
-use watching::{Asked, Moment, Stance, function_at, word_of};
+use tools::{Draft, Text};
+use watching::{Moment, Pilot, moment_at, word_of};
 
-/// Adds where a robot is, whose machine this is: its cycle, its next instruction and what that asks, its last question,
-/// its calls with their variables, its externals, its stack, and the places of all robots. The only error is that
-/// memory is refused.
+/// Plays the match of a wish up to the moment after a cycle, or to its end if that comes before, and adds where a robot
+/// is then: its cycle, its next instruction and what that asks, its last question, its calls with their variables, its
+/// externals, its stack, the places of all robots, and an empty line. The only error is that memory is refused.
 pub fn add_moment(
     text: &mut Draft,
+    wish: &Settings<'_>,
     noted: &NotedProgram<'_>,
-    machine: &Machine,
-    moment: &Moment,
-) -> Result<(), AllocError> {
-    add_cycle(text, moment);
-    add_place(text, noted, machine.address());
+    pilots: &mut [Pilot<'_>],
+    robot: usize,
+    cycle: u32,
+) -> Result<(), AllocError>
+    requires some { 2 ≤ length pilots.old }
+    requires most { length pilots.old ≤ MOST_ROBOTS }
+    requires inside { robot < length pilots.old }
+{
+    let (seed, number, limit) = (wish.seed(), wish.first(), wish.limit());
+    let moment = moment_at(pilots, robot, cycle, seed, number, limit);
+    let machine = pilots[robot].machine();
+    add_cycle(text, &moment);
     add_next(text, noted, machine.address())?;
-    add_wish(text, moment);
-    if let Some(asked) = &moment.last {
-        add_asked(text, asked);
-    }
+    add_wish(text, &moment);
+    add_asked(text, &moment);
     add_calls(text, noted, machine);
     add_values(
         text,
@@ -39,100 +44,37 @@ pub fn add_moment(
     text.add("stack\t");
     add_words(text, machine.words());
     text.add("\n");
-    add_robots(text, moment.game.ending().cycles, moment.game.arena());
+    add_robots(text, moment.game.arena());
+    text.add("\n");
     Ok(())
 }
 
 /// Adds the cycle, whether the robot lives, and whether the match is over.
 fn add_cycle(text: &mut Draft, moment: &Moment) {
     let ending = moment.game.ending();
-    text.add("cycle\t");
-    text.number(u64::from(ending.cycles));
-    text.add(life(moment.is_alive));
-    text.add(if ending.is_over {
-        "\tover\n"
-    } else {
-        "\tgoes on\n"
-    });
+    let (cycle, life) = (ending.cycles, life(moment.is_alive));
+    let state = if ending.is_over { "over" } else { "goes on" };
+    writeln!(text, "cycle\t{cycle}\t{life}\t{state}");
 }
 
-/// Returns a field on whether a robot lives.
+/// Returns the word for whether a robot lives.
 fn life(is_alive: bool) -> &'static str {
-    if is_alive { "\talive" } else { "\tdead" }
+    if is_alive { "alive" } else { "dead" }
 }
 
-/// Adds where the next instruction stands.
-fn add_place(text: &mut Draft, noted: &NotedProgram<'_>, address: usize) {
-    let (line, function) = noted.note.place(noted.program, address);
-    text.add("at\t");
-    text.number(address as u64);
-    text.add("\t");
-    text.number(u64::from(line));
-    text.add("\t");
-    text.number(u64::from(match noted.note.places.place(address) {
-        Some(place) => place.column,
-        None => 0,
-    }));
-    text.add("\t");
-    text.add(function);
-    text.add("\n");
-}
-
-/// Adds the next instruction as a listing has it, and the name of the variable or function in it.
+/// Adds where the next instruction stands, the instruction as a listing has it, and the name of the variable or
+/// function in it.
 fn add_next(text: &mut Draft, noted: &NotedProgram<'_>, address: usize) -> Result<(), AllocError> {
+    let (line, function) = noted.position(address);
+    let column = match noted.note.positions.place(address) {
+        Some(position) => position.column,
+        None => 0,
+    };
+    writeln!(text, "at\t{address}\t{line}\t{column}\t{function}");
     text.add("instruction\t");
-    add_instruction(text, text.alloc(), noted.program, address)?;
-    text.add("\t");
-    text.add(name_in(noted, address));
-    text.add("\n");
+    add_instruction(text, noted, address)?;
+    writeln!(text, "\t{}", name_in(noted, address));
     Ok(())
-}
-
-/// Returns the name in an instruction, the empty text if it has none.
-pub fn name_in<'a>(noted: &NotedProgram<'a>, address: usize) -> &'a str {
-    match noted.program.instructions().get(address) {
-        Some(Instr::Fetch(variable) | Instr::Store(variable, _)) => {
-            variable_name(noted, address, *variable)
-        }
-        Some(Instr::Fcall(Callee::Function(number))) => {
-            noted.note.function_name(usize::from(*number))
-        }
-        Some(
-            Instr::Fcall(Callee::Intrinsic(_))
-            | Instr::Const(_)
-            | Instr::Binop(_)
-            | Instr::Retsub
-            | Instr::Branch(_)
-            | Instr::Chop
-            | Instr::Frame
-            | Instr::Truth
-            | Instr::Nop,
-        )
-        | None => "",
-    }
-}
-
-/// Returns the name of a variable in an instruction of this address.
-fn variable_name<'a>(noted: &NotedProgram<'a>, address: usize, variable: Var) -> &'a str {
-    let names = &noted.note.names;
-    match variable {
-        Var::External(number) => name_at(names.externals(), number),
-        Var::Local(number) => {
-            let function = function_at(noted.program.addresses(), address);
-            match names.functions().get(function) {
-                Some(function) => name_at(function.variables(), number),
-                None => "",
-            }
-        }
-    }
-}
-
-/// Returns the name of this number.
-fn name_at(names: &[Name], number: u8) -> &str {
-    match names.get(usize::from(number)) {
-        Some(name) => str::from_utf8(name.as_bytes()).unwrap_or("?"),
-        None => "",
-    }
 }
 
 /// Adds the question or the restart of the next cycle, if it has one.
@@ -146,59 +88,59 @@ fn add_wish(text: &mut Draft, moment: &Moment) {
         text.add("\n");
     }
     if let Some(cause) = moment.cause {
-        text.add("restarts\t");
-        text.add(word_of(cause));
-        text.add("\n");
+        writeln!(text, "restarts\t{}", word_of(cause));
     }
 }
 
-/// Adds the last question, its cycle and its reply.
-fn add_asked(text: &mut Draft, asked: &Asked) {
-    text.add("asked\t");
-    text.number(u64::from(asked.cycle));
-    text.add("\t");
-    add_call(text, asked.question.intrinsic, asked.question.arguments);
-    text.add("\t");
-    add_signed(text, i64::from(asked.question.reply));
-    text.add("\n");
+/// Adds the last question, its cycle and its reply, if there is one.
+fn add_asked(text: &mut Draft, moment: &Moment) {
+    if let Some(asked) = &moment.last {
+        write!(text, "asked\t{}\t", asked.cycle);
+        add_call(text, asked.question.intrinsic, asked.question.arguments);
+        writeln!(text, "\t{}", asked.question.reply);
+    }
+}
+
+/// Adds a row for each open call, the innermost first, and after it the rows of its variables. A row has the number of
+/// frames that were open as the call began, the line on which the robot is in it, and the function. Frames of calls
+/// whose arguments are being worked out have none.
+fn add_calls(text: &mut Draft, noted: &NotedProgram<'_>, machine: &Machine) {
+    let mut address = machine.address();
+    let mut depth = machine.frames().len();
+    for frame in machine.frames().iter().rev() {
+        // the first frame is main's, and each other call that has begun has an address to return to
+        if depth == 1 || frame.back > 0 {
+            let (line, function) = noted.position(address);
+            writeln!(text, "call\t{depth}\t{line}\t{function}");
+            let words = machine.words().get(usize::from(frame.base)..);
+            add_values(
+                text,
+                "local",
+                noted.variables(address),
+                words.unwrap_or(&[]),
+            );
+            address = usize::from(frame.back).saturating_sub(1);
+        }
+        depth = depth.saturating_sub(1);
+    }
 }
 
 /// Adds a row of this kind for each name and its value.
-pub(crate) fn add_values(text: &mut Draft, kind: &str, names: &[Name], values: &[i32]) {
+fn add_values(text: &mut Draft, kind: &str, names: &[Name], values: &[i32]) {
     for (name, value) in names.iter().zip(values) {
-        text.add(kind);
-        text.add("\t");
-        text.add(str::from_utf8(name.as_bytes()).unwrap_or("?"));
-        text.add("\t");
-        add_signed(text, i64::from(*value));
-        text.add("\n");
+        writeln!(text, "{kind}\t{}\t{value}", name_text(name));
     }
 }
 
-/// Adds where each robot is in the field.
-fn add_robots(text: &mut Draft, cycle: u32, arena: &Arena) {
+/// Adds where each robot is in the field: its place, its heading, its speed, its damage, and whether it lives.
+fn add_robots(text: &mut Draft, arena: &Arena) {
     for robot in 0..arena.robot_count() {
-        add_robot(text, cycle, robot, arena);
+        let (number, (x, y)) = (robot.saturating_add(1), arena.place(robot));
+        let (heading, speed) = (arena.heading(robot), arena.speed(robot));
+        let (damage, life) = (arena.damage(robot), life(arena.alive(robot)));
+        writeln!(
+            text,
+            "robot\t{number}\t{x}\t{y}\t{heading}\t{speed}\t{damage}\t{life}"
+        );
     }
-}
-
-/// Adds where a robot is in the field: its place, its heading, its speed, its damage, and whether it lives.
-fn add_robot(text: &mut Draft, cycle: u32, robot: usize, arena: &Arena)
-    requires { robot < length arena.now.robots }
-{
-    let stance = Stance::of(cycle, robot, arena);
-    text.add("robot\t");
-    text.number(robot.saturating_add(1) as u64);
-    for number in [
-        stance.x,
-        stance.y,
-        stance.heading,
-        u16::from(stance.speed),
-        u16::from(stance.damage),
-    ] {
-        text.add("\t");
-        text.number(u64::from(number));
-    }
-    text.add(life(arena.alive(robot)));
-    text.add("\n");
 }

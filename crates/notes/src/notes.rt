@@ -2,14 +2,14 @@
 
 ghost use Rattle.std.specs.Prelude.{◌≡◌, ◌<◌, ◌≤◌, IfOk, length};
 
-use code::{Profile, Program};
-use derivations::{Compiled, SourcePositions, compile, lines};
-use grammar::{ParseFault, Pools};
+use code::Program;
+use derivations::{Compiled, SourcePositions, compile, positions_of};
+use grammar::{Name, ParseFault, Pools};
 use settings::{MOST_FILES, Settings};
 use std::alloc::{AllocError, Global};
 use std::str;
 use tokens::{MemoryFeed, WINDOW_BYTES};
-use tools::{Fault, name_of, source_of, tell_diagnostic};
+use tools::{Fault, name_of, source_of, tell_diagnostic, visible};
 use watching::function_at;
 
 /// What is known of a file beside its program.
@@ -20,7 +20,7 @@ pub struct Note {
     /// Its text.
     pub text: Vec<u8>,
     /// Where its instructions come from.
-    pub places: SourcePositions,
+    pub positions: SourcePositions,
     /// The names of its functions and variables.
     pub names: Pools,
 }
@@ -28,23 +28,16 @@ pub struct Note {
 impl Note {
     /// Returns the line that the instruction of an address comes from, 0 if there is none.
     pub fn line(&self, address: usize) -> u32 {
-        match self.places.place(address) {
-            Some(place) => place.line,
+        match self.positions.place(address) {
+            Some(position) => position.line,
             None => 0,
         }
-    }
-
-    /// Returns the line that the instruction of an address of the file's program comes from, and the name of its
-    /// function.
-    pub fn place(&self, program: &Program, address: usize) -> (u32, &str) {
-        let function = function_at(program.addresses(), address);
-        (self.line(address), self.function_name(function))
     }
 
     /// Returns the name of the function of this number.
     pub fn function_name(&self, number: usize) -> &str {
         match self.names.functions().get(number) {
-            Some(function) => str::from_utf8(function.name().as_bytes()).unwrap_or("?"),
+            Some(function) => name_text(function.name()),
             None => "?",
         }
     }
@@ -57,15 +50,6 @@ impl Note {
         }
         rest.get(..line_length(rest)).unwrap_or(&[])
     }
-}
-
-/// A program, and what is known of its file beside it.
-#[derive(Clone, Copy)]
-pub struct NotedProgram<'a> {
-    /// What is known of the file.
-    pub note: &'a Note,
-    /// The program.
-    pub program: &'a Program,
 }
 
 /// Returns what follows the first line of a text.
@@ -84,24 +68,38 @@ fn line_length(text: &[u8]) -> usize {
     text.len()
 }
 
-/// Returns the note of a robot's file: a single file is both robots'.
-pub fn note_of(notes: &[Note], robot: usize) -> Option<&Note> {
-    match notes {
-        [only] => Some(only),
-        _ => notes.get(robot),
-    }
+/// Returns a name as text.
+pub fn name_text(name: &Name) -> &str {
+    str::from_utf8(name.as_bytes()).unwrap_or("?")
 }
 
-/// Returns the line that the instruction of an address of a robot's program comes from, and the name of its function.
-pub fn place_of<'a>(
-    notes: &'a [Note],
-    robot: usize,
-    program: &Program,
-    address: usize,
-) -> (u32, &'a str) {
-    match note_of(notes, robot) {
-        Some(note) => note.place(program, address),
-        None => (0, "?"),
+/// A program, and what is known of its file beside it.
+#[derive(Clone, Copy)]
+pub struct NotedProgram<'a> {
+    /// What is known of the file.
+    pub note: &'a Note,
+    /// The program.
+    pub program: &'a Program,
+}
+
+impl<'a> NotedProgram<'a> {
+    /// Returns the number of the function that holds an address.
+    pub fn function(&self, address: usize) -> usize {
+        function_at(self.program.addresses(), address)
+    }
+
+    /// Returns the line that the instruction of an address comes from, and the name of its function.
+    pub fn position(&self, address: usize) -> (u32, &'a str) {
+        let function = self.function(address);
+        (self.note.line(address), self.note.function_name(function))
+    }
+
+    /// Returns the names of the variables of the function that holds an address.
+    pub(crate) fn variables(&self, address: usize) -> &'a [Name] {
+        match self.note.names.functions().get(self.function(address)) {
+            Some(function) => function.variables(),
+            None => &[],
+        }
     }
 }
 
@@ -112,6 +110,26 @@ pub struct Sources {
     pub programs: Vec<Program>,
     /// What is known beside them.
     pub notes: Vec<Note>,
+}
+
+impl Sources {
+    /// Returns a robot's program and what is known of its file: a single file is both robots'.
+    pub fn robot(&self, robot: usize) -> Option<NotedProgram<'_>> {
+        let file = if self.notes.len() == 1 { 0 } else { robot };
+        Some(NotedProgram {
+            note: self.notes.get(file)?,
+            program: self.programs.get(file)?,
+        })
+    }
+
+    /// Returns the line that the instruction of an address of a robot's program comes from, and the name of its
+    /// function.
+    pub fn position(&self, robot: usize, address: usize) -> (u32, &str) {
+        match self.robot(robot) {
+            Some(noted) => noted.position(address),
+            None => (0, "?"),
+        }
+    }
 }
 
 /// Compiles the files of a wish, and writes the diagnostic of each faulty one, or a line about the first that can't be
@@ -147,12 +165,17 @@ fn compiled_file(
     word: &str,
 ) -> Result<Option<(Program, Note)>, Fault> {
     let text = source_of(rt, program, word)?;
-    match compile(
-        wish.profile(),
-        &mut MemoryFeed::new(text.as_slice(), WINDOW_BYTES),
-    ) {
+    let mut feed = MemoryFeed::new(text.as_slice(), WINDOW_BYTES);
+    match compile(wish.profile(), &mut feed) {
         Ok(Compiled { program, names }) => {
-            let note = noted(rt.alloc(), wish.profile(), word, text, names)?;
+            // a program has a position in its source for each instruction
+            let positions = positions_of(&program, text.as_slice()).ok_or(Fault::Source)?;
+            let note = Note {
+                name: plain(rt.alloc(), name_of(word).as_bytes())?,
+                text,
+                positions,
+                names,
+            };
             Ok(Some((program, note)))
         }
         Err(ParseFault::Source(diagnostic)) => {
@@ -162,25 +185,6 @@ fn compiled_file(
         Err(ParseFault::Device) => Err(Fault::Read),
         Err(ParseFault::Memory) => Err(Fault::Memory),
     }
-}
-
-/// Returns the note of the file of a word with this text and these names.
-fn noted(
-    alloc: Global,
-    profile: Profile,
-    word: &str,
-    text: Vec<u8>,
-    names: Pools,
-) -> Result<Note, Fault> {
-    // the source of a program has a place for each instruction
-    let places = lines(text.as_slice(), profile).ok_or(Fault::Source)?;
-    let name = plain(alloc, name_of(word).as_bytes())?;
-    Ok(Note {
-        name,
-        text,
-        places,
-        names,
-    })
 }
 
 /// Returns bytes as text on one line: a tab is a blank, and each other control character a question mark, as is each
@@ -208,9 +212,5 @@ pub fn plain(alloc: Global, bytes: &[u8]) -> Result<String, AllocError> {
 
 /// Returns how a character is shown.
 fn shown(c: char) -> char {
-    match c {
-        '\t' => ' ',
-        '\0'..='\x1f' | '\x7f' => '?',
-        _ => c,
-    }
+    if c == '\t' { ' ' } else { visible(c) }
 }

@@ -1,19 +1,18 @@
 //! How instructions, words of a stack, and calls are written.
 
-use code::Program;
-use grammar::Intrinsic;
+use crate::notes::{NotedProgram, name_text};
+use code::Instr;
+use grammar::{Callee, Intrinsic, Name, Var};
 use listings::instruction_text;
-use std::alloc::{AllocError, Global};
+use std::alloc::AllocError;
 use std::str;
-use tools::{Draft, Text, add_signed};
+use tools::{Draft, Text};
 
 /// Adds words with blanks between them.
 pub fn add_words(text: &mut Draft, words: &[i32]) {
     for (n, word) in words.iter().enumerate() {
-        if n > 0 {
-            text.add(" ");
-        }
-        add_signed(text, i64::from(*word));
+        text.add(if n > 0 { " " } else { "" });
+        write!(text, "{word}");
     }
 }
 
@@ -21,29 +20,46 @@ pub fn add_words(text: &mut Draft, words: &[i32]) {
 /// memory is refused.
 pub fn add_instruction(
     text: &mut Draft,
-    alloc: Global,
-    program: &Program,
+    noted: &NotedProgram<'_>,
     address: usize,
 ) -> Result<(), AllocError> {
-    if let Some(instr) = program.instructions().get(address) {
-        let instruction = instruction_text(alloc, *instr)?;
+    if let Some(instr) = noted.program.instructions().get(address) {
+        let instruction = instruction_text(text.alloc(), *instr)?;
         text.add(str::from_utf8(instruction.as_slice()).unwrap_or("?"));
     }
     Ok(())
 }
 
+/// Returns the name of the variable or function in an instruction, the empty text if it has none.
+pub fn name_in<'a>(noted: &NotedProgram<'a>, address: usize) -> &'a str {
+    match noted.program.instructions().get(address) {
+        Some(Instr::Fetch(Var::External(number)) | Instr::Store(Var::External(number), _)) => {
+            name_at(noted.note.names.externals(), *number)
+        }
+        Some(Instr::Fetch(Var::Local(number)) | Instr::Store(Var::Local(number), _)) => {
+            name_at(noted.variables(address), *number)
+        }
+        Some(Instr::Fcall(Callee::Function(number))) => {
+            noted.note.function_name(usize::from(*number))
+        }
+        _ => "",
+    }
+}
+
+/// Returns the name of this number.
+fn name_at(names: &[Name], number: u8) -> &str {
+    match names.get(usize::from(number)) {
+        Some(name) => name_text(name),
+        None => "",
+    }
+}
+
 /// Adds a call of an intrinsic function with the arguments that it uses.
 pub fn add_call(text: &mut Draft, intrinsic: Intrinsic, arguments: [i32; 2]) {
-    let [first, second] = arguments;
-    let used = intrinsic.argument_count();
-    text.add(intrinsic.name());
-    text.add("(");
-    if used > 0 {
-        add_signed(text, i64::from(first));
+    let (name, [first, second]) = (intrinsic.name(), arguments);
+    match intrinsic.argument_count() {
+        0 => write!(text, "{name}()"),
+        1 => write!(text, "{name}({first})"),
+        _ => write!(text, "{name}({first}, {second})"),
     }
-    if used > 1 {
-        text.add(", ");
-        add_signed(text, i64::from(second));
-    }
-    text.add(")");
 }

@@ -22,17 +22,10 @@ pub fn variables_named(
     match word.split_once('.') {
         Some((function, name)) => locals(alloc, names, Some(function), name),
         None => match number_of(names.externals(), word) {
-            Some(number) => external(alloc, number),
+            Some(number) => Ok(vec![in alloc; Variable::External(number)]?),
             None => locals(alloc, names, None, word),
         },
     }
-}
-
-/// Returns the external of a number alone.
-fn external(alloc: Global, number: u8) -> Result<Vec<Variable>, AllocError> {
-    let mut only = Vec::new(alloc);
-    only.push(Variable::External(number))?;
-    Ok(only)
 }
 
 /// Returns the variables of a name of the function of a name, or of each function if none is given.

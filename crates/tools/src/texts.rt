@@ -1,6 +1,7 @@
 //! Texts to which adding can't fail: want of memory is noted, and reported once at the end.
 
 use std::alloc::{AllocError, Global};
+use std::fmt::Display;
 
 /// A text that words are added to. If memory is refused for some of them, the text notes it, and takes nothing more: so
 /// adding can't fail.
@@ -41,6 +42,11 @@ impl Draft {
         self.kept.is_empty()
     }
 
+    /// Adds what a format shows. `write!` and `writeln!` call it, and have nothing to answer.
+    pub fn write_fmt<D: Display + Drop>(&mut self, shown: D) {
+        self.is_whole = self.is_whole && self.kept.write_fmt(shown).is_ok();
+    }
+
     /// Appends what was added to a text, and begins anew. The only error is that memory was refused, now or before.
     pub fn move_behind(&mut self, text: &mut String) -> Result<(), AllocError> {
         let moved = text.push_str(self.kept.as_str());
@@ -72,7 +78,7 @@ impl Text for Draft {
     }
 
     fn number(&mut self, number: u64) {
-        self.is_whole = self.is_whole && write!(self.kept, "{number}").is_ok();
+        write!(self, "{number}");
     }
 }
 

@@ -43,8 +43,7 @@ struct Landing {
     shot: Shot,
     target: usize,
     percent: u8,
-    x: u16,
-    y: u16,
+    place: (u16, u16),
 }
 
 /// By how much a burst missed its target. Lengths are in tenths of a metre, rounded down.
@@ -96,23 +95,10 @@ impl Aims {
     pub fn hear(&mut self, turn: Turn, question: &Exchange, arena: &Arena)
         requires { turn.robot < length arena.now.robots }
     {
-        if question.reply == 0 {
-            return;
-        }
         match question.intrinsic {
-            Intrinsic::Scan => self.see(turn, question, arena),
-            Intrinsic::Cannon => self.fire(turn, question),
-            Intrinsic::Drive
-            | Intrinsic::Damage
-            | Intrinsic::Speed
-            | Intrinsic::LocX
-            | Intrinsic::LocY
-            | Intrinsic::Rand
-            | Intrinsic::Sqrt
-            | Intrinsic::Sin
-            | Intrinsic::Cos
-            | Intrinsic::Tan
-            | Intrinsic::Atan => {}
+            Intrinsic::Scan if question.reply != 0 => self.see(turn, question, arena),
+            Intrinsic::Cannon if question.reply != 0 => self.fire(turn, question),
+            _ => {}
         }
     }
 
@@ -150,13 +136,13 @@ impl Aims {
         for burst in &arena.due() {
             if let Some(shot) = self.landed(burst.robot())
                 && let Some(target) = target_of(arena, &shot, burst)
+                && target < arena.robot_count()
             {
                 let _ = self.landings.try_push(Landing {
                     shot,
                     target,
-                    percent: taken(arena, target, burst),
-                    x: burst.x(),
-                    y: burst.y(),
+                    percent: arena.taken_by(target, burst),
+                    place: (burst.x(), burst.y()),
                 });
             }
         }
@@ -189,8 +175,7 @@ impl Landing {
     /// Returns by how much the burst missed its target, which is at this place.
     fn miss(&self, place: (u16, u16)) -> Miss {
         let shot = &self.shot;
-        let east = i64::from(self.x).saturating_sub(i64::from(place.0));
-        let north = i64::from(self.y).saturating_sub(i64::from(place.1));
+        let (east, north) = way(place, self.place);
         let (cosine, sine) = (i64::from(shot.cosine), i64::from(shot.sine));
         Miss {
             robot: shot.robot,
@@ -212,9 +197,16 @@ impl Shot {
             Some(sighting) if sighting.robot == target => {
                 Some(self.cycle.saturating_sub(sighting.cycle))
             }
-            Some(_) | None => None,
+            _ => None,
         }
     }
+}
+
+/// Returns the way from one place to another, to the east and to the north.
+fn way(from: (u16, u16), to: (u16, u16)) -> (i64, i64) {
+    let east = i64::from(to.0).saturating_sub(i64::from(from.0));
+    let north = i64::from(to.1).saturating_sub(i64::from(from.1));
+    (east, north)
 }
 
 /// Returns the length of a way, rounded down.
@@ -245,12 +237,10 @@ fn range(asked: i32) -> u16
 /// Returns the robot that a shot was aimed at: the one that was seen last if it lives, else that which is nearest to
 /// the burst.
 fn target_of(arena: &Arena, shot: &Shot, burst: &Burst) -> Option<usize> {
-    if let Some(sighting) = shot.sighting
-        && lives(arena, sighting.robot)
-    {
-        return Some(sighting.robot);
+    match shot.sighting {
+        Some(sighting) if lives(arena, sighting.robot) => Some(sighting.robot),
+        _ => nearest(arena, shot.robot, burst),
     }
-    nearest(arena, shot.robot, burst)
 }
 
 /// Reports whether there is a robot of this number that lives.
@@ -258,23 +248,12 @@ fn lives(arena: &Arena, robot: usize) -> bool {
     robot < arena.robot_count() && arena.alive(robot)
 }
 
-/// Returns what a burst takes from a robot in the next update, in percent.
-fn taken(arena: &Arena, robot: usize, burst: &Burst) -> u8 {
-    if robot < arena.robot_count() {
-        arena.taken_by(robot, burst)
-    } else {
-        0
-    }
-}
-
 /// Returns the live robot but one that is nearest to a burst.
 fn nearest(arena: &Arena, but: usize, burst: &Burst) -> Option<usize> {
     let mut found = None;
     let mut least = u32::MAX;
     for robot in 0..arena.robot_count() {
-        let (x, y) = arena.place(robot);
-        let east = i64::from(x).saturating_sub(i64::from(burst.x()));
-        let north = i64::from(y).saturating_sub(i64::from(burst.y()));
+        let (east, north) = way((burst.x(), burst.y()), arena.place(robot));
         let distance = length(east, north);
         if robot != but && arena.alive(robot) && distance < least {
             least = distance;
@@ -284,64 +263,33 @@ fn nearest(arena: &Arena, but: usize, burst: &Burst) -> Option<usize> {
     found
 }
 
-/// Returns the robot that a scan saw: it is in the arc, and at the range that was the reply.
+/// Returns the robot that a scan saw.
 fn seen(arena: &Arena, robot: usize, question: &Exchange) -> Option<usize>
     requires { robot < length arena.now.robots }
 {
     let from = arena.place(robot);
     for other in 0..arena.robot_count() {
-        if other != robot
-            && arena.alive(other)
-            && way_between(from, arena.place(other)).is_seen(question)
-        {
+        if other != robot && arena.alive(other) && is_seen(from, arena.place(other), question) {
             return Some(other);
         }
     }
     None
 }
 
-/// A way from one place of the field to another, in whole metres.
-#[derive(Clone, Copy, Drop)]
-struct Way {
-    east: i32,
-    north: i32,
-    ghost east_in_field: { unsigned_abs east ≤ LAST_METRE },
-    ghost north_in_field: { unsigned_abs north ≤ LAST_METRE },
+/// Reports whether a scan from one place saw what is at another: that is in the arc, or where the scan is from, and at
+/// the range that was the reply.
+fn is_seen(from: (u16, u16), to: (u16, u16), question: &Exchange) -> bool {
+    let (east, north) = (metres(from.0, to.0), metres(from.1, to.1));
+    let degree = norm_degree(question.arguments[0]);
+    let resolution = question.arguments[1].clamp(0, i32::from(MOST_RESOLUTION)) as u16;
+    let range = length(i64::from(east), i64::from(north)).max(1);
+    i64::from(range) == i64::from(question.reply)
+        && (east == 0 && north == 0 || bears_within(east, north, degree, resolution))
 }
 
-impl Way {
-    /// Reports whether a scan saw what lies at the end of the way: it is in the arc, and at the range that was the
-    /// reply.
-    fn is_seen(&self, question: &Exchange) -> bool {
-        let degree = norm_degree(question.arguments[0]);
-        let resolution = question.arguments[1].clamp(0, i32::from(MOST_RESOLUTION)) as u16;
-        let range = length(i64::from(self.east), i64::from(self.north)).max(1);
-        i64::from(range) == i64::from(question.reply) && self.lies_within(degree, resolution)
-    }
-
-    /// Reports whether the way leads into an arc around a degree, or nowhere.
-    fn lies_within(&self, degree: u16, resolution: u16) -> bool
-        requires degree { degree < 360 }
-        requires resolution { resolution ≤ MOST_RESOLUTION }
-    {
-        if self.east == 0 && self.north == 0 {
-            return true;
-        }
-        bears_within(self.east, self.north, degree, resolution)
-    }
-}
-
-/// Returns the way from one place to another, which are in tenths of a metre.
-fn way_between(from: (u16, u16), to: (u16, u16)) -> Way {
-    Way {
-        east: i32::from(metres(to.0)) - i32::from(metres(from.0)),
-        north: i32::from(metres(to.1)) - i32::from(metres(from.1)),
-    }
-}
-
-/// Returns a place on an axis in whole metres, rounded down.
-fn metres(place: u16) -> u16
-    ensures { result ≤ LAST_METRE }
+/// Returns how far it is from one place on an axis to another, both in whole metres, rounded down.
+fn metres(from: u16, to: u16) -> i32
+    ensures { unsigned_abs result ≤ LAST_METRE }
 {
-    (place / 10).min(LAST_METRE)
+    i32::from((to / 10).min(LAST_METRE)) - i32::from((from / 10).min(LAST_METRE))
 }

@@ -2,12 +2,12 @@
 
 use crate::aims::{Aims, Miss};
 use crate::insides::{Insides, follows_update};
-use crate::requests::Request;
-use crate::rows::Rows;
+use crate::requests::{Form, Task};
+use crate::rows::{Rows, add_event};
 use crate::tellers::Teller;
 use arena::{Arena, MOST_ROBOTS};
 use code::{Cause, Intrinsic};
-use notes::{Note, note_of, place_of};
+use notes::Sources;
 use tools::Fault;
 use watching::{
     Camera, Event, Exchange, FILM_COLUMNS, Field, FilmRows, Listener, Pilot, Turn, Watcher, word_of,
@@ -17,7 +17,7 @@ use watching::{
 #[derive(Drop)]
 pub struct Events<'a> {
     camera: Camera<Rows<'a>>,
-    notes: &'a [Note],
+    sources: &'a Sources,
     aims: Aims,
     /// What is known of the robots from inside, if that is reported.
     insides: Option<Insides<'a>>,
@@ -25,27 +25,30 @@ pub struct Events<'a> {
 
 impl<'a> Events<'a> {
     /// Makes the events of a match that was not begun.
-    pub fn new(rt: &'a HostRuntime, request: &Request<'_>, notes: &'a [Note]) -> Events<'a> {
-        let mut rows = Rows::new(rt, request.span, FILM_COLUMNS);
-        rows.is_film = request.is_film();
+    pub fn new(task: Task<'a>) -> Events<'a> {
+        let mut rows = Rows::new(task.rt, task.request.span, FILM_COLUMNS);
+        rows.is_film = !matches!(task.request.form, Form::Events);
         Events {
             camera: Camera::new(rows),
-            notes,
+            sources: task.sources,
             aims: Aims::new(),
-            insides: request.is_inside().then(|| Insides::new(notes)),
+            insides: match task.request.form {
+                Form::Inside => Some(Insides::new(task.sources)),
+                _ => None,
+            },
         }
     }
 
     /// Writes the names of this number of robots.
     fn name_robots(&mut self, robots: usize) {
-        let notes = self.notes;
         let rows = &mut self.camera.rows;
         for robot in 0..robots {
-            if let Some(note) = note_of(notes, robot)
+            if let Some(noted) = self.sources.robot(robot)
                 && rows.span.has_robot(robot)
             {
-                let name = [Field::Text(note.name.as_str())];
-                rows.event(0, robot, &Event::new("name", &name));
+                let name = [Field::Text(noted.note.name.as_str())];
+                let start = Turn { cycle: 0, robot };
+                add_event(&mut rows.text, start, &Event::new("name", &name));
             }
         }
     }
@@ -92,33 +95,19 @@ impl Watcher for Events<'_> {
             insides.hear(turn, question);
         }
         let Turn { cycle, robot } = turn;
-        let Exchange {
-            intrinsic,
-            arguments,
-            reply,
-        } = question;
-        match intrinsic {
+        let (arguments, reply) = (question.arguments, question.reply);
+        match question.intrinsic {
             Intrinsic::Cannon => self.camera.shoot(cycle, robot, arguments, reply, arena),
             Intrinsic::Scan => self.camera.scan(cycle, robot, arguments, reply),
-            Intrinsic::Drive
-            | Intrinsic::Damage
-            | Intrinsic::Speed
-            | Intrinsic::LocX
-            | Intrinsic::LocY
-            | Intrinsic::Rand
-            | Intrinsic::Sqrt
-            | Intrinsic::Sin
-            | Intrinsic::Cos
-            | Intrinsic::Tan
-            | Intrinsic::Atan => {}
+            _ => {}
         }
     }
 
     fn restarts(&mut self, turn: Turn, pilot: &Pilot<'_>, cause: Cause) {
-        let address = pilot.machine().address();
-        let (line, function) = place_of(self.notes, turn.robot, pilot.program(), address);
-        self.camera
-            .restart(turn.cycle, turn.robot, word_of(cause), function, line);
+        let Turn { cycle, robot } = turn;
+        let (line, function) = self.sources.position(robot, pilot.machine().address());
+        let cause = word_of(cause);
+        self.camera.restart(cycle, robot, cause, function, line);
     }
 
     fn updates(&mut self, cycle: u32, arena: &Arena) {
@@ -145,7 +134,7 @@ impl Watcher for Events<'_> {
 impl Teller for Events<'_> {
     /// Writes where the robots' ways end, and their damages after the last cycle of the match. Those of a film that
     /// ends before it are another kind.
-    fn finish(mut self, _: &Request<'_>, cycles: u32, _: &[Pilot<'_>]) -> Result<(), Fault> {
+    fn finish(mut self, cycles: u32) -> Result<(), Fault> {
         let to = self.camera.rows.span.to;
         if self.camera.rows.is_film && to < cycles {
             self.camera.end(to, "stop");

@@ -1,16 +1,8 @@
 //! Robots from inside, for films: in which line each is after an update, and what it asked last.
 
 use arena::MOST_ROBOTS;
-use code::Program;
-use notes::{Note, place_of};
-use watching::{Event, Exchange, Field, Pilot, Turn, UPDATE_CYCLES};
-
-/// A question, and the cycle in which it was asked.
-#[derive(Clone, Copy)]
-struct Asked {
-    cycle: u32,
-    question: Exchange,
-}
+use notes::Sources;
+use watching::{Asked, Event, Exchange, Field, Pilot, Turn, UPDATE_CYCLES};
 
 /// What is known of a robot: its last question, the cycle of the one that was reported last, and the address that was.
 #[derive(Clone, Copy, Default)]
@@ -23,15 +15,15 @@ struct Inside {
 /// What is known of the robots from inside.
 #[derive(Drop)]
 pub struct Insides<'a> {
-    notes: &'a [Note],
+    sources: &'a Sources,
     robots: [Inside; MOST_ROBOTS],
 }
 
 impl<'a> Insides<'a> {
     /// Makes what is known before a match.
-    pub fn new(notes: &'a [Note]) -> Insides<'a> {
+    pub fn new(sources: &'a Sources) -> Insides<'a> {
         Insides {
-            notes,
+            sources,
             robots: [Inside::default(); MOST_ROBOTS],
         }
     }
@@ -39,14 +31,13 @@ impl<'a> Insides<'a> {
     /// Hears a question.
     pub fn hear(&mut self, turn: Turn, question: Exchange) {
         if let Some(inside) = self.robots.get_mut(turn.robot) {
-            inside.asked = Some(Asked {
-                cycle: turn.cycle,
-                question,
-            });
+            let cycle = turn.cycle;
+            inside.asked = Some(Asked { cycle, question });
         }
     }
 
-    /// Returns where a robot is before a turn, if that is another instruction than the one that was reported last.
+    /// Returns where a robot is before a turn, its line and its function, if that is another instruction than the one
+    /// that was reported last.
     pub fn line(&mut self, turn: Turn, pilot: &Pilot<'_>) -> Option<Event<'a>> {
         let inside = self.robots.get_mut(turn.robot)?;
         let address = pilot.machine().address();
@@ -54,7 +45,9 @@ impl<'a> Insides<'a> {
             return None;
         }
         inside.address = Some(address);
-        Some(line_event(self.notes, turn.robot, pilot.program(), address))
+        let (line, function) = self.sources.position(turn.robot, address);
+        let fields = [Field::Number(i64::from(line)), Field::Text(function)];
+        Some(Event::new("line", &fields))
     }
 
     /// Returns what a robot asked last, if that wasn't reported.
@@ -72,13 +65,6 @@ impl<'a> Insides<'a> {
 /// Reports whether where robots are before their turns of a cycle is where they are after an update, or at the start.
 pub fn follows_update(cycle: u32) -> bool {
     cycle % UPDATE_CYCLES == 1
-}
-
-/// Makes the event that a robot is at an address: its line and its function.
-fn line_event<'a>(notes: &'a [Note], robot: usize, program: &Program, address: usize) -> Event<'a> {
-    let (line, function) = place_of(notes, robot, program, address);
-    let fields = [Field::Number(i64::from(line)), Field::Text(function)];
-    Event::new("line", &fields)
 }
 
 /// Makes the event of a question: its function, the arguments that this uses, the reply, and the cycle.

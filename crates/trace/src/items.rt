@@ -1,13 +1,16 @@
-//! The items of a line of a report.
+//! The items of a line of a report, and tables of counts.
 
 use std::alloc::AllocError;
-use tools::{Draft, Text, add_left};
+use tools::{Draft, Text};
 
 /// How many characters a line has before its items.
 const INDENT: usize = 14;
 
 /// What begins a further line of the same items.
 const NEXT_LINE: &str = "\n              ";
+
+/// The least count that is written in thousands.
+const LEAST_THOUSANDS: u64 = 10_000_000;
 
 /// The items of a line, with commas between them. Those that have no room go on in the next line, below the first one.
 #[derive(Drop)]
@@ -45,8 +48,7 @@ impl Items {
         if all.is_empty() {
             return Ok(());
         }
-        report.add("   ");
-        add_left(report, self.label, 11);
+        write!(report, "   {:<11}", self.label);
         let mut column = INDENT;
         for item in all.as_str().split('\n') {
             column = add_item(report, item, column, self.columns);
@@ -74,8 +76,7 @@ fn add_piece(report: &mut Draft, piece: &str, column: usize, columns: usize) -> 
     let width = piece.chars().count();
     let after = column.saturating_add(1).saturating_add(width);
     if column != INDENT && after <= columns {
-        report.add(" ");
-        report.add(piece);
+        write!(report, " {piece}");
         return after;
     }
     if column != INDENT {
@@ -83,4 +84,29 @@ fn add_piece(report: &mut Draft, piece: &str, column: usize, columns: usize) -> 
     }
     report.add(piece);
     INDENT.saturating_add(width)
+}
+
+/// Adds rows below the names of their columns: nothing if there are none. The only error is that memory was refused as a
+/// row was added.
+pub fn add_table(report: &mut Draft, columns: &str, rows: Draft) -> Result<(), AllocError> {
+    let rows = rows.finish()?;
+    if !rows.is_empty() {
+        report.add(columns);
+        report.add(rows.as_str());
+    }
+    Ok(())
+}
+
+/// Adds a count after a blank at least, in eight columns: in thousands if it has no room else.
+pub fn add_count(text: &mut Draft, count: u64) {
+    if count < LEAST_THOUSANDS {
+        write!(text, "{count:>8}");
+    } else {
+        write!(text, "{:>7}k", count / 1000);
+    }
+}
+
+/// Returns the mean of some numbers by their sum, to the nearest whole one.
+pub fn mean(all: u64, count: u64) -> u64 {
+    all.saturating_add(count / 2) / count.max(1)
 }

@@ -5,7 +5,6 @@
 ghost use Rattle.std.specs.Prelude.{◌≤◌, length};
 
 mod aims;
-mod asks;
 mod clocks;
 mod events;
 mod habits;
@@ -18,8 +17,6 @@ mod requests;
 mod restarts;
 mod rows;
 mod stands;
-mod steps;
-mod subjects;
 mod sums;
 mod tallies;
 mod tellers;
@@ -27,14 +24,14 @@ mod turns;
 mod watches;
 
 use crate::events::Events;
-use crate::requests::{FORM_OPTIONS, Form, Request};
+use crate::requests::{FORM_OPTIONS, Form, Request, Task};
 use crate::stands::tell_moments;
 use crate::sums::Sums;
 use crate::tellers::tell;
 use crate::turns::Turns;
 use crate::watches::tell_changes;
 use arena::MOST_ROBOTS;
-use notes::{Note, compiled};
+use notes::compiled;
 use std::process::ExitCode;
 use tools::{Fault, MATCH_OPTIONS, Options, ProgramFrame, SPAN_OPTIONS, Work};
 use watching::{Pilot, pilots};
@@ -61,32 +58,26 @@ impl Work for Trace {
         let request = Request::read(options)?;
         let sources = compiled(rt, FRAME.name, &request.wish)?;
         let mut pilots = pilots(rt.alloc(), sources.programs.as_slice())?;
-        told(
+        let task = Task {
             rt,
-            &request,
-            sources.notes.as_slice(),
-            pilots.as_mut_slice(),
-        )
+            request: &request,
+            sources: &sources,
+        };
+        told(task, pilots.as_mut_slice())
     }
 }
 
 /// Plays the match before what reports it in the form that is asked for.
-fn told(
-    rt: &HostRuntime,
-    request: &Request<'_>,
-    notes: &[Note],
-    pilots: &mut [Pilot<'_>],
-) -> Result<(), Fault>
+fn told(task: Task<'_>, pilots: &mut [Pilot<'_>]) -> Result<(), Fault>
     requires some { 2 ≤ length pilots.old }
     requires most { length pilots.old ≤ MOST_ROBOTS }
 {
-    match request.form {
-        Form::Sum => tell(Sums::new(rt, request, notes, pilots)?, request, pilots),
-        Form::Events | Form::Film | Form::Inside => {
-            tell(Events::new(rt, request, notes), request, pilots)
-        }
-        Form::Asks | Form::Steps => tell(Turns::new(rt, request, notes), request, pilots),
-        Form::At => tell_moments(rt, request, notes, pilots, request.at),
-        Form::Watch => tell_changes(rt, request, notes, pilots),
+    let wish = &task.request.wish;
+    match task.request.form {
+        Form::Sum => tell(Sums::new(task, pilots)?, wish, pilots),
+        Form::Events | Form::Film | Form::Inside => tell(Events::new(task), wish, pilots),
+        Form::Asks | Form::Steps => tell(Turns::new(task), wish, pilots),
+        Form::At => tell_moments(task, pilots),
+        Form::Watch => tell_changes(task, pilots),
     }
 }

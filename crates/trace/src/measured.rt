@@ -1,42 +1,35 @@
 //! What calls and turns took in a match, beside what is proved of them before it.
 
 use crate::clocks::Taken;
-use crate::habits::add_count;
-use crate::subjects::Subject;
-use cycles::Span;
+use crate::items::{add_count, add_table, mean};
+use crate::reports::Subject;
 use facts::{Facts, Part, add_span};
 use std::alloc::AllocError;
-use tools::{Draft, Text, add_left, add_right};
+use tools::{Draft, Text};
 
 /// The names of the columns.
 const COLUMNS: &str = "   line   count   least    mean    most  proved      cycles of\n";
 
-/// The width of what is proved.
-const PROVED: usize = 12;
-
 /// Adds a row for each function that was called and for each loop: how often, the fewest cycles that it took, the mean,
 /// and the most, beside those that are proved. The only error is that memory was refused.
 pub fn add_measured(text: &mut Draft, subject: &Subject<'_>) -> Result<(), AllocError> {
-    let profile = subject.program.profile();
-    let Ok(facts) = Facts::of(text.alloc(), subject.note.text.as_slice(), profile) else {
+    let (note, program) = (subject.noted.note, subject.noted.program);
+    let Ok(facts) = Facts::of(text.alloc(), note.text.as_slice(), program.profile()) else {
         return Err(AllocError);
     };
+    let (calls, turns) = subject.tally.clock.taken();
     let mut rows = Draft::new(text.alloc());
     for part in &facts.functions {
-        let taken = subject.tally.clock.calls(usize::from(part.number));
-        if taken.count > 0 {
-            add_row(&mut rows, subject, part, &taken, "a call of ")?;
+        if let Some(taken) = calls.get(usize::from(part.number))
+            && taken.count > 0
+        {
+            add_row(&mut rows, subject, part, taken, "call")?;
         }
     }
-    for (number, part) in facts.loops.iter().enumerate() {
-        let taken = subject.tally.clock.turns(number);
-        add_row(&mut rows, subject, part, &taken, "a turn of ")?;
+    for (part, taken) in facts.loops.iter().zip(turns) {
+        add_row(&mut rows, subject, part, taken, "turn")?;
     }
-    if !rows.is_empty() {
-        text.add(COLUMNS);
-        text.add(rows.finish()?.as_str());
-    }
-    Ok(())
+    add_table(text, COLUMNS, rows)
 }
 
 /// Adds the row of a function or a loop. What has no room in a line is cut.
@@ -47,18 +40,18 @@ fn add_row(
     taken: &Taken,
     what: &str,
 ) -> Result<(), AllocError> {
-    let mut row = Draft::new(rows.alloc());
-    add_right(&mut row, u64::from(part.line), 7);
-    add_taken(&mut row, taken);
-    row.add("  ");
-    add_left(&mut row, proved(rows, part.cycles)?.as_str(), PROVED);
-    row.add(what);
-    row.add(subject.note.function_name(usize::from(part.number)));
-    let row = row.finish()?;
-    for character in row.chars().take(subject.columns.saturating_sub(1)) {
-        rows.push(character);
+    let mut proved = Draft::new(rows.alloc());
+    match part.cycles {
+        Some(span) => add_span(&mut proved, span),
+        None => proved.add("never again"),
     }
-    rows.add("\n");
+    let mut row = Draft::new(rows.alloc());
+    write!(row, "{:>7}", part.line);
+    add_taken(&mut row, taken);
+    let name = subject.noted.note.function_name(usize::from(part.number));
+    write!(row, "  {:<11} a {what} of {name}", proved.finish()?);
+    let width = subject.columns.saturating_sub(1);
+    writeln!(rows, "{:.width$}", row.finish()?);
     Ok(())
 }
 
@@ -66,22 +59,11 @@ fn add_row(
 /// done.
 fn add_taken(row: &mut Draft, taken: &Taken) {
     add_count(row, taken.count);
-    for cycles in [taken.least, taken.mean(), taken.most] {
-        if taken.count > 0 {
-            add_count(row, cycles);
-        } else {
-            row.add("       -");
-        }
+    if taken.count == 0 {
+        row.add("       -       -       -");
+        return;
     }
-}
-
-/// Returns what is proved of the cycles of a call or a turn.
-fn proved(rows: &Draft, cycles: Option<Span>) -> Result<String, AllocError> {
-    let mut text = Draft::new(rows.alloc());
-    match cycles {
-        Some(span) => add_span(&mut text, span),
-        None => text.add("never again"),
+    for cycles in [taken.least, mean(taken.all, taken.count), taken.most] {
+        add_count(row, cycles);
     }
-    text.add(" ");
-    text.finish()
 }

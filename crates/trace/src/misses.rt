@@ -1,8 +1,9 @@
 //! By how much a robot's shots missed, by what their bursts took.
 
 use crate::aims::Miss;
-use crate::habits::add_count;
-use tools::{Draft, Text, add_left, add_right};
+use crate::items::{add_count, add_table, mean};
+use std::alloc::AllocError;
+use tools::{Draft, Text};
 
 /// What a burst takes by its ring, in percent, with the words for it.
 const RINGS: [(u8, &str); 4] = [(10, "10%"), (5, "5%"), (3, "3%"), (0, "missed")];
@@ -59,42 +60,30 @@ pub fn count_miss(misses: &mut Misses, miss: &Miss) {
 
 /// Adds a row for each ring that had a target in it: how many shots, to which sides their bursts missed, and how far in
 /// the mean, in metres; the mean of their ranges, and of the cycles since the target was seen.
-pub fn add_misses(text: &mut Draft, misses: &Misses) {
-    let mut has_head = false;
+pub fn add_misses(text: &mut Draft, misses: &Misses) -> Result<(), AllocError> {
+    let mut rows = Draft::new(text.alloc());
     for (counts, (_, words)) in misses.iter().zip(RINGS) {
-        if counts.shots == 0 {
-            continue;
+        if counts.shots > 0 {
+            add_row(&mut rows, words, counts);
         }
-        if !has_head {
-            text.add(COLUMNS);
-            has_head = true;
-        }
-        add_row(text, words, counts);
     }
+    add_table(text, COLUMNS, rows)
 }
 
 /// Adds the row of a ring.
-fn add_row(text: &mut Draft, words: &str, counts: &MissCounts) {
-    text.add("     ");
-    add_left(text, words, 9);
-    add_count(text, counts.shots);
+fn add_row(rows: &mut Draft, words: &str, counts: &MissCounts) {
+    write!(rows, "     {words:<9}");
+    add_count(rows, counts.shots);
     for count in &counts.sides {
-        add_count(text, *count);
+        add_count(rows, *count);
     }
     let tenths = mean(counts.distances, counts.shots);
-    add_right(text, tenths / 10, 6);
-    text.add(".");
-    text.number(tenths % 10);
-    add_count(text, mean(counts.ranges, counts.shots));
+    write!(rows, "{:>6}.{}", tenths / 10, tenths % 10);
+    add_count(rows, mean(counts.ranges, counts.shots));
     if counts.aimed > 0 {
-        add_count(text, mean(counts.ages, counts.aimed));
+        add_count(rows, mean(counts.ages, counts.aimed));
     } else {
-        text.add("       -");
+        rows.add("       -");
     }
-    text.add("\n");
-}
-
-/// Returns the mean of some numbers by their sum, to the nearest whole one.
-fn mean(all: u64, count: u64) -> u64 {
-    all.saturating_add(count / 2) / count.max(1)
+    rows.add("\n");
 }

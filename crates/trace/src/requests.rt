@@ -1,5 +1,6 @@
 //! What is asked for: a match, a form, and a span of it.
 
+use notes::Sources;
 use settings::{MOST_CYCLES, Settings};
 use tools::{Fault, Known, Options, Span, number_of, wish};
 
@@ -25,7 +26,7 @@ pub const FORM_OPTIONS: [Known; 9] = [
 ];
 
 /// In which form a match is reported.
-#[derive(Clone, Copy, PartialEq, Eq)]
+#[derive(Clone, Copy)]
 pub enum Form {
     /// Sums of each robot.
     Sum,
@@ -86,13 +87,8 @@ impl<'a> Request<'a> {
         let form = options.only(&FORMS)?.unwrap_or(Form::Sum);
         let span = Span::read(options, wish.file_words().len().max(2))?;
         let at = number_of(options, "at", 0, u64::from(MOST_CYCLES), 0)? as u32;
-        let columns = number_of(
-            options,
-            "columns",
-            LEAST_COLUMNS,
-            MOST_COLUMNS,
-            LEAST_COLUMNS,
-        )?;
+        let (least, most) = (LEAST_COLUMNS, MOST_COLUMNS);
+        let columns = number_of(options, "columns", least, most, least)?;
         Ok(Request {
             wish,
             form,
@@ -102,14 +98,15 @@ impl<'a> Request<'a> {
             columns: columns as usize,
         })
     }
+}
 
-    /// Reports whether the form is a film.
-    pub fn is_film(&self) -> bool {
-        self.form == Form::Film || self.is_inside()
-    }
-
-    /// Reports whether the form is a film of robots from inside.
-    pub fn is_inside(&self) -> bool {
-        self.form == Form::Inside
-    }
+/// A match that is to be reported.
+#[derive(Clone, Copy)]
+pub struct Task<'a> {
+    /// The runtime, by which the report is written.
+    pub rt: &'a HostRuntime,
+    /// What is asked for.
+    pub request: &'a Request<'a>,
+    /// The programs, and what is known beside them.
+    pub sources: &'a Sources,
 }

@@ -1,17 +1,16 @@
 //! Where and why a robot restarted.
 
 use crate::items::Items;
-use crate::subjects::Subject;
-use crate::tallies::{add, take_largest};
+use crate::reports::Subject;
+use crate::tallies::{add, largest_first};
 use code::{Cause, Frame};
-use notes::Note;
 use std::alloc::{AllocError, Global};
-use tools::{Draft, Text};
+use tools::Draft;
 
-/// The most places of restarts that the report has.
+/// The most positions of restarts that the report has.
 const MOST_TOLD: usize = 10;
 
-/// Open calls from one place of a program.
+/// Open calls from one address of a program.
 #[derive(Clone, Copy, Drop)]
 pub struct Crowd {
     /// The address of the call.
@@ -20,8 +19,8 @@ pub struct Crowd {
     pub calls: usize,
 }
 
-/// Returns the place from which most of the open calls were made, if there are several from one place: the first of
-/// several such places.
+/// Returns the address from which most of the open calls were made, if there are several from one address: the first of
+/// several such addresses.
 pub fn crowd_of(frames: &[Frame]) -> Option<Crowd> {
     let mut found = None;
     let mut most = 1;
@@ -49,22 +48,19 @@ fn calls_to(frames: &[Frame], back: u16) -> usize {
     calls
 }
 
-/// Adds where and why a robot restarted, the most frequent places first. Those in one line of a function for one cause
+/// Adds where and why a robot restarted, the most frequent positions first. Those in one line of a function for one cause
 /// are one.
 pub fn add_restarts(text: &mut Draft, subject: &Subject<'_>) -> Result<(), AllocError> {
     let mut items = Items::new("restarts", text, subject.columns);
-    let mut counts = restarts_by_place(text.alloc(), subject)?;
-    for _ in 0..MOST_TOLD {
-        let Some((address, count)) = take_largest(counts.as_mut_slice()) else {
-            break;
-        };
-        add_restart(items.begin(), address, count, subject);
+    let counts = restarts_by_position(text.alloc(), subject)?;
+    for (address, count) in &largest_first(counts, MOST_TOLD)? {
+        add_restart(items.begin(), *address, *count, subject);
     }
     items.end(text)
 }
 
 /// Returns how often a robot restarted at each address: what is alike counts for the first address of it.
-fn restarts_by_place(alloc: Global, subject: &Subject<'_>) -> Result<Vec<u64>, AllocError> {
+fn restarts_by_position(alloc: Global, subject: &Subject<'_>) -> Result<Vec<u64>, AllocError> {
     let mut counts = Vec::new(alloc);
     for (address, spot) in subject.tally.spots.iter().enumerate() {
         counts.push(0)?;
@@ -78,9 +74,9 @@ fn restarts_by_place(alloc: Global, subject: &Subject<'_>) -> Result<Vec<u64>, A
 
 /// Returns the first address at which the robot restarted for the same cause in the same line and function.
 fn first_alike(address: usize, subject: &Subject<'_>) -> usize {
-    let here = place_and_cause(address, subject);
+    let here = position_and_cause(address, subject);
     for before in 0..address {
-        if place_and_cause(before, subject) == here {
+        if position_and_cause(before, subject) == here {
             return before;
         }
     }
@@ -88,50 +84,30 @@ fn first_alike(address: usize, subject: &Subject<'_>) -> usize {
 }
 
 /// Returns the line and the function of an address, and why the robot restarted there, if it did.
-fn place_and_cause(address: usize, subject: &Subject<'_>) -> (u32, usize, Option<Cause>) {
+fn position_and_cause(address: usize, subject: &Subject<'_>) -> (u32, usize, Option<Cause>) {
     let cause = match subject.tally.spots.get(address) {
         Some(spot) => spot.cause,
         None => None,
     };
-    let line = subject.note.line(address);
-    (line, subject.function(address), cause)
+    let noted = subject.noted;
+    (noted.note.line(address), noted.function(address), cause)
 }
 
-/// Adds the given number of restarts at an address.
+/// Adds the given number of restarts at an address, and how many of the open calls were from one line.
 fn add_restart(item: &mut Draft, address: usize, count: u64, subject: &Subject<'_>) {
     let Some(spot) = subject.tally.spots.get(address) else {
         return;
     };
-    let (line, function) = subject.place(address);
-    item.number(count);
-    item.add(" in line ");
-    item.number(u64::from(line));
-    item.add(" of ");
-    item.add(function);
-    item.add(": ");
-    item.add(reason(spot.cause));
+    let (line, function) = subject.noted.position(address);
+    let (reason, from) = match spot.cause {
+        Some(Cause::Words) => ("stack full", "calls open from"),
+        Some(Cause::Frames) => ("too many calls open", "from"),
+        Some(Cause::Returned) => ("main returned", "calls open from"),
+        None => ("", ""),
+    };
+    write!(item, "{count} in line {line} of {function}: {reason}");
     if let Some(crowd) = spot.crowd {
-        add_crowd(item, spot.cause, &crowd, subject.note);
-    }
-}
-
-/// Adds how many of the open calls were from one line.
-fn add_crowd(item: &mut Draft, cause: Option<Cause>, crowd: &Crowd, note: &Note) {
-    item.add(", ");
-    item.number(crowd.calls as u64);
-    item.add(match cause {
-        Some(Cause::Frames) => " from line ",
-        Some(Cause::Words) | Some(Cause::Returned) | None => " calls open from line ",
-    });
-    item.number(u64::from(note.line(crowd.address)));
-}
-
-/// Returns the words for the cause of a restart.
-fn reason(cause: Option<Cause>) -> &'static str {
-    match cause {
-        Some(Cause::Words) => "stack full",
-        Some(Cause::Frames) => "too many calls open",
-        Some(Cause::Returned) => "main returned",
-        None => "",
+        let line = subject.noted.note.line(crowd.address);
+        write!(item, ", {} {from} line {line}", crowd.calls);
     }
 }

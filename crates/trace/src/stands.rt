@@ -2,54 +2,27 @@
 
 ghost use Rattle.std.specs.Prelude.{◌≤◌, length};
 
-use crate::requests::Request;
+use crate::requests::Task;
 use arena::MOST_ROBOTS;
-use notes::{Note, NotedProgram, add_moment, note_of};
-use tools::{Draft, Fault, Output, Text};
-use watching::{Pilot, moment_at};
+use notes::add_moment;
+use tools::{Draft, Fault, write_text};
+use watching::Pilot;
 
-/// Writes where each chosen robot is after a cycle: its number and its file's name, the rows on it, and an empty line.
-pub fn tell_moments(
-    rt: &HostRuntime,
-    request: &Request<'_>,
-    notes: &[Note],
-    pilots: &mut [Pilot<'_>],
-    cycle: u32,
-) -> Result<(), Fault>
+/// Writes where each chosen robot is after the cycle that is asked for: its number and its file's name, the rows on it,
+/// and an empty line.
+pub fn tell_moments(task: Task<'_>, pilots: &mut [Pilot<'_>]) -> Result<(), Fault>
     requires some { 2 ≤ length pilots.old }
     requires most { length pilots.old ≤ MOST_ROBOTS }
 {
-    let wish = &request.wish;
-    let mut output = Output::new(rt.alloc());
+    let request = task.request;
+    let mut text = Draft::new(task.rt.alloc());
     for robot in 0..pilots.len() {
         if request.span.has_robot(robot)
-            && let Some(note) = note_of(notes, robot)
+            && let Some(noted) = task.sources.robot(robot)
         {
-            let moment = moment_at(
-                pilots,
-                robot,
-                cycle,
-                wish.seed(),
-                wish.first(),
-                wish.limit(),
-            );
-            let mut text = Draft::new(rt.alloc());
-            add_head(&mut text, robot, note);
-            let program = pilots[robot].program();
-            let noted = NotedProgram { note, program };
-            add_moment(&mut text, &noted, pilots[robot].machine(), &moment)?;
-            text.add("\n");
-            text.move_behind(output.text())?;
+            writeln!(text, "of\t{}\t{}", robot.saturating_add(1), noted.note.name);
+            add_moment(&mut text, &request.wish, &noted, pilots, robot, request.at)?;
         }
     }
-    output.finish(rt)
-}
-
-/// Adds a robot's number and its file's name.
-fn add_head(text: &mut Draft, robot: usize, note: &Note) {
-    text.add("of\t");
-    text.number(robot.saturating_add(1) as u64);
-    text.add("\t");
-    text.add(note.name.as_str());
-    text.add("\n");
+    write_text(task.rt, text.finish()?.as_str())
 }

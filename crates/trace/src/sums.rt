@@ -3,45 +3,35 @@
 ghost use Rattle.std.specs.Prelude.{◌<◌, length};
 
 use crate::aims::Aims;
+use crate::misses::count_miss;
 use crate::reports::add_report;
-use crate::requests::Request;
-use crate::tallies::RobotCounts;
+use crate::requests::Task;
+use crate::tallies::{RobotCounts, add};
 use crate::tellers::Teller;
 use arena::Arena;
 use code::Cause;
-use notes::Note;
-use tools::{Draft, Fault, Span, write_text};
+use std::alloc::AllocError;
+use tools::{Draft, Fault, write_text};
 use watching::{Exchange, Pilot, Source, Turn, Watcher, losses};
 
 /// What counts. The sums are written at once when the match is over.
 #[derive(Drop)]
 pub struct Sums<'a> {
-    rt: &'a HostRuntime,
-    span: Span,
-    notes: &'a [Note],
+    task: Task<'a>,
     tallies: Vec<RobotCounts>,
     aims: Aims,
 }
 
 impl<'a> Sums<'a> {
     /// Makes the sums of a match that was not begun, between these pilots.
-    pub fn new(
-        rt: &'a HostRuntime,
-        request: &Request<'_>,
-        notes: &'a [Note],
-        pilots: &[Pilot<'_>],
-    ) -> Result<Sums<'a>, Fault> {
-        let mut tallies = Vec::new(rt.alloc());
+    pub fn new(task: Task<'a>, pilots: &[Pilot<'_>]) -> Result<Sums<'a>, AllocError> {
+        let alloc = task.rt.alloc();
+        let mut tallies = Vec::new(alloc);
         for pilot in pilots {
-            let tally = RobotCounts::new(rt.alloc(), pilot.program())?;
-            if tallies.push(tally).is_err() {
-                return Err(Fault::Memory);
-            }
+            tallies.push(RobotCounts::new(alloc, pilot.program())?)?;
         }
         Ok(Sums {
-            rt,
-            span: request.span,
-            notes,
+            task,
             tallies,
             aims: Aims::new(),
         })
@@ -49,7 +39,7 @@ impl<'a> Sums<'a> {
 
     /// Returns the counts of a robot, if it and a cycle are in the span.
     fn tally(&mut self, cycle: u32, robot: usize) -> Option<&mut RobotCounts> {
-        if self.span.has(cycle, robot) {
+        if self.task.request.span.has(cycle, robot) {
             self.tallies.get_mut(robot)
         } else {
             None
@@ -68,16 +58,7 @@ impl<'a> Sums<'a> {
                 && by != robot
                 && let Some(tally) = self.tally(cycle, by)
             {
-                tally.take(robot, loss.percent);
-            }
-        }
-    }
-
-    /// Counts by how much the bursts of an update missed.
-    fn count_misses(&mut self, cycle: u32, arena: &Arena) {
-        for miss in &self.aims.misses(arena) {
-            if let Some(tally) = self.tally(cycle, miss.robot) {
-                tally.miss(miss);
+                add(&mut tally.taken, robot, u64::from(loss.percent));
             }
         }
     }
@@ -126,7 +107,11 @@ impl Watcher for Sums<'_> {
     }
 
     fn updated(&mut self, cycle: u32, arena: &Arena) {
-        self.count_misses(cycle, arena);
+        for miss in &self.aims.misses(arena) {
+            if let Some(tally) = self.tally(cycle, miss.robot) {
+                count_miss(&mut tally.misses, miss);
+            }
+        }
         for robot in 0..arena.robot_count() {
             if let Some(tally) = self.tallies.get_mut(robot) {
                 tally.see(cycle, arena.damage(robot), arena.alive(robot));
@@ -136,21 +121,14 @@ impl Watcher for Sums<'_> {
 }
 
 impl Teller for Sums<'_> {
-    fn finish(self, request: &Request<'_>, cycles: u32, pilots: &[Pilot<'_>]) -> Result<(), Fault> {
+    fn finish(self, cycles: u32) -> Result<(), Fault> {
         for tally in &self.tallies {
             if !tally.clock.is_whole() {
                 return Err(Fault::Memory);
             }
         }
-        let mut text = Draft::new(self.rt.alloc());
-        add_report(
-            &mut text,
-            request,
-            cycles,
-            self.notes,
-            pilots,
-            self.tallies.as_slice(),
-        )?;
-        write_text(self.rt, text.finish()?.as_str())
+        let mut text = Draft::new(self.task.rt.alloc());
+        add_report(&mut text, self.task, cycles, self.tallies.as_slice())?;
+        write_text(self.task.rt, text.finish()?.as_str())
     }
 }

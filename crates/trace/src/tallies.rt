@@ -1,9 +1,8 @@
 //! What is counted of a robot: the sums are made of that. Each cycle, call, restart, loss and burst is counted while
 //! the match is played.
 
-use crate::aims::Miss;
 use crate::clocks::Clock;
-use crate::misses::{MissCounts, Misses, count_miss};
+use crate::misses::{MissCounts, Misses};
 use crate::restarts::{Crowd, crowd_of};
 use arena::MOST_ROBOTS;
 use code::{Cause, Frame, Intrinsic, Program};
@@ -25,15 +24,13 @@ pub struct AddressCounts {
     pub restarts: u64,
     /// Why the last restart came.
     pub cause: Option<Cause>,
-    /// The place from which most calls were open at the last restart.
+    /// The address from which most calls were open at the last restart.
     pub crowd: Option<Crowd>,
 }
 
 /// The calls of an intrinsic function.
 #[derive(Clone, Copy, Default, Drop)]
 pub struct Calls {
-    /// The function, once it was called.
-    pub intrinsic: Option<Intrinsic>,
     /// How many there were.
     pub all: u64,
     /// How many of them had the reply 0.
@@ -46,7 +43,6 @@ impl Calls {
     /// Counts a call.
     fn count(&mut self, question: &Exchange) {
         let reply = question.reply;
-        self.intrinsic = Some(question.intrinsic);
         self.all = self.all.saturating_add(1);
         if reply == 0 {
             self.zero = self.zero.saturating_add(1);
@@ -55,37 +51,6 @@ impl Calls {
             let [least, most] = self.replies.unwrap_or([reply, reply]);
             self.replies = Some([least.min(reply), most.max(reply)]);
         }
-    }
-}
-
-/// What a robot does in a direction.
-#[derive(Clone, Copy)]
-pub enum Deed {
-    /// It sees a robot.
-    Sees,
-    /// It shoots.
-    Shoots,
-    /// It asks to drive.
-    Drives,
-}
-
-/// Returns what a call does in the direction of its first argument, if it does.
-fn deed_of(question: &Exchange) -> Option<Deed> {
-    match question.intrinsic {
-        Intrinsic::Scan if question.reply > 0 => Some(Deed::Sees),
-        Intrinsic::Cannon if question.reply > 0 => Some(Deed::Shoots),
-        Intrinsic::Drive if question.arguments[1] > 0 => Some(Deed::Drives),
-        Intrinsic::Scan | Intrinsic::Cannon | Intrinsic::Drive => None,
-        Intrinsic::Damage
-        | Intrinsic::Speed
-        | Intrinsic::LocX
-        | Intrinsic::LocY
-        | Intrinsic::Rand
-        | Intrinsic::Sqrt
-        | Intrinsic::Sin
-        | Intrinsic::Cos
-        | Intrinsic::Tan
-        | Intrinsic::Atan => None,
     }
 }
 
@@ -100,10 +65,14 @@ pub struct RobotCounts {
     pub shares: Shares,
     /// Its calls, in the order of the intrinsic functions.
     pub calls: [Calls; INTRINSICS],
-    /// What it did, by direction.
-    pub deeds: [[u64; DIRECTIONS]; 3],
+    /// How often it saw a robot, by direction.
+    pub saw: [u64; DIRECTIONS],
+    /// How often it shot, by direction.
+    pub shot: [u64; DIRECTIONS],
+    /// How often it asked to drive, by direction.
+    pub drove: [u64; DIRECTIONS],
     /// Its last calls, if they are from one address.
-    pub streak: Option<Streak>,
+    streak: Option<Streak>,
     /// The streak that took most cycles.
     pub longest: Option<Streak>,
     /// How many of its shots burst.
@@ -129,16 +98,15 @@ pub struct RobotCounts {
 impl RobotCounts {
     /// Makes the counts of a robot that runs a program: all are 0.
     pub fn new(alloc: Global, program: &Program) -> Result<RobotCounts, AllocError> {
-        let mut spots = Vec::new(alloc);
-        for _ in program.instructions() {
-            spots.push(AddressCounts::default())?;
-        }
+        let addresses = program.instructions().len();
         Ok(RobotCounts {
-            spots,
+            spots: vec![in alloc; AddressCounts::default(); addresses]?,
             clock: Clock::new(alloc, program)?,
             shares: Shares::default(),
             calls: [Calls::default(); INTRINSICS],
-            deeds: [[0; DIRECTIONS]; 3],
+            saw: [0; DIRECTIONS],
+            shot: [0; DIRECTIONS],
+            drove: [0; DIRECTIONS],
             streak: None,
             longest: None,
             bursts: 0,
@@ -168,11 +136,7 @@ impl RobotCounts {
         if let Some(calls) = self.calls.get_mut(question.intrinsic as usize) {
             calls.count(question);
         }
-        if let Some(deed) = deed_of(question)
-            && let Some(counts) = self.deeds.get_mut(deed as usize)
-        {
-            add(counts, direction_of(question.arguments[0]), 1);
-        }
+        self.count_direction(question);
         self.follow(Call {
             cycle,
             address,
@@ -181,19 +145,29 @@ impl RobotCounts {
         });
     }
 
+    /// Counts the direction of a call, its first argument, if the robot sees another one, shoots, or asks to drive there.
+    fn count_direction(&mut self, question: &Exchange) {
+        let direction = direction_of(question.arguments[0]);
+        match question.intrinsic {
+            Intrinsic::Scan if question.reply > 0 => add(&mut self.saw, direction, 1),
+            Intrinsic::Cannon if question.reply > 0 => add(&mut self.shot, direction, 1),
+            Intrinsic::Drive if question.arguments[1] > 0 => add(&mut self.drove, direction, 1),
+            _ => {}
+        }
+    }
+
     /// Follows the streak of calls, and keeps the one that took most cycles.
     fn follow(&mut self, call: Call) {
-        let mut streak = self.streak.unwrap_or(Streak::new(call));
-        if self.streak.is_some() && !streak.take(call) {
-            streak = Streak::new(call);
+        let mut streak = Streak::new(call);
+        if let Some(mut last) = self.streak
+            && last.take(call)
+        {
+            streak = last;
         }
         self.streak = Some(streak);
         let longest = self.longest.unwrap_or(streak);
-        self.longest = Some(if longest.cycles() < streak.cycles() {
-            streak
-        } else {
-            longest
-        });
+        let is_longer = longest.cycles() < streak.cycles();
+        self.longest = Some(if is_longer { streak } else { longest });
     }
 
     /// Counts a restart at an address, with these frames open.
@@ -220,19 +194,7 @@ impl RobotCounts {
     /// Counts a burst of the robot's shots.
     pub fn burst(&mut self, is_hit: bool) {
         self.bursts = self.bursts.saturating_add(1);
-        if is_hit {
-            self.hits = self.hits.saturating_add(1);
-        }
-    }
-
-    /// Counts by how much a shot of the robot missed.
-    pub fn miss(&mut self, miss: &Miss) {
-        count_miss(&mut self.misses, miss);
-    }
-
-    /// Counts what the robot's shots take from another one.
-    pub fn take(&mut self, from: usize, percent: u8) {
-        add(&mut self.taken, from, u64::from(percent));
+        self.hits = self.hits.saturating_add(u64::from(is_hit));
     }
 
     /// Sees the robot's damage after a cycle.
@@ -243,15 +205,6 @@ impl RobotCounts {
         }
     }
 
-    /// Returns how often the robot restarted.
-    pub fn restarts(&self) -> u64 {
-        let mut all: u64 = 0;
-        for spot in self.spots.as_slice() {
-            all = all.saturating_add(spot.restarts);
-        }
-        all
-    }
-
     /// Returns how many cycles the robot ran.
     pub fn cycles(&self) -> u64 {
         let mut all: u64 = 0;
@@ -259,14 +212,6 @@ impl RobotCounts {
             all = all.saturating_add(spot.cycles);
         }
         all
-    }
-
-    /// Returns the calls of an intrinsic function.
-    pub fn calls_of(&self, intrinsic: Intrinsic) -> Calls {
-        match self.calls.get(intrinsic as usize) {
-            Some(calls) => *calls,
-            None => Calls::default(),
-        }
     }
 }
 
@@ -277,9 +222,15 @@ pub fn add(counts: &mut [u64], n: usize, by: u64) {
     }
 }
 
-/// Takes the largest count, if one isn't 0: returns its number and how much it was.
-pub fn take_largest(counts: &mut [u64]) -> Option<(usize, u64)> {
-    let number = largest(counts)?;
-    let count = counts.get_mut(number)?;
-    Some((number, mem::take(count)))
+/// Returns the largest of some counts, the largest first, each with its number: this many, or all that aren't 0.
+pub fn largest_first(mut counts: Vec<u64>, most: usize) -> Result<Vec<(usize, u64)>, AllocError> {
+    let mut found = Vec::new(*counts.allocator());
+    for _ in 0..most {
+        if let Some(number) = largest(counts.as_slice())
+            && let Some(count) = counts.get_mut(number)
+        {
+            found.push((number, mem::take(count)))?;
+        }
+    }
+    Ok(found)
 }

@@ -1,22 +1,27 @@
 //! Turns: a row for each question, or for each cycle.
 
-use crate::asks::{ASK_COLUMNS, add_ask};
-use crate::requests::{Form, Request};
-use crate::rows::Rows;
-use crate::steps::{STEP_COLUMNS, add_step};
+use crate::requests::{Form, Task};
+use crate::rows::{Rows, add_turn};
 use crate::tellers::Teller;
 use arena::{Arena, MOST_ROBOTS};
 use code::Machine;
-use grammar::MOST_NAMES;
-use notes::{Note, NotedProgram, note_of};
-use tools::Fault;
+use grammar::{MOST_NAMES, Name};
+use notes::{NotedProgram, Sources, add_call, add_instruction, add_words, name_in, name_text};
+use std::alloc::AllocError;
+use tools::{Draft, Fault, Text};
 use watching::{Exchange, Pilot, Turn, Watcher};
+
+/// The names of the columns of questions.
+const ASK_COLUMNS: &str = "cycle\trobot\tfunction\tline\tcall\treply";
+
+/// The names of the columns of steps.
+const STEP_COLUMNS: &str = "cycle\trobot\taddress\tinstruction\tstack\tline\tname\tchanged";
 
 /// What writes questions as they are asked, or steps before they are done.
 #[derive(Drop)]
 pub struct Turns<'a> {
     rows: Rows<'a>,
-    notes: &'a [Note],
+    sources: &'a Sources,
     is_stepwise: bool,
     /// The externals of each robot before its last step.
     externals: [[i32; MOST_NAMES]; MOST_ROBOTS],
@@ -24,59 +29,52 @@ pub struct Turns<'a> {
 
 impl<'a> Turns<'a> {
     /// Makes the steps of a match that was not begun if they are asked for, else its questions.
-    pub fn new(rt: &'a HostRuntime, request: &Request<'_>, notes: &'a [Note]) -> Turns<'a> {
-        let is_stepwise = request.form == Form::Steps;
-        let columns = if is_stepwise {
-            STEP_COLUMNS
-        } else {
-            ASK_COLUMNS
+    pub fn new(task: Task<'a>) -> Turns<'a> {
+        let (is_stepwise, columns) = match task.request.form {
+            Form::Steps => (true, STEP_COLUMNS),
+            _ => (false, ASK_COLUMNS),
         };
         Turns {
-            rows: Rows::new(rt, request.span, columns),
-            notes,
+            rows: Rows::new(task.rt, task.request.span, columns),
+            sources: task.sources,
             is_stepwise,
             externals: [[0; MOST_NAMES]; MOST_ROBOTS],
         }
     }
 
-    /// Adds the row of a step.
-    fn add_step(&mut self, turn: Turn, pilot: &Pilot<'_>) {
-        let notes = self.notes;
-        if let Some(note) = note_of(notes, turn.robot)
-            && let Some(externals) = self.externals.get(turn.robot)
+    /// Adds the row of a step, if it is in the span, and keeps the robot's externals.
+    fn step(&mut self, turn: Turn, machine: &Machine) {
+        let Some(externals) = self.externals.get_mut(turn.robot) else {
+            return;
+        };
+        if self.rows.span.has(turn.cycle, turn.robot)
+            && let Some(noted) = self.sources.robot(turn.robot)
         {
-            let program = pilot.program();
-            let noted = NotedProgram { note, program };
-            let added = add_step(self.rows.text(), turn, &noted, pilot, externals);
+            let added = add_step(&mut self.rows.text, turn, &noted, machine, externals);
             self.rows.note(added);
             self.rows.pass();
         }
-    }
-
-    /// Keeps the externals of a robot.
-    fn keep(&mut self, robot: usize, machine: &Machine) {
-        if let Some(externals) = self.externals.get_mut(robot) {
-            for (kept, value) in externals.iter_mut().zip(machine.externals()) {
-                *kept = *value;
-            }
+        for (kept, value) in externals.iter_mut().zip(machine.externals()) {
+            *kept = *value;
         }
     }
 }
 
 impl Watcher for Turns<'_> {
     fn turn(&mut self, turn: Turn, pilot: &Pilot<'_>) {
-        if !self.is_stepwise {
-            return;
+        if self.is_stepwise {
+            self.step(turn, pilot.machine());
         }
-        if self.rows.span.has(turn.cycle, turn.robot) {
-            self.add_step(turn, pilot);
-        }
-        self.keep(turn.robot, pilot.machine());
     }
 
     fn asked(&mut self, turn: Turn, pilot: &Pilot<'_>, question: Exchange, _arena: &Arena) {
         if !self.is_stepwise && self.rows.span.has(turn.cycle, turn.robot) {
-            add_ask(self.rows.text(), self.notes, turn, pilot, &question);
+            let (line, function) = self.sources.position(turn.robot, pilot.machine().address());
+            let text = &mut self.rows.text;
+            add_turn(text, turn);
+            write!(text, "{function}\t{line}\t");
+            add_call(text, question.intrinsic, question.arguments);
+            writeln!(text, "\t{}", question.reply);
             self.rows.pass();
         }
     }
@@ -87,7 +85,42 @@ impl Watcher for Turns<'_> {
 }
 
 impl Teller for Turns<'_> {
-    fn finish(self, _: &Request<'_>, _: u32, _: &[Pilot<'_>]) -> Result<(), Fault> {
+    fn finish(self, _: u32) -> Result<(), Fault> {
         self.rows.finish()
+    }
+}
+
+/// Adds the row of a step: its instruction, the stack before it, its line, the name in it, and the externals that have
+/// other values than these. The only error is that memory is refused.
+fn add_step(
+    text: &mut Draft,
+    turn: Turn,
+    noted: &NotedProgram<'_>,
+    machine: &Machine,
+    externals: &[i32],
+) -> Result<(), AllocError> {
+    let address = machine.address();
+    add_turn(text, turn);
+    write!(text, "{address}\t");
+    add_instruction(text, noted, address)?;
+    text.add("\t");
+    add_words(text, machine.words());
+    let (line, name) = (noted.note.line(address), name_in(noted, address));
+    write!(text, "\t{line}\t{name}\t");
+    let names = noted.note.names.externals();
+    add_changes(text, names, externals, machine.externals());
+    text.add("\n");
+    Ok(())
+}
+
+/// Adds the names of externals whose values changed, each with its new value.
+fn add_changes(text: &mut Draft, names: &[Name], before: &[i32], after: &[i32]) {
+    let mut is_first = true;
+    for ((name, old), new) in names.iter().zip(before).zip(after) {
+        if new != old {
+            text.add(if is_first { "" } else { " " });
+            write!(text, "{}={new}", name_text(name));
+            is_first = false;
+        }
     }
 }

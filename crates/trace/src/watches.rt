@@ -3,15 +3,15 @@
 ghost use Rattle.std.specs.Prelude.{◌≡◌, ◌≤◌, false, length};
 
 use crate::FRAME;
-use crate::requests::Request;
+use crate::requests::Task;
 use crate::rows::{Rows, add_turn};
 use arena::MOST_ROBOTS;
 use code::Machine;
 use grammar::Var;
-use notes::{Note, Variable, note_of, variables_named};
+use notes::{NotedProgram, Variable, variables_named};
 use std::alloc::{AllocError, Global};
-use tools::{Draft, Fault, Plain, Text, add_signed};
-use watching::{Game, Nobody, Pilot, Turn, function_at};
+use tools::{Fault, Plain};
+use watching::{Game, Nobody, Pilot, Turn};
 
 /// The names of the columns.
 const COLUMNS: &str = "cycle\trobot\tfunction\tline\tname\tbefore\tafter";
@@ -28,48 +28,30 @@ struct Watched<'a> {
 #[derive(Drop)]
 struct Robot<'a> {
     number: usize,
-    note: &'a Note,
+    noted: NotedProgram<'a>,
     watched: Vec<Watched<'a>>,
     is_alive: bool,
     address: usize,
     home: u16,
 }
 
-/// Writes a row for each cycle in which a watched variable of a chosen robot gets another value: one of a function
-/// within one call of it.
-pub fn tell_changes(
-    rt: &HostRuntime,
-    request: &Request<'_>,
-    notes: &[Note],
-    pilots: &mut [Pilot<'_>],
-) -> Result<(), Fault>
+/// Plays the match, and writes a row for each cycle in which a watched variable of a chosen robot gets another value:
+/// one of a function within one call of it.
+pub fn tell_changes(task: Task<'_>, pilots: &mut [Pilot<'_>]) -> Result<(), Fault>
     requires some { 2 ≤ length pilots.old }
     requires most { length pilots.old ≤ MOST_ROBOTS }
 {
-    let mut robots = watched_robots(rt, request, notes, pilots)?;
-    let mut rows = Rows::new(rt, request.span, COLUMNS);
-    play(request, pilots, robots.as_mut_slice(), &mut rows);
-    rows.finish()
-}
-
-/// Plays the match, and adds the rows of each cycle.
-fn play(
-    request: &Request<'_>,
-    pilots: &mut [Pilot<'_>],
-    robots: &mut [Robot<'_>],
-    rows: &mut Rows<'_>,
-)
-    requires some { 2 ≤ length pilots.old }
-    requires most { length pilots.old ≤ MOST_ROBOTS }
-{
-    let wish = &request.wish;
+    let mut robots = watched_robots(task, pilots.len())?;
+    let mut rows = Rows::new(task.rt, task.request.span, COLUMNS);
+    let wish = &task.request.wish;
     let mut game = Game::new(pilots, wish.seed(), wish.first(), wish.limit());
     for _ in 0..wish.limit() {
         if game.ending().is_over || !rows.are_fine() {
-            return;
+            break;
         }
-        run_cycle(&mut game, pilots, robots, rows);
+        run_cycle(&mut game, pilots, robots.as_mut_slice(), &mut rows);
     }
+    rows.finish()
 }
 
 /// Plays the next cycle of a match that isn't over, and adds its rows.
@@ -119,48 +101,26 @@ impl Robot<'_> {
         };
         for watched in &self.watched {
             let after = value_of(pilot.machine(), watched.variable);
-            if after != watched.before && self.has_seen(pilot, watched.variable) {
-                self.add_change(rows.text(), cycle, pilot, watched, after);
+            if after != watched.before && self.has_seen(pilot.machine(), watched.variable) {
+                let robot = self.number;
+                let (line, function) = self.noted.position(self.address);
+                let (name, before) = (watched.name, watched.before);
+                add_turn(&mut rows.text, Turn { cycle, robot });
+                writeln!(rows.text, "{function}\t{line}\t{name}\t{before}\t{after}");
             }
         }
     }
 
     /// Reports whether a variable was seen before and after the cycle: one of a function is only within one call of it.
-    fn has_seen(&self, pilot: &Pilot<'_>, variable: Variable) -> bool {
+    fn has_seen(&self, machine: &Machine, variable: Variable) -> bool {
         match variable {
             Variable::External(_) => true,
             Variable::Local(function, _) => {
-                let begins = pilot.program().addresses();
-                let machine = pilot.machine();
-                function_at(begins, self.address) == function
-                    && function_at(begins, machine.address()) == function
+                self.noted.function(self.address) == function
+                    && self.noted.function(machine.address()) == function
                     && machine.home() == self.home
             }
         }
-    }
-
-    /// Adds the row of a change.
-    fn add_change(
-        &self,
-        text: &mut Draft,
-        cycle: u32,
-        pilot: &Pilot<'_>,
-        watched: &Watched<'_>,
-        after: i32,
-    ) {
-        let robot = self.number;
-        let (line, function) = self.note.place(pilot.program(), self.address);
-        add_turn(text, Turn { cycle, robot });
-        text.add(function);
-        text.add("\t");
-        text.number(u64::from(line));
-        text.add("\t");
-        text.add(watched.name);
-        text.add("\t");
-        add_signed(text, i64::from(watched.before));
-        text.add("\t");
-        add_signed(text, i64::from(after));
-        text.add("\n");
     }
 }
 
@@ -172,28 +132,23 @@ fn value_of(machine: &Machine, variable: Variable) -> i32 {
     }
 }
 
-/// Returns the robots that are looked at, each with its variables that are watched. A name that none of them has is
-/// wrong usage.
-fn watched_robots<'a>(
-    rt: &HostRuntime,
-    request: &Request<'a>,
-    notes: &'a [Note],
-    pilots: &[Pilot<'_>],
-) -> Result<Vec<Robot<'a>>, Fault> {
-    let mut robots = Vec::new(rt.alloc());
-    for number in 0..pilots.len() {
-        if request.span.has_robot(number)
-            && let Some(note) = note_of(notes, number)
+/// Returns those of this number of robots that are looked at, each with its variables that are watched. A name that none
+/// of them has is wrong usage.
+fn watched_robots(task: Task<'_>, count: usize) -> Result<Vec<Robot<'_>>, Fault> {
+    let names = task.request.names;
+    let mut robots = Vec::new(task.rt.alloc());
+    for number in 0..count {
+        if task.request.span.has_robot(number)
+            && let Some(noted) = task.sources.robot(number)
         {
-            robots
-                .push(watched_robot(rt.alloc(), request.names, number, note)?)
-                .map_err(|_| Fault::Memory)?;
+            let robot = watched_robot(task.rt.alloc(), names, number, noted)?;
+            robots.push(robot).map_err(AllocError::from)?;
         }
     }
-    for name in request.names.split(',') {
+    for name in names.split(',') {
         if !is_watched(robots.as_slice(), name) {
             let program = FRAME.name;
-            let _ = eprintln!(rt; "{program}: --watch {}: no variable", Plain(name));
+            let _ = eprintln!(task.rt; "{program}: --watch {}: no variable", Plain(name));
             return Err(Fault::Usage);
         }
     }
@@ -205,11 +160,11 @@ fn watched_robot<'a>(
     alloc: Global,
     names: &'a str,
     number: usize,
-    note: &'a Note,
+    noted: NotedProgram<'a>,
 ) -> Result<Robot<'a>, AllocError> {
     let mut watched = Vec::new(alloc);
     for name in names.split(',') {
-        for variable in &variables_named(alloc, &note.names, name)? {
+        for variable in &variables_named(alloc, &noted.note.names, name)? {
             watched.push(Watched {
                 name,
                 variable: *variable,
@@ -219,7 +174,7 @@ fn watched_robot<'a>(
     }
     Ok(Robot {
         number,
-        note,
+        noted,
         watched,
         is_alive: false,
         address: 0,

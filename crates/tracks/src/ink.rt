@@ -41,12 +41,7 @@ impl Period {
             self.last.saturating_sub(self.first),
         );
         let percent = opacity(age, all);
-        text.add(" opacity=\"");
-        text.number(u64::from(percent / 100));
-        text.add(".");
-        text.number(u64::from(percent / 10 % 10));
-        text.number(u64::from(percent % 10));
-        text.add("\"");
+        write!(text, r#" opacity="{}.{:02}""#, percent / 100, percent % 100);
     }
 }
 

@@ -1,11 +1,10 @@
 //! The legend: the match, what of it is drawn, how each robot ended, and what the signs mean.
 
-use crate::ink::{add_name, add_short_name, cycle_of};
+use crate::ink::{add_name, add_short_name, colour, cycle_of};
 use crate::matches::Track;
 use crate::paths::path_spacing;
 use crate::requests::View;
 use crate::scenes::{Robot, Scene};
-use crate::svg::{add_number, add_words};
 use arena::MOST_ROBOTS;
 use tools::{Draft, Text};
 use watching::Shots;
@@ -23,41 +22,31 @@ const SIGNS: &str =
 
 /// Adds the legend.
 pub fn add_legend(text: &mut Draft, scene: &Scene<'_>) {
-    text.add("<g fill=\"#222222\">\n");
-    add_heading(text, scene);
-    add_view(text, scene.request.view, scene.recording.cycles);
+    let (number, cycles) = (scene.request.wish.first(), scene.recording.cycles);
+    writeln!(text, r##"<g fill="#222222">"##);
+    text.add(r#"<text x="1080" y="70" font-size="22">"#);
+    writeln!(text, "Match {number}: cycles = {cycles}</text>");
+    add_view(text, scene.request.view, cycles);
     add_share(text, &scene.recording.shots);
-    for (index, track) in scene.recording.tracks.as_slice().iter().enumerate() {
-        add_entry(text, &scene.robot(index, track));
+    for robot in &scene.robots {
+        add_entry(text, robot);
     }
-    text.add("<text x=\"1116\" y=\"936\">each ");
-    text.number(u64::from(path_spacing(scene.period)));
-    text.add(" cycles</text>\n</g>\n");
+    let spacing = path_spacing(scene.period);
+    text.add(r#"<text x="1116" y="936">"#);
+    writeln!(text, "each {spacing} cycles</text>\n</g>");
     text.add(SIGNS);
-}
-
-/// Adds which match it is, and how many cycles it had.
-fn add_heading(text: &mut Draft, scene: &Scene<'_>) {
-    text.add("<text x=\"1080\" y=\"70\" font-size=\"22\">Match ");
-    text.number(u64::from(scene.request.wish.first()));
-    text.add(": cycles = ");
-    text.number(u64::from(scene.recording.cycles));
-    text.add("</text>\n");
 }
 
 /// Adds which cycles and which robot are drawn, if not all.
 fn add_view(text: &mut Draft, view: View, cycles: u32) {
-    let (from, to) = (view.span.from.min(cycles), view.span.to.min(cycles));
     if view.is_whole(cycles) {
         return;
     }
-    text.add("<text x=\"1080\" y=\"94\" font-size=\"14\">drawn: cycles ");
-    text.number(u64::from(from));
-    text.add(" to ");
-    text.number(u64::from(to));
+    let (from, to) = (view.span.from.min(cycles), view.span.to.min(cycles));
+    text.add(r#"<text x="1080" y="94" font-size="14">"#);
+    write!(text, "drawn: cycles {from} to {to}");
     if let Some(robot) = view.span.robot {
-        text.add(", robot ");
-        text.number(robot.saturating_add(1) as u64);
+        write!(text, ", robot {}", robot.saturating_add(1));
     }
     if !view.has_shots {
         text.add(", no shots");
@@ -68,30 +57,22 @@ fn add_view(text: &mut Draft, view: View, cycles: u32) {
 /// Adds how many of the shots are drawn, if not all.
 fn add_share(text: &mut Draft, shots: &Shots) {
     let (drawn, count) = (shots.as_slice().len() as u64, shots.count());
-    if drawn == count {
-        return;
+    if drawn != count {
+        text.add(r#"<text x="1080" y="114" font-size="14">"#);
+        writeln!(text, "the last {drawn} of {count} shots are drawn</text>");
     }
-    text.add("<text x=\"1080\" y=\"114\" font-size=\"14\">the last ");
-    text.number(drawn);
-    text.add(" of ");
-    text.number(count);
-    text.add(" shots are drawn</text>\n");
 }
 
 /// Adds a robot's entry: its colour, its name, and how it ended.
 fn add_entry(text: &mut Draft, robot: &Robot<'_>) {
     let y = 150 + (robot.index % MOST_ROBOTS) as u32 * 64;
+    let colour = colour(robot.index);
     text.add("<g><title>");
     add_name(text, robot.name);
-    text.add("</title><rect x=\"1080\"");
-    add_number(text, "y", y - 20);
-    text.add(" width=\"24\" height=\"24\"");
-    add_words(text, "fill", robot.colour());
-    text.add("/><text x=\"1116\"");
-    add_number(text, "y", y);
-    text.add(" font-weight=\"bold\">");
-    text.number(robot.number());
-    text.add(") ");
+    write!(text, r#"</title><rect x="1080" y="{}""#, y - 20);
+    write!(text, r#" width="24" height="24" fill="{colour}"/>"#);
+    write!(text, r#"<text x="1116" y="{y}" font-weight="bold">"#);
+    write!(text, "{}) ", robot.number());
     add_short_name(text, robot.name);
     text.add("</text>");
     add_state(text, robot.track, y + 24);
@@ -100,21 +81,11 @@ fn add_entry(text: &mut Draft, robot: &Robot<'_>) {
 
 /// Adds how a robot ended, in this row.
 fn add_state(text: &mut Draft, track: &Track, y: u32) {
-    text.add("<text x=\"1116\"");
-    add_number(text, "y", y);
-    text.add(">");
-    text.add(state_of(track));
-    text.add(" damage ");
-    text.number(u64::from(track.damage));
-    text.add("%");
+    let state = if track.is_alive() { "alive" } else { "dead" };
+    write!(text, r#"<text x="1116" y="{y}">{state}"#);
+    write!(text, " damage {}%", track.damage);
     if let Some(update) = track.death {
-        text.add(" after cycle ");
-        text.number(u64::from(cycle_of(update)));
+        write!(text, " after cycle {}", cycle_of(update));
     }
     text.add("</text>");
-}
-
-/// Returns the word for how a robot ended.
-fn state_of(track: &Track) -> &'static str {
-    if track.is_alive() { "alive" } else { "dead" }
 }

@@ -12,9 +12,8 @@ mod requests;
 mod scenes;
 mod shots;
 mod strip;
-mod svg;
 
-use crate::matches::{Recording, record};
+use crate::matches::record;
 use crate::picture::drawn;
 use crate::requests::{Request, VIEW_OPTIONS};
 use notes::compiled;
@@ -49,15 +48,10 @@ impl Work for Tracks {
     /// Plays the match, and writes its picture at once when it is whole.
     fn work(&self, rt: &HostRuntime, options: &Options<'_>) -> Result<(), Fault> {
         let request = Request::read(options)?;
-        let recording = recorded(rt, &request)?;
+        let sources = compiled(rt, FRAME.name, &request.wish)?;
+        let mut pilots = pilots(rt.alloc(), sources.programs.as_slice())?;
+        let recording = record(pilots.as_mut_slice(), &request.wish, request.view);
         let picture = drawn(rt.alloc(), &request, &recording)?;
         write_to(rt, options, picture.as_str())
     }
-}
-
-/// Compiles the files and plays the match.
-fn recorded(rt: &HostRuntime, request: &Request<'_>) -> Result<Recording, Fault> {
-    let sources = compiled(rt, FRAME.name, &request.wish)?;
-    let mut pilots = pilots(rt.alloc(), sources.programs.as_slice())?;
-    Ok(record(pilots.as_mut_slice(), &request.wish, request.view))
 }

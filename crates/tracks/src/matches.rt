@@ -7,7 +7,7 @@ use crate::requests::View;
 use arena::{Arena, DEADLY, MOST_ROBOTS};
 use arrayvec::ArrayVec;
 use settings::Settings;
-use watching::{Exchange, Path, Pilot, Place, Shot, Shots, Turn, UPDATE_CYCLES, Watcher};
+use watching::{Exchange, Path, Pilot, Place, Shot, Shots, Turn, UPDATE_CYCLES, Watcher, play};
 
 /// The most times that a robot's damage grows: each time by a percent at least.
 const MOST_GROWTHS: usize = 100;
@@ -22,7 +22,7 @@ pub struct Growth {
 }
 
 /// What is recorded of a robot.
-#[derive(Drop)]
+#[derive(Default, Drop)]
 pub struct Track {
     /// The update after which it was at the first place of its path.
     pub first: u32,
@@ -38,19 +38,6 @@ pub struct Track {
     pub growths: ArrayVec<Growth, MOST_GROWTHS>,
 }
 
-impl Default for Track {
-    fn default() -> Track {
-        Track {
-            first: 0,
-            path: Path::new(),
-            end: Place::default(),
-            death: None,
-            damage: 0,
-            growths: ArrayVec::new(),
-        }
-    }
-}
-
 impl Track {
     /// Reports whether the robot is alive at the end of the match.
     pub fn is_alive(&self) -> bool
@@ -61,10 +48,7 @@ impl Track {
 
     /// Reports whether the robot is dead after the update of this number.
     pub fn is_dead_after(&self, update: u32) -> bool {
-        match self.death {
-            Some(death) => death <= update,
-            None => false,
-        }
+        matches!(self.death, Some(death) if death <= update)
     }
 
     /// Records the robot's damage after the update of this number. Its death is in the first update after which it
@@ -98,6 +82,8 @@ impl Track {
 /// What is recorded of a match.
 #[derive(Drop)]
 pub struct Recording {
+    /// What of it is drawn.
+    view: View,
     /// How many cycles it had.
     pub cycles: u32,
     /// The robots, in order.
@@ -113,6 +99,29 @@ impl Recording {
     {
         self.cycles / UPDATE_CYCLES
     }
+
+    /// Records what each robot suffered up to the update of this number, and where it is, if that is drawn. The shots
+    /// whose bursts in it hurt a robot are marked: one whose damage grew, at the place where it is after it.
+    fn watch(&mut self, arena: &Arena, update: u32) {
+        let cycle = update.saturating_mul(UPDATE_CYCLES);
+        for robot in 0..arena.robot_count() {
+            let (place, damage) = (Place::of(arena, robot), arena.damage(robot));
+            let mut is_hurt = false;
+            if let Some(track) = self.tracks.as_mut_slice().get_mut(robot) {
+                is_hurt = track.damage < damage;
+                track.suffer(damage, update);
+                if cycle <= self.view.span.to {
+                    track.end = place;
+                }
+                if self.view.span.has_cycle(cycle) {
+                    track.pass(place, update);
+                }
+            }
+            if is_hurt {
+                self.shots.mark(update, place);
+            }
+        }
+    }
 }
 
 /// Plays the match that is asked for, and records what of it is drawn.
@@ -121,65 +130,19 @@ pub fn record(pilots: &mut [Pilot<'_>], wish: &Settings<'_>, view: View) -> Reco
     requires most { length pilots.old ≤ MOST_ROBOTS }
     ensures { result.cycles ≤ wish.now.limit }
 {
-    let mut recorder = MatchRecorder {
+    let mut recording = Recording {
         view,
+        cycles: 0,
         tracks: ArrayVec::new(),
         shots: Shots::new(),
     };
-    let ending = watching::play(
-        pilots,
-        &mut recorder,
-        wish.seed(),
-        wish.first(),
-        wish.limit(),
-    );
-    Recording {
-        cycles: ending.cycles,
-        tracks: recorder.tracks,
-        shots: recorder.shots,
-    }
+    let (seed, number, limit) = (wish.seed(), wish.first(), wish.limit());
+    let ending = play(pilots, &mut recording, seed, number, limit);
+    recording.cycles = ending.cycles;
+    recording
 }
 
-/// The watcher that makes a recording.
-#[derive(Drop)]
-struct MatchRecorder {
-    view: View,
-    tracks: ArrayVec<Track, MOST_ROBOTS>,
-    shots: Shots,
-}
-
-impl MatchRecorder {
-    /// Records what each robot suffered up to the update of this number, and where it is, if that is drawn.
-    fn watch(&mut self, arena: &Arena, update: u32) {
-        let cycle = update.saturating_mul(UPDATE_CYCLES);
-        for robot in 0..arena.robot_count() {
-            if let Some(track) = self.tracks.as_mut_slice().get_mut(robot) {
-                track.suffer(arena.damage(robot), update);
-                let place = Place::of(arena, robot);
-                if cycle <= self.view.span.to {
-                    track.end = place;
-                }
-                if self.view.span.has_cycle(cycle) {
-                    track.pass(place, update);
-                }
-            }
-        }
-    }
-
-    /// Marks the shots whose bursts in the update of this number hurt a robot: one whose damage grew in it, at the
-    /// place where it is after it.
-    fn mark(&mut self, arena: &Arena, update: u32) {
-        for robot in 0..arena.robot_count() {
-            if let Some(track) = self.tracks.as_slice().get(robot)
-                && track.damage < arena.damage(robot)
-            {
-                self.shots.mark(update, Place::of(arena, robot));
-            }
-        }
-    }
-}
-
-impl Watcher for MatchRecorder {
+impl Watcher for Recording {
     fn begins(&mut self, arena: &Arena) {
         for _ in 0..arena.robot_count() {
             let _ = self.tracks.try_push(Track::default());
@@ -198,8 +161,6 @@ impl Watcher for MatchRecorder {
     }
 
     fn updated(&mut self, cycle: u32, arena: &Arena) {
-        let update = cycle / UPDATE_CYCLES;
-        self.mark(arena, update);
-        self.watch(arena, update);
+        self.watch(arena, cycle / UPDATE_CYCLES);
     }
 }

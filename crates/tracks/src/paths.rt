@@ -2,10 +2,9 @@
 
 ghost use Rattle.std.specs.Prelude.{◌<◌, ◌≤◌, length};
 
-use crate::ink::{Period, cycle_of};
+use crate::ink::{Period, colour, cycle_of};
 use crate::matches::Track;
 use crate::scenes::Robot;
-use crate::svg::{add_number, add_step, add_words};
 use tools::{Draft, Text};
 use watching::{Path, Place, UPDATE_CYCLES, column, mark_spacing, row};
 
@@ -31,10 +30,9 @@ pub fn path_spacing(period: Period) -> u32
 
 /// Adds a robot's path with a light edge, its marks of time and its start.
 pub fn add_track(text: &mut Draft, robot: &Robot<'_>, period: Period) {
-    let track = robot.track;
-    text.add("<g fill=\"none\"");
-    add_words(text, "stroke", robot.colour());
-    text.add(" stroke-width=\"4\">");
+    let (track, colour) = (robot.track, colour(robot.index));
+    write!(text, r#"<g fill="none" stroke="{colour}""#);
+    text.add(r#" stroke-width="4">"#);
     robot.add_title(text);
     text.add("\n");
     add_edge(text, track);
@@ -42,26 +40,21 @@ pub fn add_track(text: &mut Draft, robot: &Robot<'_>, period: Period) {
     add_marks(text, track, period);
     if let [start, ..] = track.path.places() {
         add_circle(text, *start);
-        text.add(" r=\"9\" fill=\"#ffffff\" fill-opacity=\".6\"/>\n");
+        writeln!(text, r##" r="9" fill="#ffffff" fill-opacity=".6"/>"##);
     }
     text.add("</g>\n");
 }
 
 /// Adds the first part of a circle at a place.
 fn add_circle(text: &mut Draft, place: Place) {
-    text.add("<circle");
-    add_number(text, "cx", column(place));
-    add_number(text, "cy", row(place));
+    let (x, y) = (column(place), row(place));
+    write!(text, r#"<circle cx="{x}" cy="{y}""#);
 }
 
 /// Adds the light edge of a path, which lies below it.
 fn add_edge(text: &mut Draft, track: &Track) {
-    text.add("<polyline stroke=\"#ffffff\" stroke-width=\"8\" stroke-opacity=\".8\" points=\"");
-    let mut last = None;
-    for place in track.path.places() {
-        last = Some(add_point(text, *place, last));
-    }
-    add_point(text, track.end, last);
+    text.add(r##"<polyline stroke="#ffffff" stroke-width="8" stroke-opacity=".8" points=""##);
+    add_points(text, track.path.places(), &[track.end]);
     text.add("\"/>\n");
 }
 
@@ -85,68 +78,44 @@ fn add_piece(text: &mut Draft, track: &Track, first: usize, next: usize, period:
     requires inside { next ≤ length track.now.path.places }
 {
     let path: &Path = &track.path;
-    let len = path.places().len();
     let begin = track.first.saturating_add(path.update_of(first));
     let end = track.first.saturating_add(path.update_of(next - 1));
     text.add("<polyline");
     period.add_opacity(text, end);
     text.add(" points=\"");
-    let mut last = None;
-    for place in &path.places()[first..len.min(next + 1)] {
-        last = Some(add_point(text, *place, last));
+    match path.places().get(first..next + 1) {
+        Some(places) => add_points(text, places, &[]),
+        None => add_points(text, &path.places()[first..next], &[track.end]),
     }
-    if next == len {
-        add_point(text, track.end, last);
-    }
-    text.add("\"><title>cycles ");
-    text.number(u64::from(cycle_of(begin)));
-    text.add(" to ");
-    text.number(u64::from(cycle_of(end)));
-    text.add("</title></polyline>\n");
+    let (begin, end) = (cycle_of(begin), cycle_of(end));
+    writeln!(text, "\"><title>cycles {begin} to {end}</title></polyline>");
 }
 
-/// Adds a point of a path if it is another one than the last. Returns its column and row.
-fn add_point(text: &mut Draft, place: Place, last: Option<(u32, u32)>) -> (u32, u32) {
-    let (x, y) = (column(place), row(place));
-    match last {
-        None => add_pair(text, x, y),
-        Some((before_x, before_y)) if before_x == x && before_y == y => {}
-        Some(_) => {
-            text.add(" ");
-            add_pair(text, x, y);
+/// Adds the points of places and of the end behind them, but those that are where the one before is.
+fn add_points(text: &mut Draft, places: &[Place], end: &[Place]) {
+    let mut last = None;
+    for place in places.iter().chain(end) {
+        let (x, y) = (column(*place), row(*place));
+        if last != Some((x, y)) {
+            text.add(if last.is_some() { " " } else { "" });
+            write!(text, "{x},{y}");
+            last = Some((x, y));
         }
     }
-    (x, y)
-}
-
-/// Adds a column and a row with a comma between them.
-fn add_pair(text: &mut Draft, x: u32, y: u32) {
-    text.number(u64::from(x));
-    text.add(",");
-    text.number(u64::from(y));
 }
 
 /// Adds the marks of time on a path, but none at its start.
 fn add_marks(text: &mut Draft, track: &Track, period: Period) {
     let spacing = path_spacing(period);
-    let (first, last) = (
-        cycle_of(period.first) / spacing,
-        cycle_of(period.last) / spacing,
-    );
-    for mark in first..=last {
+    let first = cycle_of(period.first) / spacing;
+    for mark in first..=cycle_of(period.last) / spacing {
         let cycle = mark.saturating_mul(spacing);
         if let Some(place) = place_at(track, cycle) {
-            add_mark(text, place, cycle);
+            add_circle(text, place);
+            text.add(r##" r="4" fill="#ffffff" stroke-width="2">"##);
+            writeln!(text, "<title>cycle {cycle}</title></circle>");
         }
     }
-}
-
-/// Adds a mark of time.
-fn add_mark(text: &mut Draft, place: Place, cycle: u32) {
-    add_circle(text, place);
-    text.add(" r=\"4\" fill=\"#ffffff\" stroke-width=\"2\"><title>cycle ");
-    text.number(u64::from(cycle));
-    text.add("</title></circle>\n");
 }
 
 /// Returns where the robot was about this cycle, if the path has a place of it that isn't the first one.
@@ -159,34 +128,23 @@ fn place_at(track: &Track, cycle: u32) -> Option<Place> {
     track.path.places().get(number as usize).copied()
 }
 
-/// Adds the signs of a robot's end: a full circle, a cross if it is dead, and its number beside them.
+/// Adds the signs of a robot's end: a full circle, a cross if it is dead, and its number beside them, on the side where
+/// the field is.
 pub fn add_end(text: &mut Draft, robot: &Robot<'_>, period: Period) {
-    let end = robot.track.end;
+    let (end, colour) = (robot.track.end, colour(robot.index));
+    let (x, y) = (column(end), row(end));
     add_circle(text, end);
-    text.add(" r=\"9\"");
-    add_words(text, "fill", robot.colour());
-    text.add(" stroke=\"#ffffff\" stroke-width=\"2\"/>\n");
+    write!(text, r#" r="9" fill="{colour}""#);
+    writeln!(text, r##" stroke="#ffffff" stroke-width="2"/>"##);
     if robot.track.is_dead_after(period.last) {
-        text.add("<path stroke=\"#222222\" stroke-width=\"5\" d=\"");
-        add_step(text, "M", column(end), row(end));
-        text.add("m-14 -14l28 28m0 -28l-28 28\"/>\n");
+        text.add(r##"<path stroke="#222222" stroke-width="5" d=""##);
+        writeln!(text, r#"M{x} {y}m-14 -14l28 28m0 -28l-28 28"/>"#);
     }
-    add_robot(text, robot);
-}
-
-/// Adds a robot's number beside its end, on the side where the field is.
-fn add_robot(text: &mut Draft, robot: &Robot<'_>) {
-    let (x, y) = (column(robot.track.end), row(robot.track.end));
-    text.add("<text");
-    add_number(text, "x", x);
-    add_number(text, "y", y);
+    write!(text, r#"<text x="{x}" y="{y}""#);
     text.add(if x > LAST_COLUMN {
-        " dx=\"-20\" dy=\"7\" text-anchor=\"end\""
+        r#" dx="-20" dy="7" text-anchor="end""#
     } else {
-        " dx=\"20\" dy=\"7\" text-anchor=\"start\""
+        r#" dx="20" dy="7" text-anchor="start""#
     });
-    add_words(text, "fill", robot.colour());
-    text.add(">");
-    text.number(robot.number());
-    text.add("</text>\n");
+    writeln!(text, r#" fill="{colour}">{}</text>"#, robot.number());
 }

@@ -32,38 +32,28 @@ pub fn drawn(
     recording: &Recording,
 ) -> Result<String, AllocError> {
     let mut text = Draft::new(alloc);
-    add_picture(&mut text, &Scene::of(request, recording));
+    add_picture(&mut text, &Scene::of(alloc, request, recording)?);
     text.finish()
 }
 
-/// Adds the whole picture.
+/// Adds the whole picture. The robots that are drawn have their ends above all paths.
 fn add_picture(text: &mut Draft, scene: &Scene<'_>) {
     text.add(HEAD);
     add_field(text);
     add_shots(text, scene.recording.shots.as_slice(), scene.period);
-    add_tracks(text, scene);
-    add_ends(text, scene);
-    add_legend(text, scene);
-    add_strip(text, scene);
-    text.add("</svg>\n");
-}
-
-/// Adds the paths of the robots that are drawn.
-fn add_tracks(text: &mut Draft, scene: &Scene<'_>) {
-    for (index, track) in scene.recording.tracks.as_slice().iter().enumerate() {
-        if scene.request.view.span.has_robot(index) {
-            add_track(text, &scene.robot(index, track), scene.period);
+    for robot in &scene.robots {
+        if scene.request.view.span.has_robot(robot.index) {
+            add_track(text, robot, scene.period);
         }
     }
-}
-
-/// Adds the ends of the robots that are drawn, above all paths.
-fn add_ends(text: &mut Draft, scene: &Scene<'_>) {
     text.add(ENDS);
-    for (index, track) in scene.recording.tracks.as_slice().iter().enumerate() {
-        if scene.request.view.span.has_robot(index) {
-            add_end(text, &scene.robot(index, track), scene.period);
+    for robot in &scene.robots {
+        if scene.request.view.span.has_robot(robot.index) {
+            add_end(text, robot, scene.period);
         }
     }
     text.add("</g>\n");
+    add_legend(text, scene);
+    add_strip(text, scene);
+    text.add("</svg>\n");
 }

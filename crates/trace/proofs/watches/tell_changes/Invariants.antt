@@ -1,5 +1,5 @@
 use Rattle.std.proofs.Common.{◌≡◌, length}
-use Rattle.trace.proofs.watches.play.Given as goal
+use Rattle.trace.proofs.watches.tell_changes.Given as goal
 
 -- the field has as many robots as there are pilots
 abbrev pub invariant-loop : goal.invariant-loop
