@@ -46,7 +46,15 @@ pub fn tell_wrong(rt: &HostRuntime, program: &str, options: &Options<'_>, wrong:
             let (one, other) = (Dashed(one), Dashed(other));
             eprintln!(rt; "{program}: {one} without {other}")
         }
-        Wrong::Files => eprintln!(rt; "{program}: over four files"),
+        Wrong::Files(1) => eprintln!(rt; "{program}: over one file"),
+        Wrong::Files(most) => {
+            let most = spelled(most);
+            eprintln!(rt; "{program}: over {most} files")
+        }
+        Wrong::Unlike(name, example) => {
+            let option = Dashed(name);
+            eprintln!(rt; "{program}: {option}: not as {example}")
+        }
     };
 }
 
@@ -64,12 +72,12 @@ pub fn tell_unwritten(rt: &HostRuntime, program: &str, file: Option<&str>) {
     };
 }
 
-/// How many robots there are, as words: none, or up to as many as may fight.
+/// How many robots or files there are, as words: none, or up to as many robots as may fight.
 const COUNTS: [&str; MOST_FILES + 1] = ["no", "one", "two", "three", "four"];
 
-/// Returns how many robots fight as a word.
-fn spelled(robots: usize) -> &'static str {
-    match COUNTS.get(robots) {
+/// Returns how many robots or files there are as a word.
+fn spelled(count: usize) -> &'static str {
+    match COUNTS.get(count) {
         Some(word) => word,
         None => "many",
     }

@@ -34,8 +34,10 @@ pub enum Wrong {
     Both(&'static str, &'static str),
     /// The first of these two options may only be given with the other.
     Alone(&'static str, &'static str),
-    /// There are more files than robots may fight.
-    Files,
+    /// There are more files than this.
+    Files(usize),
+    /// The value of this option is none as this one is.
+    Unlike(&'static str, &'static str),
 }
 
 impl Fault {

@@ -7,8 +7,8 @@ use crate::known::Known;
 use crate::options::Options;
 use grammar::{MOST_PROFILE, Profile};
 use settings::{
-    Given, MOST_CYCLES, MOST_FIRST_MATCH, PROFILE_DEFAULT, Settings, UseFault, settings_given,
-    value_number,
+    Given, MOST_CYCLES, MOST_FILES, MOST_FIRST_MATCH, PROFILE_DEFAULT, Settings, UseFault,
+    settings_given, value_number,
 };
 
 /// The option of the language profile.
@@ -54,7 +54,7 @@ pub fn wish<'a>(options: &Options<'a>) -> Result<Settings<'a>, Fault> {
     match settings_given(given) {
         Ok(wish) => Ok(wish),
         Err(UseFault::Number) => Err(wrong_number(options)),
-        Err(UseFault::TooMany) => Err(Fault::Wrong(Wrong::Files)),
+        Err(UseFault::TooMany) => Err(Fault::Wrong(Wrong::Files(MOST_FILES))),
         Err(UseFault::Memory) => Err(Fault::Memory),
         Err(UseFault::Usage | UseFault::NoMode) => Err(Fault::Usage),
     }
