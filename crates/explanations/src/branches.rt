@@ -1,9 +1,10 @@
 //! Warnings about `if` and `while`: empty bodies, `=` in conditions, conditions that can't change, and indentation.
 
-use crate::heads::{behind_brackets, token_at};
-use crate::nodes::{Kind, Node, Nodes};
+use crate::heads::behind_brackets;
+use crate::indices::token_at;
+use crate::variables::set_by;
 use crate::warnings::{Subject, Warnings};
-use derivations::Located;
+use derivations::{Located, Node, NodeKind, SourceTree};
 use grammar::{Callee, StoreOp, Var};
 use tokens::{Keyword, Punctuator, Token};
 
@@ -13,17 +14,18 @@ pub fn warn_of_branch(out: &mut Warnings, subject: &Subject<'_>, index: usize, n
     if let Some(body) = behind_brackets(tokens, node.token) {
         warn_of_body(out, tokens, node, body);
     }
-    let Some(condition) = subject.nodes.get(node.middle.saturating_sub(1)) else {
+    let last = node.second.saturating_sub(1);
+    let Some((condition, value)) = subject.valued(last) else {
         return;
     };
-    if is_assignment(subject.nodes, node, condition) && !is_in_brackets(tokens, condition.token) {
+    if is_assignment(subject.tree, last, condition) && !is_in_brackets(tokens, condition.token) {
         out.tell(
             condition.token.saturating_add(1),
             "`=` sets the variable; to compare write `==`, or put it into brackets of its own",
         );
     }
-    if node.kind == Kind::While
-        && let Some(words) = on_condition(subject.nodes, index, node, condition.value)
+    if node.kind == NodeKind::While
+        && let Some(words) = on_condition(subject.tree, index, node, value)
     {
         out.tell(node.token, words);
     }
@@ -35,7 +37,7 @@ fn warn_of_body(out: &mut Warnings, tokens: &[Located], node: &Node, body: usize
     let behind = token_at(tokens, body.saturating_add(1));
     if token_at(tokens, body) != Token::Punctuator(Punctuator::Semicolon) {
         warn_of_indentation(out, tokens, node.token, body);
-    } else if node.kind == Kind::While {
+    } else if node.kind == NodeKind::While {
         if behind == Token::Punctuator(Punctuator::OpenCurly) {
             out.tell(
                 body,
@@ -92,14 +94,14 @@ fn may_begin(located: &Located) -> bool {
     )
 }
 
-/// Reports whether the condition of a node is an assignment: not of what a call answers, which is often meant.
-fn is_assignment(nodes: &Nodes, node: &Node, condition: &Node) -> bool {
-    let value = nodes.get(node.middle.saturating_sub(2));
+/// Reports whether the node of an index is an assignment: not of what a call answers, which is often meant.
+fn is_assignment(tree: &SourceTree, index: usize, node: &Node) -> bool {
+    let value = tree.get(index.saturating_sub(1));
     let is_call = match value {
-        Some(value) => matches!(value.kind, Kind::Call(..)),
+        Some(value) => matches!(value.kind, NodeKind::Call(..)),
         None => false,
     };
-    matches!(condition.kind, Kind::Store(_, StoreOp::Set)) && !is_call
+    matches!(node.kind, NodeKind::Store(_, StoreOp::Set)) && !is_call
 }
 
 /// Reports whether two brackets are open before a token.
@@ -116,13 +118,13 @@ fn is_in_brackets(tokens: &[Located], token: usize) -> bool {
 /// Returns what is said of the condition of the loop of a node's index, if that can't change: constants that say that
 /// the loop is to go on forever are meant.
 fn on_condition(
-    nodes: &Nodes,
+    tree: &SourceTree,
     index: usize,
     node: &Node,
     value: Option<i32>,
 ) -> Option<&'static str> {
-    let condition = nodes.within(node.first, node.middle);
-    let whole = nodes.within(node.first, index);
+    let condition = tree.within(node.first, node.second);
+    let whole = tree.within(node.first, index);
     match value {
         Some(0) => Some("the condition of this loop is always 0: its body never runs"),
         Some(_) if asks(condition) => {
@@ -138,7 +140,7 @@ fn on_condition(
 /// Reports whether a condition reads a variable, or calls a function.
 fn asks(condition: &[Node]) -> bool {
     for node in condition {
-        if matches!(node.kind, Kind::Fetch(_) | Kind::Call(..)) {
+        if matches!(node.kind, NodeKind::Fetch(_) | NodeKind::Call(..)) {
             return true;
         }
     }
@@ -151,9 +153,10 @@ fn is_fixed(condition: &[Node], whole: &[Node]) -> bool {
     let mut is_read = false;
     for node in condition {
         match node.kind {
-            Kind::Fetch(var) if may_set(whole, var) => return false,
-            Kind::Fetch(_) => is_read = true,
-            Kind::Store(..) | Kind::Increment(_) | Kind::Call(..) => return false,
+            NodeKind::Fetch(var) if may_set(whole, var) => return false,
+            NodeKind::Fetch(_) => is_read = true,
+            NodeKind::Call(..) => return false,
+            _ if set_by(node).is_some() => return false,
             // no other node reads or sets a variable
             _ => {}
         }
@@ -174,9 +177,7 @@ fn may_set(nodes: &[Node], var: Var) -> bool {
 /// Reports whether a node may set a variable: a function of the file may set each external.
 fn sets(node: &Node, var: Var) -> bool {
     match node.kind {
-        Kind::Store(other, _) | Kind::Increment(other) => other == var,
-        Kind::Call(Callee::Function(_), _) => matches!(var, Var::External(_)),
-        // no other node sets one
-        _ => false,
+        NodeKind::Call(Callee::Function(_), _) => matches!(var, Var::External(_)),
+        _ => set_by(node) == Some(var),
     }
 }

@@ -38,9 +38,9 @@ pub fn add_marked(note: &mut Note, source: &[u8], at: usize) {
 fn line_start(source: &[u8], at: usize) -> usize {
     let before = source.get(..at).unwrap_or(source);
     let mut start = 0usize;
-    for (place, byte) in before.iter().enumerate() {
+    for (index, byte) in before.iter().enumerate() {
         if *byte == b'\n' {
-            start = place.saturating_add(1);
+            start = index.saturating_add(1);
         }
     }
     start

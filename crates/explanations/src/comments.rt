@@ -11,17 +11,36 @@ struct Comment<'a> {
     behind: &'a [u8],
 }
 
+impl<'a> Comment<'a> {
+    /// Returns the first comment of a text that begins on this line.
+    fn first(text: &'a [u8], line: u32) -> Option<Comment<'a>> {
+        let open = after(text, b"/*")?;
+        let behind = after(open, b"*/").unwrap_or(&[]);
+        Some(Comment {
+            line: line.saturating_add(line_ends(before(text, open))),
+            inside: before(open, behind),
+            behind,
+        })
+    }
+
+    /// Returns the one after it.
+    fn next(&self) -> Option<Comment<'a>> {
+        Comment::first(
+            self.behind,
+            self.line.saturating_add(line_ends(self.inside)),
+        )
+    }
+}
+
 /// Returns the line on which a comment begins that has a name in it, and after the name the beginning of another
 /// comment: it probably wasn't meant to go so far.
 pub fn swallowed(source: &[u8], name: &[u8]) -> Option<u32> {
-    let (mut line, mut rest) = (1u32, source);
+    let mut comment = Comment::first(source, 1)?;
     for _ in 0..source.len() {
-        let comment = first_comment(rest, line)?;
         if begins_behind(comment.inside, name) {
             return Some(comment.line);
         }
-        line = comment.line.saturating_add(line_ends(comment.inside));
-        rest = comment.behind;
+        comment = comment.next()?;
     }
     None
 }
@@ -37,17 +56,15 @@ fn begins_behind(text: &[u8], name: &[u8]) -> bool {
 /// Returns the line on which a comment begins that has the beginning of another one in it, if a position is between the
 /// end of that comment and a further `*/`: it probably wasn't meant to end so early.
 pub fn nested(source: &[u8], at: usize) -> Option<u32> {
-    let (mut line, mut rest) = (1u32, source);
+    let mut comment = Comment::first(source, 1)?;
     for _ in 0..source.len() {
-        let comment = first_comment(rest, line)?;
         if at < source.len().saturating_sub(comment.behind.len()) {
             return None;
         }
         if after(comment.inside, b"/*").is_some() && is_before_end(source, &comment, at) {
             return Some(comment.line);
         }
-        line = comment.line.saturating_add(line_ends(comment.inside));
-        rest = comment.behind;
+        comment = comment.next()?;
     }
     None
 }
@@ -59,17 +76,6 @@ fn is_before_end(source: &[u8], comment: &Comment<'_>, at: usize) -> bool {
     };
     let between = before(comment.behind, rest);
     after(between, b"/*").is_none() && at < source.len().saturating_sub(rest.len())
-}
-
-/// Returns the first comment of a text that begins on this line.
-fn first_comment(text: &[u8], line: u32) -> Option<Comment<'_>> {
-    let open = after(text, b"/*")?;
-    let behind = after(open, b"*/").unwrap_or(&[]);
-    Some(Comment {
-        line: line.saturating_add(line_ends(before(text, open))),
-        inside: before(open, behind),
-        behind,
-    })
 }
 
 /// Returns what follows the first occurrence of some bytes. It isn't inlined, since the page's module is to be small.

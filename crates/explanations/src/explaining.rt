@@ -11,7 +11,7 @@ use crate::searches::Search;
 use crate::sizes::add_sizes;
 use crate::told::add_token;
 use crate::wanted::add_wanted;
-use derivations::{Located, Walk, fitting};
+use derivations::{Located, fitting};
 use grammar::{Code, Diagnostic, MOST_NAMES, MOST_NESTED, Profile};
 use tokens::{MOST_CONSTANT_VALUE, MOST_NAME_BYTES, MOST_SOURCE_BYTES};
 
@@ -24,6 +24,8 @@ pub struct Found<'a> {
     pub tokens: &'a [Located],
     /// The index of the fault's token.
     pub index: usize,
+    /// That token.
+    pub met: Located,
     /// What the fault is.
     pub code: Code,
     /// The language profile.
@@ -39,11 +41,13 @@ pub fn explain(
     profile: Profile,
     diagnostic: &Diagnostic,
 ) -> Note {
-    let mut search = Search::along(Walk::start(tokens, profile));
+    let mut search = Search::of(tokens, profile);
+    let index = search.find(diagnostic);
     let found = Found {
         source,
         tokens,
-        index: search.find(diagnostic),
+        index,
+        met: tokens.get(index).copied().unwrap_or_default(),
         code: diagnostic.code,
         profile,
     };
@@ -77,14 +81,10 @@ fn add_reason(note: &mut Note, found: &Found<'_>, search: &Search<'_>) {
 
 /// Adds the first line, and the source's line with a caret.
 fn add_head(note: &mut Note, diagnostic: &Diagnostic, found: &Found<'_>) {
-    let (column, start) = match found.tokens.get(found.index) {
-        Some(located) => (located.column, located.start),
-        None => (1, 0),
-    };
-    note.place(diagnostic.line, column);
+    note.position(diagnostic.line, found.met.column);
     note.add(diagnostic.code.text());
     note.push('\n');
-    add_marked(note, found.source, start);
+    add_marked(note, found.source, found.met.start);
 }
 
 /// Adds what was met instead of what fits, and the hint on it.
@@ -110,18 +110,12 @@ fn add_misfit(note: &mut Note, found: &Found<'_>, search: &Search<'_>) {
 /// Returns the hint on what was met: words and characters that aren't known have their own, but for a comment that was
 /// meant to go on.
 fn hint_for(found: &Found<'_>, scene: &Scene<'_>) -> Option<Hint> {
-    if let Some(line) = nested(found.source, start_of(found)) {
+    if let Some(line) = nested(found.source, found.met.start) {
         return Some(Hint::Nested(line));
     }
     match found.code {
-        Code::ReservedWord => {
-            let words = on_word(found.source, found.tokens.get(found.index)?)?;
-            Some(Hint::Text(words))
-        }
-        Code::BadCharacter => {
-            let words = on_character(found.source, found.tokens, found.index)?;
-            Some(Hint::Text(words))
-        }
+        Code::ReservedWord => Some(Hint::Text(on_word(found.source, &found.met)?)),
+        Code::BadCharacter => Some(Hint::Text(on_character(found)?)),
         // of any other fault that has a hint here, the token doesn't fit
         _ => hint_on(scene),
     }
@@ -129,11 +123,9 @@ fn hint_for(found: &Found<'_>, scene: &Scene<'_>) -> Option<Hint> {
 
 /// Adds the token that was met.
 pub fn add_met(note: &mut Note, found: &Found<'_>) {
-    if let Some(located) = found.tokens.get(found.index) {
-        note.add("  met: ");
-        add_token(note, found.source, located);
-        note.push('\n');
-    }
+    note.add("  met: ");
+    add_token(note, found.source, &found.met);
+    note.push('\n');
 }
 
 /// Adds the limit that a source exceeds.
@@ -142,73 +134,41 @@ fn add_limit(note: &mut Note, found: &Found<'_>) {
     match found.code {
         Code::CommentNotClosed => note.add("the comment that begins here has no `*/`"),
         Code::NameTooLong => {
-            add_most(
-                note,
-                "a name has at most ",
-                MOST_NAME_BYTES,
-                " letters, and this one has ",
-            );
-            note.number(length_of(found));
+            let length = found.met.end.saturating_sub(found.met.start);
+            note.count("a name has at most ", MOST_NAME_BYTES as u64, " letters");
+            note.count(", and this one has ", length as u64, "");
         }
         Code::ConstantTooLarge => {
-            note.add("the greatest number is ");
-            note.number(u64::from(MOST_CONSTANT_VALUE));
+            note.count(
+                "the greatest number is ",
+                u64::from(MOST_CONSTANT_VALUE),
+                "",
+            );
         }
-        Code::SourceTooLong => add_most(
-            note,
+        Code::SourceTooLong => note.count(
             "a source has at most ",
-            MOST_SOURCE_BYTES as usize,
+            u64::from(MOST_SOURCE_BYTES),
             " bytes",
         ),
-        Code::NestedTooDeeply => add_most(
-            note,
+        Code::NestedTooDeeply => note.count(
             "at most ",
-            usize::from(MOST_NESTED),
+            u64::from(MOST_NESTED),
             " blocks, branches, loops, assignments, brackets and calls are open at once",
         ),
         Code::TooManyVariables => {
-            add_most(note, "a function has at most ", MOST_NAMES, " variables");
-            add_most(
-                note,
+            note.count("a function has at most ", MOST_NAMES as u64, " variables");
+            note.count(
                 ", and a file at most ",
-                MOST_NAMES,
+                MOST_NAMES as u64,
                 " outside its functions",
             );
         }
-        Code::TooManyFunctions => add_most(note, "a file has at most ", MOST_NAMES, " functions"),
+        Code::TooManyFunctions => {
+            note.count("a file has at most ", MOST_NAMES as u64, " functions");
+        }
         Code::TooMuchCode => add_sizes(note, found),
-        // no limit is exceeded: `add_reason` asks others for these
-        Code::SyntaxError
-        | Code::ReservedWord
-        | Code::BadCharacter
-        | Code::FunctionDefinedTwice
-        | Code::IntrinsicRedefined
-        | Code::BadParameterDeclaration
-        | Code::FunctionNotDefined
-        | Code::NoMainFunction => {}
+        // no other fault exceeds a limit: `add_reason` asks others for these
+        _ => {}
     }
     note.push('\n');
-}
-
-/// Adds a number between words.
-fn add_most(note: &mut Note, before: &str, most: usize, behind: &str) {
-    note.add(before);
-    note.number(most as u64);
-    note.add(behind);
-}
-
-/// Returns how many bytes of the source are before the fault's token.
-pub fn start_of(found: &Found<'_>) -> usize {
-    match found.tokens.get(found.index) {
-        Some(located) => located.start,
-        None => 0,
-    }
-}
-
-/// Returns how many bytes the fault's token has.
-fn length_of(found: &Found<'_>) -> u64 {
-    match found.tokens.get(found.index) {
-        Some(located) => located.end.saturating_sub(located.start) as u64,
-        None => 0,
-    }
 }

@@ -1,53 +1,46 @@
 //! Warnings about functions: a `main` that returns, and functions that call themselves.
 
-use crate::misnamed::name_at;
-use crate::nodes::{Body, Kind, Node, Nodes};
+use crate::indices::is_name;
 use crate::warnings::{Subject, Warnings};
-use derivations::Located;
+use derivations::{Body, Node, NodeKind, SourceTree};
 use grammar::{Callee, MOST_NAMES};
 
 /// Warns of a `main` that can return.
 pub fn warn_of_main(out: &mut Warnings, subject: &Subject<'_>) {
-    for body in subject.nodes.bodies() {
-        if is_main(subject.tokens, body) {
-            warn_of_returns(out, subject.nodes, body);
+    for body in subject.tree.bodies() {
+        if is_name(subject.tokens, body.token, b"main")
+            && let Some(token) = first_return(subject, body)
+        {
+            out.tell(
+                token,
+                "`main` can return here: the robot then begins anew, with all variables 0",
+            );
         }
     }
 }
 
-/// Reports whether a function is `main`.
-fn is_main(tokens: &[Located], body: &Body) -> bool {
-    match name_at(tokens, body.token) {
-        Some(name) => name.has_bytes(b"main"),
-        None => false,
-    }
-}
-
-/// Warns of the first return of `main`, or of its end, if that is reached.
-fn warn_of_returns(out: &mut Warnings, nodes: &Nodes, main: &Body) {
-    let words = "`main` can return here: the robot then begins anew, with all variables 0";
-    match first_return(nodes.within(main.first, main.end)) {
-        Some(token) => out.tell(token, words),
-        None if main.falls => out.tell(main.closing, words),
-        None => {}
-    }
-}
-
-/// Returns the index of the token of the first return that may be reached.
-fn first_return(nodes: &[Node]) -> Option<usize> {
-    for node in nodes {
-        if node.kind == Kind::Return && !node.is_dead {
+/// Returns the index of the token of the first return of a function that may be reached, or else that of its closing
+/// brace, if that is reached.
+fn first_return(subject: &Subject<'_>, body: &Body) -> Option<usize> {
+    for index in body.first..body.end {
+        if let Some(node) = subject.tree.get(index)
+            && node.kind == NodeKind::Return
+            && !subject.reach.is_dead(index)
+        {
             return Some(node.token);
         }
     }
-    None
+    subject
+        .reach
+        .reaches_end(subject.tree, body)
+        .then_some(body.closing)
 }
 
 /// Warns of functions that may call themselves.
 pub fn warn_of_recursion(out: &mut Warnings, subject: &Subject<'_>) {
-    let called = all_called(subject.nodes);
-    for body in subject.nodes.bodies() {
-        if has(&called, body.number, body.number) {
+    let called = all_called(subject.tree);
+    for body in subject.tree.bodies() {
+        if called_by(&called, body.number) & bit(body.number) != 0 {
             out.tell(
                 body.token,
                 "this function may call itself: each call that is open takes a part of the small stack",
@@ -60,11 +53,11 @@ pub fn warn_of_recursion(out: &mut Warnings, subject: &Subject<'_>) {
 type Called = [u64; MOST_NAMES];
 
 /// Returns which functions are called by each function, directly or by others.
-fn all_called(nodes: &Nodes) -> Called {
+fn all_called(tree: &SourceTree) -> Called {
     let mut called = [0; MOST_NAMES];
-    for body in nodes.bodies() {
+    for body in tree.bodies() {
         if let Some(own) = called.get_mut(usize::from(body.number)) {
-            *own = called_by(nodes, body);
+            *own = called_in(tree.within(body.first, body.end));
         }
     }
     for through in 0..64u8 {
@@ -73,11 +66,11 @@ fn all_called(nodes: &Nodes) -> Called {
     called
 }
 
-/// Returns which functions a function calls itself.
-fn called_by(nodes: &Nodes, body: &Body) -> u64 {
+/// Returns which functions are called in some nodes.
+fn called_in(nodes: &[Node]) -> u64 {
     let mut called = 0;
-    for node in nodes.within(body.first, body.end) {
-        if let Kind::Call(Callee::Function(number), _) = node.kind {
+    for node in nodes {
+        if let NodeKind::Call(Callee::Function(number), _) = node.kind {
             called |= bit(number);
         }
     }
@@ -86,7 +79,7 @@ fn called_by(nodes: &Nodes, body: &Body) -> u64 {
 
 /// Adds what is called through a function to each function that calls it.
 fn add_through(called: &mut Called, through: u8) {
-    let more = called.get(usize::from(through)).copied().unwrap_or(0);
+    let more = called_by(called, through);
     for own in called.iter_mut() {
         if *own & bit(through) != 0 {
             *own |= more;
@@ -94,10 +87,9 @@ fn add_through(called: &mut Called, through: u8) {
     }
 }
 
-/// Reports whether a function calls another one.
-fn has(called: &Called, caller: u8, callee: u8) -> bool {
-    let own = called.get(usize::from(caller)).copied().unwrap_or(0);
-    own & bit(callee) != 0
+/// Returns which functions are called by the function of a number.
+fn called_by(called: &Called, number: u8) -> u64 {
+    called.get(usize::from(number)).copied().unwrap_or(0)
 }
 
 /// Returns the bit of a function's number.

@@ -1,5 +1,6 @@
 //! Heads of functions, and calls at which a head may have been meant.
 
+use crate::indices::{follows, token_at};
 use derivations::Located;
 use tokens::{Keyword, Punctuator, Token};
 
@@ -77,16 +78,11 @@ fn is_declaring(token: &Token) -> bool {
 /// its brackets neither a block nor a type begins.
 pub fn is_call(tokens: &[Located], name: usize) -> bool {
     match behind_brackets(tokens, name) {
-        Some(behind) => !follows_type(tokens, name) && !may_define(&token_at(tokens, behind)),
+        Some(behind) => {
+            !follows(tokens, name, &Token::Keyword(Keyword::Type))
+                && !may_define(&token_at(tokens, behind))
+        }
         None => false,
-    }
-}
-
-/// Reports whether a type word is right before an index.
-fn follows_type(tokens: &[Located], index: usize) -> bool {
-    match tokens.get(..index) {
-        Some([.., before]) => before.token == Token::Keyword(Keyword::Type),
-        _ => false,
     }
 }
 
@@ -109,16 +105,6 @@ pub fn is_behind_block(tokens: &[Located], index: usize) -> bool {
         }
     }
     false
-}
-
-/// Returns the token of an index: after the last one, the end. It isn't inlined, since the page's module is to be
-/// small.
-#[inline(never)]
-pub fn token_at(tokens: &[Located], index: usize) -> Token {
-    match tokens.get(index) {
-        Some(located) => located.token,
-        None => Token::End,
-    }
 }
 
 /// Returns the tokens from an index on.

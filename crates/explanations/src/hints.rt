@@ -2,12 +2,11 @@
 
 use crate::functions::{on_heads, on_inner_functions, on_outer_calls, on_the_outside};
 use crate::lookalikes::{Lookalike, meant_by};
-use crate::misnamed::is_intrinsic;
 use crate::notes::Note;
 use crate::scenes::Scene;
 use crate::told::spelling_of;
 use derivations::{Item, Role};
-use grammar::{operator_from, store_operator};
+use grammar::{intrinsic_named, operator_from, store_operator};
 use tokens::{Keyword, MOST_CONSTANT_VALUE, Name, Punctuator, Token};
 
 /// A hint.
@@ -30,42 +29,31 @@ pub enum Hint {
 impl Hint {
     /// Adds the hint in words.
     pub fn add(self, note: &mut Note) {
-        let (before, number, behind) = self.parts();
-        note.add(before);
-        if let Some(number) = number {
-            note.number(u64::from(number));
-        }
-        note.add(behind);
-    }
-
-    /// Returns its words, with the number between them.
-    fn parts(self) -> (&'static str, Option<u32>, &'static str) {
         match self {
-            Hint::Text(words) => (words, None, ""),
-            Hint::LacksSemicolon(line) => ("line ", Some(line), " may lack a `;` at its end"),
-            Hint::Unclosed(line) => (
+            Hint::Text(words) => note.add(words),
+            Hint::LacksSemicolon(line) => {
+                note.count("line ", u64::from(line), " may lack a `;` at its end");
+            }
+            Hint::Unclosed(line) => note.count(
                 "the block that begins on line ",
-                Some(line),
+                u64::from(line),
                 " isn't closed: a `}` is missing",
             ),
-            Hint::Nested(line) => (
+            Hint::Nested(line) => note.count(
                 "comments don't nest: the one that begins on line ",
-                Some(line),
+                u64::from(line),
                 " ends at its first `*/`",
             ),
-            Hint::Hexadecimal(Some(value)) => (
-                "numbers are decimal: hexadecimal ones aren't known; write ",
-                Some(value),
-                "",
-            ),
-            Hint::Hexadecimal(None) => {
-                (
-                    "numbers are decimal: hexadecimal ones aren't known",
-                    None,
-                    "",
-                )
+            Hint::Hexadecimal(value) => {
+                note.add("numbers are decimal: hexadecimal ones aren't known");
+                if let Some(value) = value {
+                    note.count("; write ", u64::from(value), "");
+                }
             }
-            Hint::Meant(word) => ("perhaps ", None, word),
+            Hint::Meant(word) => {
+                note.add("perhaps ");
+                note.add(word);
+            }
         }
     }
 }
@@ -261,7 +249,7 @@ fn on_names(scene: &Scene<'_>) -> Option<Hint> {
 /// Returns the hint on an intrinsic function that is called without brackets.
 fn on_calls(scene: &Scene<'_>) -> Option<Hint> {
     let name = scene.name(scene.index.checked_sub(1)?)?;
-    if begins_value(&scene.met()) && is_intrinsic(&name) {
+    if begins_value(&scene.met()) && intrinsic_named(&name).is_some() {
         return Some(Hint::Text("the arguments of a call stand in brackets"));
     }
     None
@@ -336,7 +324,8 @@ fn on_ends(scene: &Scene<'_>) -> Option<Hint> {
         return Some(Hint::Text("a `;` may be missing before it"));
     }
     if scene.met() == Token::End {
-        return Some(Hint::Unclosed(scene.line(scene.open_block()?)));
+        let open = scene.pending_at(Item::Exactly(Punctuator::CloseCurly))?;
+        return Some(Hint::Unclosed(scene.line(open)));
     }
     if scene.fits_mark(Punctuator::OpenCurly) && !scene.kinds.statement {
         return Some(Hint::Text("a `{` may be missing before it"));

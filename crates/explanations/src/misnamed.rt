@@ -1,10 +1,11 @@
 //! Faults of names: which name it is, and which one may be meant.
 
 use crate::comments::{nested, swallowed};
-use crate::explaining::{Found, add_met, start_of};
+use crate::explaining::{Found, add_met};
 use crate::functions::STRAY_CALL;
 use crate::heads::{is_behind_block, is_call};
 use crate::hints::Hint;
+use crate::indices::name_at;
 use crate::lookalikes::{Lookalike, meant_by};
 use crate::notes::Note;
 use crate::spelling::{is_near, is_same_but_for_case};
@@ -12,9 +13,6 @@ use crate::told::text_of;
 use derivations::Located;
 use grammar::{Code, Intrinsic};
 use tokens::{Name, Punctuator, Token};
-
-/// All intrinsic functions.
-static INTRINSICS: [Intrinsic; Intrinsic::ALL.len()] = Intrinsic::ALL;
 
 /// Names that beginners call, with a hint on each.
 static CALLED: [(&str, &str); 14] = [
@@ -56,18 +54,8 @@ fn add_reason(note: &mut Note, found: &Found<'_>, defined: &[usize], name: &Name
         Code::BadParameterDeclaration => note.add(on_parameter(found)),
         Code::FunctionNotDefined => add_meant(note, found, defined, name),
         Code::NoMainFunction => add_main(note, found, defined),
-        // these are no faults of names: `explain` asks others for them
-        Code::SyntaxError
-        | Code::ReservedWord
-        | Code::BadCharacter
-        | Code::CommentNotClosed
-        | Code::NameTooLong
-        | Code::ConstantTooLarge
-        | Code::SourceTooLong
-        | Code::NestedTooDeeply
-        | Code::TooManyVariables
-        | Code::TooManyFunctions
-        | Code::TooMuchCode => {}
+        // no other fault is a name's: `explain` asks others for these
+        _ => {}
     }
 }
 
@@ -77,7 +65,7 @@ fn on_stray_code(found: &Found<'_>) -> Option<Hint> {
     if matches!(found.code, Code::FunctionNotDefined | Code::NoMainFunction) {
         return None;
     }
-    if let Some(line) = nested(found.source, start_of(found)) {
+    if let Some(line) = nested(found.source, found.met.start) {
         return Some(Hint::Nested(line));
     }
     let name = head_of(found);
@@ -96,9 +84,9 @@ fn head_of(found: &Found<'_>) -> usize {
     let open = Token::Punctuator(Punctuator::OpenRound);
     let mut head = found.index;
     if found.code == Code::BadParameterDeclaration {
-        for (place, located) in before(found).iter().enumerate() {
+        for (index, located) in before(found).iter().enumerate() {
             if located.token == open {
-                head = place.saturating_sub(1);
+                head = index.saturating_sub(1);
             }
         }
     }
@@ -110,24 +98,13 @@ fn before<'a>(found: &Found<'a>) -> &'a [Located] {
     found.tokens.get(..found.index).unwrap_or(&[])
 }
 
-/// Returns the name of the token of an index. It isn't inlined, since the page's module is to be small.
-#[inline(never)]
-pub fn name_at(tokens: &[Located], index: usize) -> Option<Name> {
-    match tokens.get(index)?.token {
-        Token::Name(name) => Some(name),
-        _ => None,
-    }
-}
-
 /// Adds the position of a function's first definition.
 fn add_first(note: &mut Note, tokens: &[Located], defined: &[usize], name: &Name) {
     for index in defined {
         if let Some(first) = tokens.get(*index)
             && first.token == Token::Name(*name)
         {
-            note.add("it is defined on line ");
-            note.number(u64::from(first.line));
-            return note.add(" already");
+            return note.count("it is defined on line ", u64::from(first.line), " already");
         }
     }
     note.add("it is defined already");
@@ -173,7 +150,7 @@ fn add_meant(note: &mut Note, found: &Found<'_>, defined: &[usize], name: &Name)
 }
 
 /// Adds that a name is perhaps meant.
-pub fn add_perhaps(note: &mut Note, name: &str) {
+fn add_perhaps(note: &mut Note, name: &str) {
     note.add("perhaps ");
     note.quote(name);
     note.add(" is meant");
@@ -191,7 +168,7 @@ fn on_called(name: &Name) -> Option<&'static str> {
 
 /// Returns the name of the first intrinsic function that may be meant by another name.
 fn near_intrinsic(name: &Name) -> Option<&'static str> {
-    for intrinsic in &INTRINSICS {
+    for intrinsic in &Intrinsic::ALL {
         if may_mean(name.as_bytes(), intrinsic.name().as_bytes()) {
             return Some(intrinsic.name());
         }
@@ -202,9 +179,11 @@ fn near_intrinsic(name: &Name) -> Option<&'static str> {
 /// Adds why a name may be no function's: its function is in a comment, or it is a variable's.
 fn add_unknown(note: &mut Note, found: &Found<'_>, name: &Name) {
     if let Some(line) = swallowed(found.source, name.as_bytes()) {
-        note.add("a comment that isn't closed on line ");
-        note.number(u64::from(line));
-        note.add(" has the function in it");
+        note.count(
+            "a comment that isn't closed on line ",
+            u64::from(line),
+            " has the function in it",
+        );
     } else if is_variable(found.tokens, name) {
         note.add("it is a variable: leave the brackets out, or call the function that is meant");
     } else {
@@ -225,16 +204,6 @@ fn is_variable(tokens: &[Located], name: &Name) -> bool {
     false
 }
 
-/// Reports whether a name is an intrinsic function's.
-pub fn is_intrinsic(name: &Name) -> bool {
-    for intrinsic in &INTRINSICS {
-        if name.has_bytes(intrinsic.name().as_bytes()) {
-            return true;
-        }
-    }
-    false
-}
-
 /// Adds which function may be meant as `main`, or that it is in a comment.
 fn add_main(note: &mut Note, found: &Found<'_>, defined: &[usize]) {
     note.add("a robot begins in its function `main`");
@@ -243,9 +212,11 @@ fn add_main(note: &mut Note, found: &Found<'_>, defined: &[usize]) {
         note.quote(text_of(&function));
         note.add(" is to be it");
     } else if let Some(line) = swallowed(found.source, b"main") {
-        note.add(": a comment that isn't closed on line ");
-        note.number(u64::from(line));
-        note.add(" has it");
+        note.count(
+            ": a comment that isn't closed on line ",
+            u64::from(line),
+            " has it",
+        );
     }
 }
 

@@ -45,6 +45,14 @@ impl Note {
         let _ = write!(self.text, "{number}");
     }
 
+    /// Adds a number between words.
+    #[inline(never)]
+    pub(crate) fn count(&mut self, before: &str, number: u64, behind: &str) {
+        self.add(before);
+        self.number(number);
+        self.add(behind);
+    }
+
     /// Adds words as the source has them, between backquotes.
     #[inline(never)]
     pub(crate) fn quote(&mut self, words: &str) {
@@ -54,7 +62,7 @@ impl Note {
     }
 
     /// Adds a position, as a line and a column.
-    pub(crate) fn place(&mut self, line: u32, column: u32) {
+    pub(crate) fn position(&mut self, line: u32, column: u32) {
         self.number(u64::from(line));
         self.push(':');
         self.number(u64::from(column));

@@ -1,5 +1,7 @@
 //! Hints on words and characters that this language doesn't have.
 
+use crate::explaining::Found;
+use crate::indices::before;
 use crate::told::{character_at, spelling_of};
 use derivations::Located;
 use tokens::{Keyword, Token};
@@ -76,31 +78,32 @@ pub fn on_word(source: &[u8], located: &Located) -> Option<&'static str> {
 }
 
 /// Returns the hint on a byte that begins no token, by those around it.
-pub fn on_character(source: &[u8], tokens: &[Located], index: usize) -> Option<&'static str> {
-    let located = tokens.get(index)?;
-    let before = tokens.get(..index).unwrap_or(&[]);
-    match byte_of(source, located) {
+pub fn on_character(found: &Found<'_>) -> Option<&'static str> {
+    let (source, met) = (found.source, &found.met);
+    match source.get(met.start).copied().unwrap_or(0) {
         b'"' | b'\'' => Some(
             "there is no text and there are no characters: all values are whole numbers",
         ),
         b'#' => Some(
             "there is no `#define` and no `#include`: write the number, or use a variable",
         ),
-        b'[' if follows_test(before) => Some(
+        b'[' if follows_test(found) => Some(
             "the condition of an `if` or a `while` stands in brackets: write `(` and `)`",
         ),
         b'[' | b']' => Some("there are no arrays: use several variables"),
         b'?' => Some("there is no `?:`: write `if (..) a = ..; else a = ..;`"),
-        b':' if follows(source, located, b'=') => Some("an assignment is written with `=` alone"),
+        b':' if source.get(met.end) == Some(&b'=') => {
+            Some("an assignment is written with `=` alone")
+        }
         b':' => Some(
             "there are no labels, and no `:` behind a condition or a head: a block stands in `{` and `}`",
         ),
-        b'.' if follows_number(before, located) || is_before_digit(source, located) => {
+        b'.' if touches_number(found) => {
             Some("there are no fractions: all values are whole numbers")
         }
         b'.' => Some("there are no structures and no methods: a name stands alone"),
         b'\\' => Some("a line needs no sign to go on in the next one"),
-        0 | 128.. => Some(on_foreign_byte(source, located.start)),
+        0 | 128.. => Some(on_foreign_byte(source, met.start)),
         _ => None,
     }
 }
@@ -118,38 +121,25 @@ fn on_foreign_byte(source: &[u8], at: usize) -> &'static str {
     }
 }
 
-/// Returns the first byte of a token.
-fn byte_of(source: &[u8], located: &Located) -> u8 {
-    source.get(located.start).copied().unwrap_or(0)
-}
-
-/// Reports whether the last of some tokens is `if` or `while`.
-fn follows_test(tokens: &[Located]) -> bool {
-    match tokens {
-        [.., before] => matches!(before.token, Token::Keyword(Keyword::If | Keyword::While)),
-        [] => false,
-    }
-}
-
-/// Reports whether a byte follows a token at once.
-fn follows(source: &[u8], located: &Located, byte: u8) -> bool {
-    source.get(located.end) == Some(&byte)
-}
-
-/// Reports whether the last of some tokens is a number, and nothing is between it and a further token.
-fn follows_number(tokens: &[Located], located: &Located) -> bool {
-    match tokens {
-        [.., before] => {
-            before.end == located.start && matches!(before.token, Token::Constant(_))
-        }
-        [] => false,
-    }
-}
-
-/// Reports whether a digit follows the first byte of a token.
-fn is_before_digit(source: &[u8], located: &Located) -> bool {
-    match source.get(located.start.saturating_add(1)) {
-        Some(after) => after.is_ascii_digit(),
+/// Reports whether `if` or `while` is right before a fault's token.
+fn follows_test(found: &Found<'_>) -> bool {
+    match before(found.tokens, found.index) {
+        Some(before) => matches!(before.token, Token::Keyword(Keyword::If | Keyword::While)),
         None => false,
     }
+}
+
+/// Reports whether a number is right before the first byte of a fault's token, or a digit right behind it.
+fn touches_number(found: &Found<'_>) -> bool {
+    let is_behind = match before(found.tokens, found.index) {
+        Some(before) => {
+            before.end == found.met.start && matches!(before.token, Token::Constant(_))
+        }
+        None => false,
+    };
+    let is_before = match found.source.get(found.met.start.saturating_add(1)) {
+        Some(after) => after.is_ascii_digit(),
+        None => false,
+    };
+    is_behind || is_before
 }

@@ -2,7 +2,7 @@
 //!
 //! What many hints ask isn't inlined: the page's module would have a copy for each of them.
 
-use crate::heads::token_at;
+use crate::indices::{before, follows, name_at, token_at, touches};
 use crate::wanted::{Kinds, has};
 use derivations::{Derivation, Item, Located, Pending, Symbol};
 use tokens::{Keyword, Name, Punctuator, Token};
@@ -57,16 +57,12 @@ impl<'a> Scene<'a> {
 
     /// Returns the token before the one that doesn't fit, with its position.
     pub fn before(&self) -> Option<&'a Located> {
-        self.tokens.get(self.index.checked_sub(1)?)
+        before(self.tokens, self.index)
     }
 
     /// Reports whether the token before is this one.
-    #[inline(never)]
     pub fn follows(&self, token: &Token) -> bool {
-        match self.before() {
-            Some(before) => before.token == *token,
-            None => false,
-        }
+        follows(self.tokens, self.index, token)
     }
 
     /// Reports whether the token before is this punctuator.
@@ -81,10 +77,7 @@ impl<'a> Scene<'a> {
 
     /// Reports whether nothing is between the token before and the one that doesn't fit.
     pub fn touches(&self) -> bool {
-        match (self.before(), self.tokens.get(self.index)) {
-            (Some(before), Some(here)) => before.end == here.start,
-            _ => false,
-        }
+        touches(self.tokens, self.index)
     }
 
     /// Reports whether the token that doesn't fit is this punctuator.
@@ -142,23 +135,19 @@ impl<'a> Scene<'a> {
     }
 
     /// Returns the name of the token of an index, if it is one.
-    #[inline(never)]
     pub fn name(&self, index: usize) -> Option<Name> {
-        match self.token(index) {
-            Token::Name(name) => Some(name),
-            _ => None,
-        }
+        name_at(self.tokens, index)
     }
 
     /// Reports whether a name occurs at most once.
     pub fn is_lone(&self, name: &Name) -> bool {
-        let mut places: usize = 0;
+        let mut count: usize = 0;
         for located in self.tokens {
             if located.token == Token::Name(*name) {
-                places = places.saturating_add(1);
+                count = count.saturating_add(1);
             }
         }
-        places < 2
+        count < 2
     }
 
     /// Returns the line of the token of an index.
@@ -167,11 +156,6 @@ impl<'a> Scene<'a> {
             Some(located) => located.line,
             None => 1,
         }
-    }
-
-    /// Returns the index of the opening brace of the innermost open block.
-    pub fn open_block(&self) -> Option<usize> {
-        self.pending_at(Item::Exactly(Punctuator::CloseCurly))
     }
 
     /// Returns the index of the token at which the innermost item of a kind was chosen, of those still to match.

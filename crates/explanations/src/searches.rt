@@ -7,7 +7,7 @@ use grammar::{Callee, Code, Diagnostic, MOST_NAMES, Profile};
 /// Returns the index of the token of a source's fault, which `compile` found by the same profile; the tokens are the
 /// source's.
 pub fn fault_token(tokens: &[Located], profile: Profile, fault: &Diagnostic) -> usize {
-    Search::along(Walk::start(tokens, profile)).find(fault)
+    Search::of(tokens, profile).find(fault)
 }
 
 /// A search: how far it has come, which functions are defined up to there, and which ones are mentioned.
@@ -20,10 +20,10 @@ pub struct Search<'a> {
 }
 
 impl<'a> Search<'a> {
-    /// Begins where this walk is.
-    pub fn along(walk: Walk<'a>) -> Search<'a> {
+    /// Begins before the first of a source's tokens.
+    pub fn of(tokens: &'a [Located], profile: Profile) -> Search<'a> {
         Search {
-            walk,
+            walk: Walk::start(tokens, profile),
             defined: ArrayVec::new(),
             mentioned: [None; MOST_NAMES],
             begun: [false; MOST_NAMES],

@@ -1,7 +1,7 @@
 //! How much code a source has, and how much of it each function.
 
 use crate::explaining::Found;
-use crate::misnamed::name_at;
+use crate::indices::name_at;
 use crate::notes::Note;
 use crate::told::text_of;
 use arrayvec::ArrayVec;
@@ -43,12 +43,13 @@ pub fn add_sizes(note: &mut Note, found: &Found<'_>) {
             size.instructions = walk.instructions().saturating_sub(before);
         }
     }
-    let most = usize::from(found.profile.instructions());
-    add_number(note, "the code has ", walk.instructions());
-    let more = walk.instructions().saturating_sub(most);
-    add_number(note, " instructions, ", more);
-    add_number(note, " more than the ", most);
-    note.add(" of this profile: ");
+    let (all, most) = (
+        walk.instructions() as u64,
+        u64::from(found.profile.instructions()),
+    );
+    note.count("the code has ", all, " instructions, ");
+    note.count("", all.saturating_sub(most), " more than the ");
+    note.count("", most, " of this profile: ");
     let sizes = sizes.as_mut_slice();
     sizes.sort_unstable_by_key(|size| (usize::MAX - size.instructions, size.token));
     add_largest(note, found, sizes);
@@ -62,14 +63,8 @@ fn add_largest(note: &mut Note, found: &Found<'_>, sizes: &[Size]) {
         if let Some(name) = name_at(found.tokens, size.token) {
             note.add(mark);
             note.quote(text_of(&name));
-            add_number(note, " ", size.instructions);
+            note.count(" ", size.instructions as u64, "");
             mark = ", ";
         }
     }
-}
-
-/// Adds words, and a number.
-fn add_number(note: &mut Note, words: &str, number: usize) {
-    note.add(words);
-    note.number(number as u64);
 }

@@ -1,24 +1,28 @@
 //! Warnings about statements that are an expression: without effect, or a `drive` that is replaced at once.
 
-use crate::heads::token_at;
-use crate::nodes::{Kind, Node};
+use crate::indices::follows;
+use crate::variables::set_by;
 use crate::warnings::{Subject, Warnings};
-use derivations::Located;
+use derivations::{Node, NodeKind};
 use grammar::{Callee, Intrinsic};
 use tokens::{Punctuator, Token};
 
 /// Warns of the statement of a node's index that sets nothing, and calls nothing that does more than answer, and of one
 /// that takes back the one before it.
 pub fn warn_of_statement(out: &mut Warnings, subject: &Subject<'_>, index: usize, node: &Node) {
-    let nodes = subject.nodes;
-    let below = nodes.within(node.first, index);
+    let tree = subject.tree;
+    let below = tree.within(node.first, index);
     if !have_effect(below) {
         out.tell(node.token, "this statement has no effect");
     }
-    if is_drive(nodes.within(node.first.saturating_sub(2), node.first))
-        && is_drive(nodes.within(index.saturating_sub(1), index.saturating_add(1)))
+    if is_drive(tree.within(node.first.saturating_sub(2), node.first))
+        && is_drive(tree.within(index.saturating_sub(1), index.saturating_add(1)))
         && calls(below) == 1
-        && follows_statement(subject.tokens, node.token)
+        && follows(
+            subject.tokens,
+            node.token,
+            &Token::Punctuator(Punctuator::Semicolon),
+        )
     {
         out.tell(
             node.token,
@@ -27,19 +31,14 @@ pub fn warn_of_statement(out: &mut Warnings, subject: &Subject<'_>, index: usize
     }
 }
 
-/// Reports whether a statement ends right before the token of an index.
-fn follows_statement(tokens: &[Located], token: usize) -> bool {
-    token_at(tokens, token.saturating_sub(1)) == Token::Punctuator(Punctuator::Semicolon)
-}
-
 /// Reports whether these two nodes are a call of `drive` and its statement.
 fn is_drive(nodes: &[Node]) -> bool {
     match nodes {
         [call, statement] => {
-            statement.kind == Kind::Evaluate
+            statement.kind == NodeKind::Evaluate
                 && matches!(
                     call.kind,
-                    Kind::Call(Callee::Intrinsic(Intrinsic::Drive), _)
+                    NodeKind::Call(Callee::Intrinsic(Intrinsic::Drive), _)
                 )
         }
         _ => false,
@@ -50,7 +49,7 @@ fn is_drive(nodes: &[Node]) -> bool {
 fn calls(nodes: &[Node]) -> usize {
     let mut count: usize = 0;
     for node in nodes {
-        if matches!(node.kind, Kind::Call(..)) {
+        if matches!(node.kind, NodeKind::Call(..)) {
             count = count.saturating_add(1);
         }
     }
@@ -70,10 +69,9 @@ fn have_effect(nodes: &[Node]) -> bool {
 /// Reports whether a node sets something, or calls what does more than answer.
 fn has_effect(node: &Node) -> bool {
     match node.kind {
-        Kind::Store(..) | Kind::Increment(_) | Kind::Call(Callee::Function(_), _) => true,
-        Kind::Call(Callee::Intrinsic(intrinsic), _) => acts(intrinsic),
-        // every other node only answers
-        _ => false,
+        NodeKind::Call(Callee::Function(_), _) => true,
+        NodeKind::Call(Callee::Intrinsic(intrinsic), _) => acts(intrinsic),
+        _ => set_by(node).is_some(),
     }
 }
 

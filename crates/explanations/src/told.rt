@@ -16,44 +16,29 @@ pub fn add_token(note: &mut Note, source: &[u8], located: &Located) {
             note.add("the word ");
             note.quote(spelling_of(source, located));
         }
-        Token::Constant(value) => {
-            note.add("the number ");
-            note.number(u64::from(value));
-        }
+        Token::Constant(value) => note.count("the number ", u64::from(value), ""),
         Token::Punctuator(punctuator) => note.quote(spelled(punctuator)),
         Token::End => note.add("the end of the file"),
         Token::Fault(_) => add_character(note, source, located.start),
     }
 }
 
-/// Adds the character at a position of a source: one that isn't ASCII by its number in Unicode.
+/// Adds the character at a position of a source: one that isn't ASCII by its number in Unicode, and one that no terminal
+/// shows, or bytes that aren't UTF-8, as a byte.
 fn add_character(note: &mut Note, source: &[u8], at: usize) {
+    let byte = source.get(at).copied().unwrap_or(0);
     match character_at(source, at) {
-        Some(character) => add_known(note, character),
-        None => add_byte(note, source.get(at).copied().unwrap_or(0)),
+        Some(character) if !character.is_ascii() => {
+            note.add("the character U+");
+            add_hexadecimal(note, u32::from(character));
+        }
+        Some(character) if byte.is_ascii_graphic() => {
+            note.add("the character `");
+            note.push(character);
+            note.push('`');
+        }
+        _ => note.count("the byte ", u64::from(byte), ""),
     }
-}
-
-/// Adds a character: one that isn't ASCII by its number in Unicode, and one that no terminal shows as a byte.
-fn add_known(note: &mut Note, character: char) {
-    let code = u32::from(character);
-    if code >= 128 {
-        note.add("the character U+");
-        add_hexadecimal(note, code);
-    } else if code > 32 && code < 127 {
-        note.add("the character `");
-        note.push(character);
-        note.push('`');
-    } else {
-        note.add("the byte ");
-        note.number(u64::from(code));
-    }
-}
-
-/// Adds what a byte is.
-fn add_byte(note: &mut Note, byte: u8) {
-    note.add("the byte ");
-    note.number(u64::from(byte));
 }
 
 /// The hexadecimal digits.

@@ -1,9 +1,8 @@
 //! Warnings about operators and assignments that probably aren't meant as they are written.
 
-use crate::heads::token_at;
-use crate::nodes::{Kind, Node, Nodes};
+use crate::indices::{token_at, touches};
 use crate::warnings::{Said, Subject, Warnings};
-use derivations::{Located, SemanticAction};
+use derivations::{Located, Node, NodeKind};
 use grammar::{Callee, Intrinsic, Op};
 use tokens::{Punctuator, Token};
 
@@ -11,71 +10,85 @@ use tokens::{Punctuator, Token};
 const PARTS: u32 = 100_000;
 
 /// Warns of the operator of a node's index.
-pub fn warn_of_operator(out: &mut Warnings, subject: &Subject<'_>, index: usize, op: Op) {
-    let nodes = subject.nodes;
-    let Some(node) = nodes.get(index) else {
-        return;
-    };
-    let (Some(left), Some(right)) = (
-        nodes.get(node.middle.saturating_sub(1)),
-        nodes.get(index.saturating_sub(1)),
+pub fn warn_of_operator(
+    out: &mut Warnings,
+    subject: &Subject<'_>,
+    index: usize,
+    node: &Node,
+    op: Op,
+) {
+    let (Some((left, left_value)), Some((right, right_value))) = (
+        subject.valued(node.second.saturating_sub(1)),
+        subject.valued(index.saturating_sub(1)),
     ) else {
         return;
     };
-    if let Some(words) = on_operator(op, left, right) {
+    let words = on_sides(op, left, right).or(on_values(op, left_value, right_value));
+    if let Some(words) = words {
         out.tell(node.token, words);
     }
-    if is_masked(nodes, op, node, left, right) {
+    if is_masked(subject, op, node, left, right) {
         out.tell(right.token, "this is compared first: write `(a & b) == c`");
     }
-    if op == Op::Multiply && !has_value(nodes, PARTS as i32) {
+    if op == Op::Multiply && !subject.constants.has(PARTS as i32) {
         warn_of_parts(out, subject.tokens, left);
         warn_of_parts(out, subject.tokens, right);
     }
 }
 
-/// Returns what is said of an operator by its two sides.
-fn on_operator(op: Op, left: &Node, right: &Node) -> Option<&'static str> {
+/// Returns what is said of an operator by what its two sides are.
+fn on_sides(op: Op, left: &Node, right: &Node) -> Option<&'static str> {
     match (op, left.kind, right.kind) {
-        (Op::Less | Op::LessOrEqual | Op::Greater | Op::GreaterOrEqual, Kind::Binary(inner), _)
-            if is_order(inner) => {
-            Some(
-                "this compares the answer of the comparison before it, 0 or 1: write `a < b && b < c`",
-            )
+        (_, NodeKind::Binary(inner), _) if is_order(op) && is_order(inner) => Some(
+            "this compares the answer of the comparison before it, 0 or 1: write `a < b && b < c`",
+        ),
+        (_, NodeKind::Not, _) if is_order(op) => {
+            Some("this compares the answer of `!`, 0 or 1: write `!(a < b)`")
         }
-        (
-            Op::Less | Op::LessOrEqual | Op::Greater | Op::GreaterOrEqual,
-            Kind::Sign(SemanticAction::Not),
-            _,
-        ) => Some("this compares the answer of `!`, 0 or 1: write `!(a < b)`"),
-        (Op::Divide, _, _) if is_lost(left.value, right.value) => {
-            Some("both are whole numbers, and so is the quotient: it is 0")
-        }
-        (Op::BitXor, _, Kind::Constant(2..=9)) => {
+        (Op::BitXor, _, NodeKind::Constant(2..=9)) => {
             Some("`^` is no power: it is the exclusive or of bits; multiply instead")
         }
-        (Op::Or, Kind::Binary(Op::Equal), Kind::Constant(1..)) => {
+        (Op::Or, NodeKind::Binary(Op::Equal), NodeKind::Constant(1..)) => {
             Some("the right side is always true: write `a == 5 || a == 10`")
-        }
-        (Op::Add | Op::Subtract | Op::Multiply, _, _) if wraps(op, left.value, right.value) => {
-            Some("this passes the greatest number, 2147483647, and goes on with the least")
         }
         // no other operator is often meant in another way
         _ => None,
     }
 }
 
+/// Returns what is said of an operator by the values of its two sides: of a quotient that is 0 though neither is, and of
+/// a result that has more than 32 bits.
+fn on_values(op: Op, left: Option<i32>, right: Option<i32>) -> Option<&'static str> {
+    let (left, right) = (i64::from(left?), i64::from(right?));
+    let whole = match op {
+        Op::Divide if left != 0 && left.unsigned_abs() < right.unsigned_abs() => {
+            return Some("both are whole numbers, and so is the quotient: it is 0");
+        }
+        Op::Add => left.saturating_add(right),
+        Op::Subtract => left.saturating_sub(right),
+        Op::Multiply => left.saturating_mul(right),
+        // no other result is surprising
+        _ => return None,
+    };
+    i32::try_from(whole).is_err().then_some(
+        "this passes the greatest number, 2147483647, and goes on with the least",
+    )
+}
+
 /// Reports whether the right side of an operator on bits is a comparison for equality without brackets, and the left
 /// side none.
-fn is_masked(nodes: &Nodes, op: Op, node: &Node, left: &Node, right: &Node) -> bool {
-    let is_bare = match nodes.get(right.first) {
+fn is_masked(subject: &Subject<'_>, op: Op, node: &Node, left: &Node, right: &Node) -> bool {
+    let is_bare = match subject.tree.get(right.first) {
         Some(first) => first.token == node.token.saturating_add(1),
         None => false,
     };
     is_bare
         && matches!(op, Op::BitAnd | Op::BitOr | Op::BitXor)
-        && matches!(right.kind, Kind::Binary(Op::Equal | Op::NotEqual))
-        && !matches!(left.kind, Kind::Binary(_) | Kind::Sign(_))
+        && matches!(right.kind, NodeKind::Binary(Op::Equal | Op::NotEqual))
+        && !matches!(
+            left.kind,
+            NodeKind::Binary(_) | NodeKind::Negate | NodeKind::Not | NodeKind::Complement
+        )
 }
 
 /// Reports whether an operator compares by order.
@@ -86,42 +99,9 @@ fn is_order(op: Op) -> bool {
     )
 }
 
-/// Reports whether the result of known values has more than 32 bits.
-fn wraps(op: Op, left: Option<i32>, right: Option<i32>) -> bool {
-    let (Some(left), Some(right)) = (left, right) else {
-        return false;
-    };
-    let (left, right) = (i64::from(left), i64::from(right));
-    let whole = match op {
-        Op::Add => left.saturating_add(right),
-        Op::Subtract => left.saturating_sub(right),
-        // (it is called for `+`, `-` and `*` alone: this is `*`)
-        _ => left.saturating_mul(right),
-    };
-    i32::try_from(whole).is_err()
-}
-
-/// Reports whether known values that aren't 0 have the quotient 0.
-fn is_lost(left: Option<i32>, right: Option<i32>) -> bool {
-    match (left, right) {
-        (Some(left), Some(right)) => left != 0 && left.unsigned_abs() < right.unsigned_abs(),
-        _ => false,
-    }
-}
-
-/// Reports whether some node has this value.
-fn has_value(nodes: &Nodes, value: i32) -> bool {
-    for node in nodes.all() {
-        if node.value == Some(value) {
-            return true;
-        }
-    }
-    false
-}
-
 /// Warns of a factor that is a sine, a cosine or a tangent, if nothing divides.
 fn warn_of_parts(out: &mut Warnings, tokens: &[Located], factor: &Node) {
-    if let Kind::Call(
+    if let NodeKind::Call(
         Callee::Intrinsic(Intrinsic::Sin | Intrinsic::Cos | Intrinsic::Tan),
         _,
     ) = factor.kind
@@ -150,24 +130,12 @@ fn may_have_parts(tokens: &[Located]) -> bool {
 pub fn warn_of_store(out: &mut Warnings, subject: &Subject<'_>, node: &Node) {
     let equals = node.token.saturating_add(1);
     let minus = equals.saturating_add(1);
-    let is_joined = is_mark(subject.tokens, equals, Punctuator::Equals)
-        && is_mark(subject.tokens, minus, Punctuator::Minus)
-        && touches(subject.tokens, minus)
-        && !touches(subject.tokens, minus.saturating_add(1));
-    if is_joined {
+    let tokens = subject.tokens;
+    if token_at(tokens, equals) == Token::Punctuator(Punctuator::Equals)
+        && token_at(tokens, minus) == Token::Punctuator(Punctuator::Minus)
+        && touches(tokens, minus)
+        && !touches(tokens, minus.saturating_add(1))
+    {
         out.tell(equals, "`=-` sets the negative; perhaps `-=` is meant");
-    }
-}
-
-/// Reports whether the token of an index is this punctuator.
-fn is_mark(tokens: &[Located], index: usize, punctuator: Punctuator) -> bool {
-    token_at(tokens, index) == Token::Punctuator(punctuator)
-}
-
-/// Reports whether nothing is between the token of an index and the one before it.
-fn touches(tokens: &[Located], index: usize) -> bool {
-    match (tokens.get(index.saturating_sub(1)), tokens.get(index)) {
-        (Some(before), Some(here)) => before.end == here.start,
-        _ => false,
     }
 }

@@ -1,12 +1,12 @@
 //! Warnings about variables: set and never read, read and never set or before they are set, and names of the file's
 //! that mean another variable.
 
-use crate::misnamed::{is_intrinsic, may_mean, name_at};
-use crate::nodes::{Body, Kind, Node, Nodes};
+use crate::indices::{is_name, name_at};
+use crate::misnamed::may_mean;
 use crate::spelling::is_same_but_for_case;
 use crate::warnings::{Meant, Said, Subject, Warnings};
-use derivations::Located;
-use grammar::{MOST_NAMES, StoreOp, Var};
+use derivations::{Body, Located, Node, NodeKind, SourceTree};
+use grammar::{MOST_NAMES, Var, intrinsic_named};
 use tokens::Name;
 
 /// The first read and the first setting of a function's variable, by the indices of their nodes.
@@ -21,10 +21,10 @@ type Uses = [Use; MOST_NAMES];
 
 /// Warns of the variables of all functions.
 pub fn warn_of_variables(out: &mut Warnings, subject: &Subject<'_>) {
-    for body in subject.nodes.bodies() {
+    for body in subject.tree.bodies() {
         warn_of_body(out, subject, body);
     }
-    for token in subject.nodes.hiding() {
+    for token in subject.declarations.hiding() {
         out.warn(
             *token,
             Said::Named(" is a variable of the function alone: it hides that of the file"),
@@ -34,46 +34,50 @@ pub fn warn_of_variables(out: &mut Warnings, subject: &Subject<'_>) {
 
 /// Warns of the variables of a function.
 fn warn_of_body(out: &mut Warnings, subject: &Subject<'_>, body: &Body) {
-    let uses = uses_of(subject.nodes, body);
+    let uses = uses_of(subject.tree, body);
     for (number, own) in uses.iter().enumerate() {
+        let is_parameter = number < body.parameters;
         match (own.read, own.set) {
             (None, Some(set)) => {
-                let token = token_of(subject.nodes, set);
-                let meant = meant_as_set(subject, &uses, token);
-                out.warn(token, Said::Variable(" is set and never read", meant));
-            }
-            (Some(read), None) if number >= body.parameters => {
-                let token = token_of(subject.nodes, read);
-                let meant = meant_as_read(subject, &uses, token);
-                out.warn(
-                    token,
-                    Said::Variable(" is read and never set, so it is always 0", meant),
+                let token = token_of(subject.tree, set);
+                let said = Said::Variable(
+                    " is set and never read",
+                    meant_as_set(subject, &uses, token),
                 );
+                out.warn(token, said);
             }
-            (Some(read), Some(set)) if number >= body.parameters && read < set => {
-                warn_of_early(out, subject.nodes, read, set);
+            (Some(read), None) if !is_parameter => {
+                let token = token_of(subject.tree, read);
+                let said = Said::Variable(
+                    " is read and never set, so it is always 0",
+                    meant(subject, &uses, token),
+                );
+                out.warn(token, said);
+            }
+            (Some(read), Some(set)) if !is_parameter && is_early(subject.tree, read, set) => {
+                out.warn(
+                    token_of(subject.tree, read),
+                    Said::Named(" is still 0 here: it is set further down only"),
+                );
             }
             _ => {}
         }
     }
 }
 
-/// Warns of a variable that is read before it is set, unless a loop has both.
-fn warn_of_early(out: &mut Warnings, nodes: &Nodes, read: usize, set: usize) {
-    for node in nodes.within(set, nodes.all().len()) {
-        if node.kind == Kind::While && node.first <= read {
-            return;
+/// Reports whether a variable is read before it is set, by the indices of the nodes, and no loop has both.
+fn is_early(tree: &SourceTree, read: usize, set: usize) -> bool {
+    for node in tree.within(set, tree.all().len()) {
+        if node.kind == NodeKind::While && node.first <= read {
+            return false;
         }
     }
-    out.warn(
-        token_of(nodes, read),
-        Said::Named(" is still 0 here: it is set further down only"),
-    );
+    read < set
 }
 
 /// Returns the index of the token of the node of an index.
-fn token_of(nodes: &Nodes, index: usize) -> usize {
-    match nodes.get(index) {
+fn token_of(tree: &SourceTree, index: usize) -> usize {
+    match tree.get(index) {
         Some(node) => node.token,
         None => 0,
     }
@@ -81,32 +85,24 @@ fn token_of(nodes: &Nodes, index: usize) -> usize {
 
 /// Returns what may be meant by the variable of a name's token that is never read.
 fn meant_as_set(subject: &Subject<'_>, uses: &Uses, token: usize) -> Meant {
-    match name_at(subject.tokens, token) {
-        Some(name) if name.has_bytes(b"speed") => Meant::Words(
-            "; the robot's speed is set by `drive(degree, speed)`",
-        ),
-        Some(name) => meant(subject, uses, token, &name),
-        None => Meant::Nothing,
+    if is_name(subject.tokens, token, b"speed") {
+        return Meant::Words("; the robot's speed is set by `drive(degree, speed)`");
     }
-}
-
-/// Returns what may be meant by the variable of a name's token that is never set.
-fn meant_as_read(subject: &Subject<'_>, uses: &Uses, token: usize) -> Meant {
-    match name_at(subject.tokens, token) {
-        Some(name) => meant(subject, uses, token, &name),
-        None => Meant::Nothing,
-    }
+    meant(subject, uses, token)
 }
 
 /// Returns what may be meant by the name of a token: another variable, a call, or a truth value of other languages.
-fn meant(subject: &Subject<'_>, uses: &Uses, token: usize, name: &Name) -> Meant {
-    if is_declared_below(subject, token, name) {
+fn meant(subject: &Subject<'_>, uses: &Uses, token: usize) -> Meant {
+    let Some(name) = name_at(subject.tokens, token) else {
+        return Meant::Nothing;
+    };
+    if is_declared_below(subject, token, &name) {
         return Meant::Words("; the variable of the file is declared further down only");
     }
-    match near_variable(subject, uses, token, name) {
+    match near_variable(subject, uses, token, &name) {
         Some(other) => Meant::Name(other),
-        None if is_intrinsic(name) => Meant::Call,
-        None if is_truth(name) => {
+        None if intrinsic_named(&name).is_some() => Meant::Call,
+        None if is_truth(&name) => {
             Meant::Words("; write 1 for what is true, and 0 for what is false")
         }
         None => Meant::Nothing,
@@ -115,7 +111,7 @@ fn meant(subject: &Subject<'_>, uses: &Uses, token: usize, name: &Name) -> Meant
 
 /// Reports whether a variable of the file that is declared after a token has this name.
 fn is_declared_below(subject: &Subject<'_>, token: usize, name: &Name) -> bool {
-    for external in subject.nodes.externals() {
+    for external in subject.declarations.externals() {
         if *external > token && name_at(subject.tokens, *external) == Some(*name) {
             return true;
         }
@@ -134,13 +130,13 @@ fn is_truth(name: &Name) -> bool {
 fn near_variable(subject: &Subject<'_>, uses: &Uses, token: usize, name: &Name) -> Option<usize> {
     for own in uses {
         if let Some(local) = own.read.or(own.set) {
-            let other = token_of(subject.nodes, local);
+            let other = token_of(subject.tree, local);
             if may_be_meant(subject.tokens, other, name) {
                 return Some(other);
             }
         }
     }
-    for external in subject.nodes.externals() {
+    for external in subject.declarations.externals() {
         if *external < token && may_be_meant(subject.tokens, *external, name) {
             return Some(*external);
         }
@@ -157,20 +153,21 @@ fn may_be_meant(tokens: &[Located], index: usize, name: &Name) -> bool {
 }
 
 /// Finds at which nodes the variables of a function are read and set.
-fn uses_of(nodes: &Nodes, body: &Body) -> Uses {
+fn uses_of(tree: &SourceTree, body: &Body) -> Uses {
     let mut uses = [Use::default(); MOST_NAMES];
-    for (number, node) in nodes.within(body.first, body.end).iter().enumerate() {
-        note_use(&mut uses, body.first.saturating_add(number), node);
+    for index in body.first..body.end {
+        if let Some(node) = tree.get(index) {
+            note_use(&mut uses, index, node, tree.is_used(index));
+        }
     }
     uses
 }
 
-/// Notes what the node of an index does with a variable.
-fn note_use(uses: &mut Uses, index: usize, node: &Node) {
-    let (var, is_read, is_set) = match node.kind {
-        Kind::Fetch(var) => (var, true, false),
-        Kind::Store(var, StoreOp::Set) => (var, node.is_used, true),
-        Kind::Store(var, _) | Kind::Increment(var) => (var, node.is_used, true),
+/// Notes what the node of an index does with a variable of the function.
+fn note_use(uses: &mut Uses, index: usize, node: &Node, is_used: bool) {
+    let (var, is_read, is_set) = match (node.kind, set_by(node)) {
+        (NodeKind::Fetch(var), _) => (var, true, false),
+        (_, Some(var)) => (var, is_used, true),
         // no other node speaks of a variable
         _ => return,
     };
@@ -178,11 +175,21 @@ fn note_use(uses: &mut Uses, index: usize, node: &Node) {
         return;
     };
     if let Some(own) = uses.get_mut(usize::from(number)) {
-        if is_read && own.read.is_none() {
-            own.read = Some(index);
+        if is_read {
+            own.read = own.read.or(Some(index));
         }
-        if is_set && own.set.is_none() {
-            own.set = Some(index);
+        if is_set {
+            own.set = own.set.or(Some(index));
         }
+    }
+}
+
+/// Returns the variable that a node sets, if it sets one itself.
+pub fn set_by(node: &Node) -> Option<Var> {
+    match node.kind {
+        NodeKind::Store(var, _)
+        | NodeKind::PrefixIncrement(var, _)
+        | NodeKind::PostfixIncrement(var, _) => Some(var),
+        _ => None,
     }
 }

@@ -2,31 +2,46 @@
 
 use crate::branches::warn_of_branch;
 use crate::calls::warn_of_call;
+use crate::constants::Constants;
+use crate::declarations::Declarations;
 use crate::flow::{warn_of_main, warn_of_recursion};
-use crate::misnamed::name_at;
-use crate::nodes::{Kind, Node, Nodes, nodes_of};
+use crate::indices::name_at;
 use crate::notes::Note;
+use crate::reach::Reach;
 use crate::searches::fault_token;
 use crate::statements::warn_of_statement;
 use crate::told::text_of;
 use crate::values::{warn_of_operator, warn_of_store};
 use crate::variables::warn_of_variables;
 use arrayvec::ArrayVec;
-use derivations::Located;
+use derivations::{Located, Node, NodeKind, SourceTree};
 use grammar::{Diagnostic, Profile};
 
 /// The most warnings of a source: those that are found after this many are left out.
 const MOST_WARNINGS: usize = 1000;
 
-/// A source: its tokens, and the nodes that were made of them, up to its fault if it has one.
+/// A source, and what is known of it up to its fault if it has one.
 #[derive(Clone, Copy)]
 pub struct Subject<'a> {
     /// Its tokens.
     pub tokens: &'a [Located],
-    /// Its nodes.
-    pub nodes: &'a Nodes,
     /// The language profile.
     pub profile: Profile,
+    /// Its tree.
+    pub tree: &'a SourceTree,
+    /// The values of the tree's nodes.
+    pub constants: &'a Constants,
+    /// What of the tree is never reached.
+    pub reach: &'a Reach,
+    /// Its declared variables.
+    pub declarations: &'a Declarations,
+}
+
+impl<'a> Subject<'a> {
+    /// Returns the node of an index, with its value if that is known.
+    pub fn valued(&self, index: usize) -> Option<(&'a Node, Option<i32>)> {
+        Some((self.tree.get(index)?, self.constants.get(index)))
+    }
 }
 
 /// What a warning says.
@@ -78,24 +93,19 @@ impl Warning {
     pub fn note(&self, tokens: &[Located]) -> Note {
         let mut note = Note::new();
         if let Some(located) = tokens.get(self.token) {
-            note.place(located.line, located.column);
+            note.position(located.line, located.column);
         }
         note.add("warning: ");
+        if !matches!(self.said, Said::Words(_)) {
+            add_name(&mut note, tokens, self.token);
+        }
         match self.said {
-            Said::Words(words) => note.add(words),
-            Said::Named(words) => {
-                add_name(&mut note, tokens, self.token);
-                note.add(words);
-            }
+            Said::Words(words) | Said::Named(words) => note.add(words),
             Said::Variable(words, meant) => {
-                add_name(&mut note, tokens, self.token);
                 note.add(words);
                 self.add_meant(&mut note, tokens, meant);
             }
-            Said::Arguments(wanted, given) => {
-                add_name(&mut note, tokens, self.token);
-                add_arguments(&mut note, wanted, given);
-            }
+            Said::Arguments(wanted, given) => add_arguments(&mut note, wanted, given),
         }
         note.push('\n');
         note
@@ -131,18 +141,12 @@ fn add_name(note: &mut Note, tokens: &[Located], token: usize) {
 
 /// Adds how many arguments a function takes, and how many it is given.
 fn add_arguments(note: &mut Note, wanted: usize, given: usize) {
-    note.add(" takes ");
     match wanted {
-        0 => note.add("no"),
-        _ => note.number(wanted as u64),
+        0 => note.add(" takes no arguments"),
+        1 => note.add(" takes 1 argument"),
+        _ => note.count(" takes ", wanted as u64, " arguments"),
     }
-    note.add(if wanted == 1 {
-        " argument"
-    } else {
-        " arguments"
-    });
-    note.add(", and is given ");
-    note.number(given as u64);
+    note.count(", and is given ", given as u64, "");
     note.add(if given < wanted {
         ": those that lack are 0"
     } else {
@@ -183,7 +187,7 @@ impl Warnings {
 
     /// Warns of the nodes of a source.
     fn warn_of_nodes(&mut self, subject: &Subject<'_>) {
-        for (index, node) in subject.nodes.all().iter().enumerate() {
+        for (index, node) in subject.tree.all().iter().enumerate() {
             self.warn_of_node(subject, index, node);
         }
     }
@@ -191,19 +195,21 @@ impl Warnings {
     /// Warns of the node of an index.
     fn warn_of_node(&mut self, subject: &Subject<'_>, index: usize, node: &Node) {
         match node.kind {
-            Kind::Call(callee, arguments) => warn_of_call(self, subject, index, callee, arguments),
-            Kind::Binary(op) => warn_of_operator(self, subject, index, op),
-            Kind::Store(..) => warn_of_store(self, subject, node),
-            Kind::Evaluate => warn_of_statement(self, subject, index, node),
+            NodeKind::Call(callee, arguments) => {
+                warn_of_call(self, subject, index, node, callee, arguments);
+            }
+            NodeKind::Binary(op) => warn_of_operator(self, subject, index, node, op),
+            NodeKind::Store(..) => warn_of_store(self, subject, node),
+            NodeKind::Evaluate => warn_of_statement(self, subject, index, node),
             _ => {}
         }
-        if node.is_unreached {
+        if subject.reach.is_unreached(index) {
             self.tell(
                 node.token,
                 "this is never reached: what stands before it returns, or loops forever",
             );
         }
-        if matches!(node.kind, Kind::If | Kind::While) {
+        if matches!(node.kind, NodeKind::If | NodeKind::IfElse | NodeKind::While) {
             warn_of_branch(self, subject, index, node);
         }
     }
@@ -226,11 +232,15 @@ pub fn warnings_before(tokens: &[Located], profile: Profile, fault: &Diagnostic)
 /// It isn't inlined, since the page's module is to be small.
 #[inline(never)]
 fn warnings_up_to(tokens: &[Located], profile: Profile, end: usize) -> Warnings {
-    let nodes = nodes_of(tokens, profile);
+    let tree = SourceTree::of(tokens, profile);
+    let constants = Constants::of(&tree);
     let subject = Subject {
         tokens,
-        nodes: &nodes,
         profile,
+        tree: &tree,
+        constants: &constants,
+        reach: &Reach::of(&tree, &constants),
+        declarations: &Declarations::of(tokens, profile),
     };
     let mut warnings = Warnings {
         list: ArrayVec::new(),

@@ -1,0 +1,67 @@
+//! What a source declares: the variables of its file, and those of functions that hide one of them.
+
+use crate::indices::name_at;
+use arrayvec::ArrayVec;
+use derivations::{Event, Located, Meaning, Walk};
+use grammar::{MOST_NAMES, Profile};
+
+/// The declared variables of a source, by the indices of their names' tokens.
+#[derive(Drop)]
+pub struct Declarations {
+    externals: ArrayVec<usize, MOST_NAMES>,
+    hiding: ArrayVec<usize, MOST_NAMES>,
+}
+
+impl Declarations {
+    /// Finds them, up to the source's first fault if it has one.
+    pub fn of(tokens: &[Located], profile: Profile) -> Declarations {
+        let mut found = Declarations {
+            externals: ArrayVec::new(),
+            hiding: ArrayVec::new(),
+        };
+        let mut walk = Walk::start(tokens, profile);
+        for _ in 0..u64::MAX {
+            match walk.step() {
+                Event::Named { token, meaning } => found.note(tokens, token, meaning),
+                Event::Refused { .. } | Event::Done => break,
+                Event::Passed | Event::Number { .. } | Event::Made { .. } => {}
+            }
+        }
+        found
+    }
+
+    /// Returns the variables of the file.
+    pub fn externals(&self) -> &[usize] {
+        self.externals.as_slice()
+    }
+
+    /// Returns the declared variables of functions that hide one of the file.
+    pub fn hiding(&self) -> &[usize] {
+        self.hiding.as_slice()
+    }
+
+    /// Notes what a name declares.
+    fn note(&mut self, tokens: &[Located], token: usize, meaning: Meaning) {
+        match meaning {
+            Meaning::External => {
+                let _ = self.externals.try_push(token);
+            }
+            Meaning::Declares if self.hides(tokens, token) => {
+                let _ = self.hiding.try_push(token);
+            }
+            // no other meaning is asked for
+            _ => {}
+        }
+    }
+
+    /// Reports whether a variable of the file has the name of a token.
+    fn hides(&self, tokens: &[Located], token: usize) -> bool {
+        let name = name_at(tokens, token);
+        for external in self.externals() {
+            if name_at(tokens, *external) == name {
+                return true;
+            }
+        }
+        false
+    }
+}
