@@ -84,11 +84,10 @@ impl<'a> Request<'a> {
     pub fn read(alloc: Global, options: &Options<'a>) -> Result<Request<'a>, Fault> {
         let form = form_of(options)?;
         let mut replies = Replies::new(alloc);
-        if let Some(list) = options.value("replies") {
-            if !matches!(form, Form::Run(_)) {
-                return Err(Fault::Usage);
-            }
-            replies.add(list)?;
+        match (options.value("replies"), form) {
+            (Some(list), Form::Run(_)) => replies.add(list)?,
+            (Some(_), _) => return Err(Fault::Usage),
+            (None, _) => {}
         }
         let file = file_of(options, &mut replies)?;
         match profile(options) {
@@ -110,16 +109,11 @@ fn file_of<'a>(options: &Options<'a>, replies: &mut Replies) -> Result<&'a str, 
     for word in options.files() {
         if options.has("replies") && begins_replies(word) {
             replies.add(word)?;
-        } else if file.is_none() {
-            file = Some(*word);
-        } else {
+        } else if file.replace(*word).is_some() {
             return Err(Fault::Usage);
         }
     }
-    match file {
-        Some(file) => Ok(file),
-        None => Err(Fault::Usage),
-    }
+    file.ok_or(Fault::Usage)
 }
 
 /// Returns the form that options ask for, which have to ask for exactly one.
