@@ -1,63 +1,30 @@
 //! A program's code below the lines of its source.
 
-use crate::origins::Origins;
-use crate::spelling::{instruction_at, name_at};
-use crate::texts::{ascii, lines_of, shown};
-use derivations::Compiled;
-use std::alloc::{AllocError, Global};
-use tools::{Draft, Text, add_left, add_right};
+use crate::robots::Robot;
+use crate::texts::{lines_of, shown};
+use std::alloc::AllocError;
 
-/// Returns each line of a source, and below it the instructions that come from it, with the names that they speak of.
-pub fn listing(
-    alloc: Global,
-    source: &[u8],
-    made: &Compiled,
-    origins: &Origins,
-) -> Result<String, AllocError> {
-    let mut text = Draft::new(alloc);
+/// Adds each line of a robot's source, and below it the instructions that come from it, with the names that they speak
+/// of.
+pub fn add_listing(text: &mut String, source: &[u8], robot: &Robot) -> Result<(), AllocError> {
+    let alloc = *text.allocator();
     for (index, line) in lines_of(alloc, source)?.iter().enumerate() {
-        let number = u32::try_from(index).unwrap_or(u32::MAX).saturating_add(1);
-        add_line(&mut text, number, shown(alloc, line)?.as_str());
-        for (_, address) in origins.of_line(number) {
-            add_instruction(&mut text, alloc, made, *address)?;
+        let number = index.saturating_add(1);
+        let line = shown(alloc, line)?;
+        let gap = if line.is_empty() { "" } else { " " };
+        writeln!(text, "{number:>5} |{gap}{line}")?;
+        for (_, address) in robot.origins.of_line(number) {
+            add_instruction(text, robot, *address)?;
         }
     }
-    text.finish()
-}
-
-/// Adds a line of the source, with its number.
-fn add_line(text: &mut Draft, number: u32, line: &str) {
-    add_right(text, u64::from(number), 5);
-    text.add(" |");
-    if !line.is_empty() {
-        text.add(" ");
-        text.add(line);
-    }
-    text.add("\n");
+    Ok(())
 }
 
 /// Adds the instruction of an address.
-fn add_instruction(
-    text: &mut Draft,
-    alloc: Global,
-    made: &Compiled,
-    address: usize,
-) -> Result<(), AllocError> {
-    let Some(bytes) = instruction_at(alloc, &made.program, address)? else {
-        return Ok(());
-    };
-    let instruction = ascii(bytes.as_slice());
-    text.add("        ");
-    add_right(text, address as u64, 5);
-    text.add(" ");
-    match name_at(made, address) {
-        Some(name) => {
-            add_left(text, instruction, 14);
-            text.add(" ; ");
-            text.add(name);
-        }
-        None => text.add(instruction),
+fn add_instruction(text: &mut String, robot: &Robot, address: usize) -> Result<(), AllocError> {
+    let instruction = robot.instruction(*text.allocator(), address)?;
+    match robot.name_at(address) {
+        Some(name) => writeln!(text, "        {address:>5} {instruction:<14} ; {name}"),
+        None => writeln!(text, "        {address:>5} {instruction}"),
     }
-    text.add("\n");
-    Ok(())
 }

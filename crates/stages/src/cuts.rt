@@ -1,8 +1,9 @@
 //! The code of a source with too much of it, up to the limit.
 
-use crate::code_rows::listing;
+use crate::code_rows::add_listing;
 use crate::origins::Origins;
-use derivations::{Derivation, Item, Located, Symbol, Walk, compile, locate};
+use crate::robots::Robot;
+use derivations::{Derivation, Item, Located, Pending, Symbol, Walk, compile, locate};
 use grammar::Profile;
 use std::alloc::{AllocError, Global};
 use tokens::{MemoryFeed, Punctuator, Token, WINDOW_BYTES};
@@ -18,14 +19,15 @@ struct Cut {
     instructions: usize,
 }
 
-/// Returns each line of a source with too much code, and below it the instructions that come from it, up to the
-/// statement with which it has too much. What would follow is left out, so a branch that leads there leads to where the
-/// code ends. `None` if there is no such statement.
-pub fn listing_to_limit(
-    alloc: Global,
+/// Adds each line of a source with too much code, and below it the instructions that come from it, up to the statement
+/// with which it has too much. What would follow is left out, so a branch that leads there leads to where the code ends.
+/// Adds nothing if there is no such statement.
+pub fn add_listing_to_limit(
+    text: &mut String,
     source: &[u8],
     profile: Profile,
-) -> Result<Option<String>, AllocError> {
+) -> Result<(), AllocError> {
+    let alloc = *text.allocator();
     let tokens = locate(alloc, source)?;
     let tokens = tokens.as_slice();
     for cut in cuts_of(alloc, tokens, profile)?.iter().rev() {
@@ -36,13 +38,13 @@ pub fn listing_to_limit(
         let ended = ended(alloc, shown, tokens, cut)?;
         let mut feed = MemoryFeed::new(ended.as_slice(), WINDOW_BYTES);
         if let Ok(made) = compile(profile, &mut feed) {
-            let origins = Origins::up_to(alloc, ended.as_slice(), profile, cut.instructions)?;
-            let mut rows = listing(alloc, shown.trim_ascii_end(), &made, &origins)?;
-            rows.push_str("      | what follows is too much code\n")?;
-            return Ok(Some(rows));
+            let ended = ended.as_slice();
+            let origins = Origins::up_to(alloc, ended, &made.program, cut.instructions)?;
+            add_listing(text, shown.trim_ascii_end(), &Robot::new(made, origins))?;
+            return text.push_str("      | what follows is too much code\n");
         }
     }
-    Ok(None)
+    Ok(())
 }
 
 /// Returns the statements up to which a source has no more code than a profile takes, in order.
@@ -71,13 +73,8 @@ fn cuts_of(alloc: Global, tokens: &[Located], profile: Profile) -> Result<Vec<Cu
 
 /// Counts the blocks that are open in a derivation.
 fn blocks_in(derivation: &Derivation<'_>) -> usize {
-    let mut blocks = 0usize;
-    for pending in derivation.stack() {
-        if pending.item == Item::Exactly(Punctuator::CloseCurly) {
-            blocks = blocks.saturating_add(1);
-        }
-    }
-    blocks
+    let is_end = |pending: &&Pending| pending.item == Item::Exactly(Punctuator::CloseCurly);
+    derivation.stack().iter().filter(is_end).count()
 }
 
 /// Returns a source that begins with these bytes, up to a cut: each open block ends there, and each function that

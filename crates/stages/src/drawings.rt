@@ -1,198 +1,182 @@
-//! The tree of a file as text: indented, and as a graph in the language of Graphviz.
+//! The tree of a source as text: indented, and as a graph in the language of Graphviz.
 
-use crate::labels::{FunctionLabels, add_expression, add_named, add_variable, statement_label};
-use crate::markup::add_number;
+use crate::labels::{Label, Named};
+use crate::robots::Robot;
 use crate::texts::text_of;
-use grammar::{Pools, Var};
-use std::alloc::{AllocError, Global};
-use tools::{Draft, Text};
-use trees::{Expr, Function, Statement};
+use derivations::{Body, NodeKind, SourceTree, locate};
+use grammar::Profile;
+use std::alloc::AllocError;
+use std::fmt;
 
 /// A node that was drawn.
 #[derive(Clone, Copy)]
-struct Node {
+struct Drawn {
     /// How many were drawn before it.
     number: usize,
     /// How many there are from the root down to it.
     depth: usize,
 }
 
-/// A tree as far as it was drawn, from the root down.
+/// What is still to be drawn.
+#[derive(Clone, Copy)]
+enum Pending {
+    /// The source's nodes from one index on, up to another one, with all that is below each.
+    Nodes(usize, usize),
+    /// A node of this label that the source doesn't have, and below it such nodes of the source.
+    Added(&'static str, usize, usize),
+}
+
+/// A tree as far as it was drawn.
 #[derive(Drop)]
-struct Drawing {
-    text: Draft,
+struct Drawing<'a> {
+    text: &'a mut String,
     is_graph: bool,
-    nodes: usize,
+    robot: &'a Robot,
+    tree: &'a SourceTree,
+    count: usize,
+    // each with the node above it, the next one last
+    pending: Vec<(Drawn, Pending)>,
 }
 
-/// Returns the tree of a file, by its functions in the order of their definitions and its names: a line for each node,
-/// indented by two blanks for each node above it; or a graph of the nodes, in the language of Graphviz. No label has a
-/// quote or a backslash.
-pub fn drawn(
-    alloc: Global,
-    functions: &[Function],
-    names: &Pools,
+/// Adds the tree of a source: its functions in the order of their definitions, a line for each node, indented by two
+/// blanks for each node above it; or a graph of the nodes, in the language of Graphviz. No label has a quote or a
+/// backslash.
+pub fn add_tree(
+    text: &mut String,
+    source: &[u8],
+    profile: Profile,
+    robot: &Robot,
     is_graph: bool,
-) -> Result<String, AllocError> {
+) -> Result<(), AllocError> {
+    let alloc = *text.allocator();
+    let tokens = locate(alloc, source)?;
+    let tree = SourceTree::of(tokens.as_slice(), profile);
+    if is_graph {
+        writeln!(
+            text,
+            "digraph tree {{\n  node [shape=box, fontname=\"monospace\"];"
+        )?;
+    }
     let mut drawing = Drawing {
-        text: Draft::new(alloc),
+        text,
         is_graph,
-        nodes: 0,
+        robot,
+        tree: &tree,
+        count: 0,
+        pending: Vec::new(alloc),
     };
-    if is_graph {
-        let head = "digraph tree {\n  node [shape=box, fontname=\"monospace\"];\n";
-        drawing.text.add(head);
-    }
-    drawing.add_file(functions, names);
-    if is_graph {
-        drawing.text.add("}\n");
-    }
-    drawing.text.finish()
+    drawing.add_file()?;
+    text.push_str(if is_graph { "}\n" } else { "" })
 }
 
-impl Drawing {
-    /// Begins a node below another one. Its label comes next.
-    fn begin(&mut self, above: Node) -> Node {
-        let number = self.nodes;
-        self.nodes = number.saturating_add(1);
+impl<'a> Drawing<'a> {
+    /// Adds a node below another one. The root is below itself.
+    fn add(&mut self, above: Drawn, label: impl fmt::Display + Drop) -> Result<Drawn, AllocError> {
+        let (number, depth) = (self.count, above.depth.saturating_add(1));
+        self.count = number.saturating_add(1);
         if self.is_graph {
-            add_number(&mut self.text, "  n", number);
-            self.text.add(" [label=\"");
-        } else {
-            for _ in 0..above.depth {
-                self.text.add("  ");
+            writeln!(self.text, r#"  n{number} [label="{label}"];"#)?;
+            if number != above.number {
+                writeln!(self.text, "  n{} -> n{number};", above.number)?;
             }
+        } else {
+            let indent = above.depth.saturating_mul(2);
+            writeln!(self.text, "{:indent$}{label}", "")?;
         }
-        let depth = above.depth.saturating_add(1);
-        Node { number, depth }
+        Ok(Drawn { number, depth })
     }
 
-    /// Ends the label of a node below another one. The root is below itself.
-    fn end(&mut self, node: Node, above: Node) {
-        if !self.is_graph {
-            return self.text.add("\n");
-        }
-        self.text.add("\"];\n");
-        if node.number != above.number {
-            add_number(&mut self.text, "  n", above.number);
-            add_number(&mut self.text, " -> n", node.number);
-            self.text.add(";\n");
-        }
-    }
-
-    /// Adds a node with these words below another one.
-    fn add_words(&mut self, above: Node, words: &str) -> Node {
-        let node = self.begin(above);
-        self.text.add(words);
-        self.end(node, above);
-        node
-    }
-
-    /// Adds a file: its externals, and its functions.
-    fn add_file(&mut self, functions: &[Function], names: &Pools) {
-        let root = Node {
+    /// Adds the file: its externals, and its functions.
+    fn add_file(&mut self) -> Result<(), AllocError> {
+        let root = Drawn {
             number: 0,
             depth: 0,
         };
-        let root = self.add_words(root, "file");
-        for (number, name) in names.externals().iter().enumerate() {
-            let node = self.begin(root);
-            add_named(&mut self.text, "external E", number as u64, text_of(name));
-            self.end(node, root);
+        let root = self.add(root, "file")?;
+        for (number, name) in self.robot.names.externals().iter().enumerate() {
+            self.add(root, Named::of("external E", number, text_of(name)))?;
         }
-        for function in functions {
-            self.add_function(root, function, names);
+        for body in self.tree.bodies() {
+            self.add_function(root, body)?;
         }
+        Ok(())
     }
 
     /// Adds a function with its variables and its statements.
-    fn add_function(&mut self, root: Node, tree: &Function, names: &Pools) {
-        let number = tree.number;
-        let Some(function) = names.functions().get(usize::from(number)) else {
-            return;
+    fn add_function(&mut self, root: Drawn, body: &Body) -> Result<(), AllocError> {
+        let number = usize::from(body.number);
+        let name = self.robot.function_name(number);
+        let node = self.add(root, Named::of("function ", number, name))?;
+        for (variable, name) in self.robot.variables(number).iter().enumerate() {
+            let is_parameter = variable < body.parameters;
+            let words = if is_parameter {
+                "parameter L"
+            } else {
+                "local L"
+            };
+            self.add(node, Named::of(words, variable, text_of(name)))?;
+        }
+        self.push(node, &[Pending::Nodes(body.first, body.end)])?;
+        self.add_pending(number)
+    }
+
+    /// Notes what is to be drawn next below a node.
+    fn push(&mut self, above: Drawn, parts: &[Pending]) -> Result<(), AllocError> {
+        for part in parts.iter().rev() {
+            self.pending.push((above, *part))?;
+        }
+        Ok(())
+    }
+
+    /// Adds what is still to be drawn of the function of this number.
+    fn add_pending(&mut self, function: usize) -> Result<(), AllocError> {
+        for _ in 0..u64::MAX {
+            match self.pending.pop() {
+                Some((above, Pending::Nodes(begin, end))) if begin < end => {
+                    let index = self.tree.outermost(begin, end);
+                    self.push(above, &[Pending::Nodes(index.saturating_add(1), end)])?;
+                    self.add_node(above, index, function)?;
+                }
+                Some((_, Pending::Nodes(..))) => {}
+                Some((above, Pending::Added(label, begin, end))) => {
+                    let node = self.add(above, label)?;
+                    self.push(node, &[Pending::Nodes(begin, end)])?;
+                }
+                None => break,
+            }
+        }
+        Ok(())
+    }
+
+    /// Adds a node of the source. What is below it is drawn next. `-e`, `!e`, `~e` and `++v` are drawn as operators and
+    /// assignments of a constant.
+    fn add_node(&mut self, above: Drawn, index: usize, function: usize) -> Result<(), AllocError> {
+        let Some(&node) = self.tree.get(index) else {
+            return Ok(());
         };
-        let scope = FunctionLabels::new(names, function);
-        let node = self.begin(root);
-        let name = text_of(function.name());
-        add_named(&mut self.text, "function ", u64::from(number), name);
-        self.end(node, root);
-        for variable in 0..tree.variables {
-            let is_parameter = variable < tree.parameters;
-            let word = if is_parameter { "parameter" } else { "local" };
-            let leaf = self.begin(node);
-            add_variable(&mut self.text, &scope, word, Var::Local(variable));
-            self.end(leaf, node);
-        }
-        self.add_statements(node, &scope, tree.body.as_slice());
-    }
-
-    /// Adds statements with all that is in them.
-    #[cycle(statements)]
-    fn add_statements(&mut self, above: Node, scope: &FunctionLabels<'_>, body: &[Statement]) {
-        for statement in body {
-            self.add_statement(above, scope, statement);
-        }
-    }
-
-    /// Adds a statement with all that is in it.
-    #[cycle(statements)]
-    fn add_statement(&mut self, above: Node, scope: &FunctionLabels<'_>, statement: &Statement) {
-        let node = self.add_words(above, statement_label(statement));
-        match statement {
-            Statement::ExpressionStatement(value) | Statement::Return(value) => {
-                self.add_expression(node, scope, value);
-            }
-            Statement::IfStatement(condition, branch) => {
-                self.add_expression(node, scope, condition);
-                self.add_body(node, scope, "then", branch.as_slice());
-            }
-            Statement::IfElseStatement(condition, first, second) => {
-                self.add_expression(node, scope, condition);
-                self.add_body(node, scope, "then", first.as_slice());
-                self.add_body(node, scope, "else", second.as_slice());
-            }
-            Statement::While(condition, body) => {
-                self.add_expression(node, scope, condition);
-                self.add_body(node, scope, "do", body.as_slice());
-            }
-        }
-    }
-
-    /// Adds a branch or the body of a loop, with its word.
-    #[cycle(statements)]
-    fn add_body(
-        &mut self,
-        above: Node,
-        scope: &FunctionLabels<'_>,
-        word: &str,
-        body: &[Statement],
-    ) {
-        let node = self.add_words(above, word);
-        self.add_statements(node, scope, body);
-    }
-
-    /// Adds an expression with all that is in it.
-    #[cycle(expressions)]
-    fn add_expression(&mut self, above: Node, scope: &FunctionLabels<'_>, expression: &Expr) {
-        let node = self.begin(above);
-        add_expression(&mut self.text, scope, expression);
-        self.end(node, above);
-        match expression {
-            Expr::Constant(_) | Expr::Variable(_) | Expr::Postfix(..) => {}
-            Expr::Binary(_, first, second) => {
-                self.add_expression(node, scope, first);
-                self.add_expression(node, scope, second);
-            }
-            Expr::Assign(_, _, right) => self.add_expression(node, scope, right),
-            Expr::Call(_, arguments) => self.add_arguments(node, scope, arguments.as_slice()),
-        }
-    }
-
-    /// Adds the arguments of a call.
-    #[cycle(expressions)]
-    fn add_arguments(&mut self, above: Node, scope: &FunctionLabels<'_>, arguments: &[Expr]) {
-        for argument in arguments {
-            self.add_expression(above, scope, argument);
+        let drawn = self.add(above, Label::of(self.robot, function, node.kind))?;
+        let first = Pending::Nodes(node.first, node.second);
+        let rest = Pending::Nodes(node.second, index);
+        let then_branch = Pending::Added("then", node.second, node.third);
+        let else_branch = Pending::Added("else", node.third, index);
+        let body = Pending::Added("do", node.second, index);
+        let zero = Pending::Added("constant 0", index, index);
+        match node.kind {
+            NodeKind::If => self.push(drawn, &[first, then_branch]),
+            NodeKind::IfElse => self.push(drawn, &[first, then_branch, else_branch]),
+            NodeKind::While => self.push(drawn, &[first, body]),
+            NodeKind::Negate => self.push(drawn, &[zero, rest]),
+            NodeKind::Not => self.push(drawn, &[rest, zero]),
+            NodeKind::Complement => self.push(
+                drawn,
+                &[rest, Pending::Added("constant -1", index, index)],
+            ),
+            NodeKind::PrefixIncrement(..) => self.push(
+                drawn,
+                &[Pending::Added("constant 1", index, index)],
+            ),
+            // all others have only nodes of the source below them
+            _ => self.push(drawn, &[first, rest]),
         }
     }
 }

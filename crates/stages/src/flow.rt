@@ -22,8 +22,8 @@ pub struct Block {
 /// as that which leaves `while (1)`.
 pub fn blocks_of(alloc: Global, program: &Program) -> Result<Vec<Block>, AllocError> {
     let code = program.instructions();
-    let mut begins = blank(alloc, code.len())?;
-    let mut reached = blank(alloc, code.len())?;
+    let mut begins = vec![in alloc; false; code.len()]?;
+    let mut reached = vec![in alloc; false; code.len()]?;
     mark_begins(program, begins.as_mut_slice());
     for address in program.addresses() {
         mark(reached.as_mut_slice(), usize::from(*address));
@@ -41,15 +41,6 @@ pub fn blocks_of(alloc: Global, program: &Program) -> Result<Vec<Block>, AllocEr
     Ok(blocks)
 }
 
-/// Returns a mark for each address, of which none is set.
-fn blank(alloc: Global, count: usize) -> Result<Vec<bool>, AllocError> {
-    let mut marks = Vec::new(alloc);
-    for _ in 0..count {
-        marks.push(false)?;
-    }
-    Ok(marks)
-}
-
 /// Marks an address.
 fn mark(marks: &mut [bool], address: usize) {
     if let Some(place) = marks.get_mut(address) {
@@ -59,10 +50,7 @@ fn mark(marks: &mut [bool], address: usize) {
 
 /// Reports whether an address is marked.
 fn is_marked(marks: &[bool], address: usize) -> bool {
-    match marks.get(address) {
-        Some(mark) => *mark,
-        None => false,
-    }
+    marks.get(address) == Some(&true)
 }
 
 /// Marks where blocks begin: where functions do, where jumps lead, and behind each jump and each return.
@@ -114,11 +102,8 @@ fn block_of(code: &[Instr], begin: usize, last: usize, reached: &[bool]) -> Bloc
 
 /// Returns the constant that the last instruction of a block takes, if the one before it pushes one.
 fn constant_before(code: &[Instr], begin: usize, last: usize) -> Option<i32> {
-    if last <= begin {
-        return None;
-    }
-    match code.get(last - 1).copied() {
-        Some(Instr::Const(value)) => Some(value),
+    match code.get(begin..last)?.last()? {
+        Instr::Const(value) => Some(*value),
         // what others push isn't known before they run
         _ => None,
     }

@@ -3,7 +3,7 @@
 use crate::replies::{Replies, begins_replies};
 use grammar::Profile;
 use std::alloc::Global;
-use tools::{Fault, Known, Options, number_of, profile};
+use tools::{Fault, Known, Options, Wrong, number_of, profile};
 
 /// The most cycles of a run.
 const MOST_CYCLES: u64 = 10_000;
@@ -52,8 +52,8 @@ pub enum Form {
     Run(u32),
 }
 
-/// The forms without a value, with the names of their options.
-const FLAGS: [(&str, Form); 9] = [
+/// The forms with the names of their options. How many cycles a run has is their value.
+const FORMS: [(&str, Form); 10] = [
     ("tokens", Form::Tokens),
     ("derivation", Form::Derivation),
     ("tree", Form::Tree),
@@ -63,6 +63,7 @@ const FLAGS: [(&str, Form); 9] = [
     ("flow", Form::Flow),
     ("bounds", Form::Bounds),
     ("html", Form::Html),
+    ("run", Form::Run(0)),
 ];
 
 /// What is asked for: a form of one source.
@@ -84,11 +85,10 @@ impl<'a> Request<'a> {
     pub fn read(alloc: Global, options: &Options<'a>) -> Result<Request<'a>, Fault> {
         let form = form_of(options)?;
         let mut replies = Replies::new(alloc);
-        if let Some(list) = options.value("replies") {
-            if !matches!(form, Form::Run(_)) {
-                return Err(Fault::Usage);
-            }
-            replies.add(list)?;
+        match (options.value("replies"), form) {
+            (Some(list), Form::Run(_)) => replies.add(list)?,
+            (Some(_), _) => return Err(Fault::Wrong(Wrong::Alone("replies", "run"))),
+            (None, _) => {}
         }
         let file = file_of(options, &mut replies)?;
         match profile(options) {
@@ -110,26 +110,21 @@ fn file_of<'a>(options: &Options<'a>, replies: &mut Replies) -> Result<&'a str, 
     for word in options.files() {
         if options.has("replies") && begins_replies(word) {
             replies.add(word)?;
-        } else if file.is_none() {
-            file = Some(*word);
-        } else {
-            return Err(Fault::Usage);
+        } else if file.replace(*word).is_some() {
+            return Err(Fault::Wrong(Wrong::Files(1)));
         }
     }
-    match file {
-        Some(file) => Ok(file),
-        None => Err(Fault::Usage),
-    }
+    file.ok_or(Fault::Usage)
 }
 
 /// Returns the form that options ask for, which have to ask for exactly one.
 fn form_of(options: &Options<'_>) -> Result<Form, Fault> {
-    match options.only(&FLAGS)? {
-        Some(_) if options.has("run") => Err(Fault::Usage),
-        Some(form) => Ok(form),
-        None if options.has("run") => {
-            Ok(Form::Run(number_of(options, "run", 1, MOST_CYCLES, 1)? as u32))
+    match options.only(&FORMS)? {
+        Some(Form::Run(_)) => {
+            let cycles = number_of(options, "run", 1, MOST_CYCLES, 1)?;
+            Ok(Form::Run(cycles as u32))
         }
+        Some(form) => Ok(form),
         None => Err(Fault::Usage),
     }
 }

@@ -1,108 +1,93 @@
 //! What the nodes of a tree are called: names stand beside their numbers.
 
-use crate::texts::text_of;
-use grammar::{
-    Callee, FunctionNames, Name, Pools, StoreOp, Var, operator_punctuator, store_punctuator,
-};
-use tools::{Draft, Text, add_signed};
-use trees::{Expr, Statement};
+use crate::robots::Robot;
+use derivations::NodeKind;
+use grammar::{Callee, StoreOp, Var, operator_punctuator, store_punctuator};
+use std::fmt;
 
-/// The names that a function's tree speaks of by number.
+/// Words, a number, and the name of what has it.
 #[derive(Clone, Copy)]
-pub struct FunctionLabels<'a> {
-    names: &'a Pools,
-    variables: &'a [Name],
+pub struct Named<'a> {
+    words: &'a str,
+    number: usize,
+    name: &'a str,
 }
 
-impl<'a> FunctionLabels<'a> {
-    /// Makes the labels of a function: its names are among those of its file.
-    pub fn new(names: &'a Pools, function: &'a FunctionNames) -> FunctionLabels<'a> {
-        FunctionLabels {
-            names,
-            variables: function.variables(),
-        }
-    }
-
-    /// Returns a variable's name.
-    fn variable(&self, variable: Var) -> &'a str {
-        let name = match variable {
-            Var::External(number) => self.names.externals().get(usize::from(number)),
-            Var::Local(number) => self.variables.get(usize::from(number)),
-        };
-        match name {
-            Some(name) => text_of(name),
-            None => "?",
-        }
-    }
-
-    /// Returns the name of the file's function of this number.
-    fn function(&self, number: u8) -> &'a str {
-        match self.names.functions().get(usize::from(number)) {
-            Some(function) => text_of(function.name()),
-            None => "?",
+impl<'a> Named<'a> {
+    /// Makes the label of words, a number and a name.
+    pub fn of(words: &'a str, number: usize, name: &'a str) -> Named<'a> {
+        Named {
+            words,
+            number,
+            name,
         }
     }
 }
 
-/// Returns the label of a statement.
-pub fn statement_label(statement: &Statement) -> &'static str {
-    match statement {
-        Statement::ExpressionStatement(_) => "expression",
-        Statement::IfStatement(..) | Statement::IfElseStatement(..) => "if",
-        Statement::While(..) => "while",
-        Statement::Return(_) => "return",
+impl<'a> fmt::Display for Named<'a> {
+    fn fmt<W: fmt::Write>(&self, f: &mut fmt::Formatter<W>) -> fmt::Result {
+        write!(f, "{}{} ({})", self.words, self.number, self.name)
     }
 }
 
-/// Adds the label of an expression.
-pub fn add_expression(label: &mut Draft, scope: &FunctionLabels<'_>, expression: &Expr) {
-    match expression {
-        Expr::Constant(value) => {
-            label.add("constant ");
-            add_signed(label, i64::from(*value));
+/// The label of a node of this kind in the function of this number.
+#[derive(Clone, Copy)]
+pub struct Label<'a> {
+    robot: &'a Robot,
+    function: usize,
+    kind: NodeKind,
+}
+
+impl<'a> Label<'a> {
+    /// Makes the label of a node of this kind in the function of this number of a robot.
+    pub fn of(robot: &'a Robot, function: usize, kind: NodeKind) -> Label<'a> {
+        Label {
+            robot,
+            function,
+            kind,
         }
-        Expr::Variable(variable) => add_variable(label, scope, "variable", *variable),
-        Expr::Binary(operator, ..) => {
-            label.add("operator ");
-            label.add(operator_punctuator(*operator));
-        }
-        Expr::Assign(operator, variable, _) => {
-            add_variable(label, scope, "assign", *variable);
-            label.add(" ");
-            label.add(store_punctuator(*operator));
-        }
-        Expr::Postfix(operator, variable) => {
-            add_variable(label, scope, "postfix", *variable);
-            label.add(" ");
-            label.add(step_punctuator(*operator));
-        }
-        Expr::Call(Callee::Function(number), _) => {
-            add_named(label, "call ", u64::from(*number), scope.function(*number));
-        }
-        Expr::Call(Callee::Intrinsic(intrinsic), _) => {
-            label.add("call ");
-            label.add(intrinsic.name());
+    }
+
+    /// Returns a variable with its name.
+    fn variable(&self, variable: Var) -> Named<'a> {
+        let name = self.robot.variable_name(self.function, variable);
+        match variable {
+            Var::External(number) => Named::of("E", usize::from(number), name),
+            Var::Local(number) => Named::of("L", usize::from(number), name),
         }
     }
 }
 
-/// Adds words, a variable's number and its name.
-pub fn add_variable(label: &mut Draft, scope: &FunctionLabels<'_>, words: &str, variable: Var) {
-    let name = scope.variable(variable);
-    label.add(words);
-    match variable {
-        Var::External(number) => add_named(label, " E", u64::from(number), name),
-        Var::Local(number) => add_named(label, " L", u64::from(number), name),
+impl<'a> fmt::Display for Label<'a> {
+    fn fmt<W: fmt::Write>(&self, f: &mut fmt::Formatter<W>) -> fmt::Result {
+        match self.kind {
+            NodeKind::Constant(value) => write!(f, "constant {value}"),
+            NodeKind::Fetch(variable) => write!(f, "variable {}", self.variable(variable)),
+            NodeKind::Store(variable, op) | NodeKind::PrefixIncrement(variable, op) => {
+                let variable = self.variable(variable);
+                write!(f, "assign {variable} {}", store_punctuator(op))
+            }
+            NodeKind::PostfixIncrement(variable, op) => {
+                let variable = self.variable(variable);
+                write!(f, "postfix {variable} {}", step_punctuator(op))
+            }
+            NodeKind::Negate => f.write_str("operator -"),
+            NodeKind::Not => f.write_str("operator =="),
+            NodeKind::Complement => f.write_str("operator ^"),
+            NodeKind::Binary(op) => write!(f, "operator {}", operator_punctuator(op)),
+            NodeKind::Call(Callee::Function(number), _) => {
+                let name = self.robot.function_name(usize::from(number));
+                write!(f, "call {number} ({name})")
+            }
+            NodeKind::Call(Callee::Intrinsic(intrinsic), _) => {
+                write!(f, "call {}", intrinsic.name())
+            }
+            NodeKind::Evaluate => f.write_str("expression"),
+            NodeKind::If | NodeKind::IfElse => f.write_str("if"),
+            NodeKind::While => f.write_str("while"),
+            NodeKind::Return => f.write_str("return"),
+        }
     }
-}
-
-/// Adds words, a number, and the name of what has it.
-pub fn add_named(label: &mut Draft, words: &str, number: u64, name: &str) {
-    label.add(words);
-    label.number(number);
-    label.add(" (");
-    label.add(name);
-    label.add(")");
 }
 
 /// Returns the punctuator of a variable's increment or decrement, by the operator of its store.

@@ -19,33 +19,32 @@ mod operation_rows;
 mod origins;
 mod pages;
 mod replies;
-mod spelling;
+mod robots;
 mod texts;
 mod token_rows;
 
-use crate::code_rows::listing;
-use crate::cuts::listing_to_limit;
-use crate::derivation_rows::derivation_rows;
-use crate::drawings::drawn;
-use crate::execution::execution;
-use crate::flow_rows::flow_rows;
+use crate::code_rows::add_listing;
+use crate::cuts::add_listing_to_limit;
+use crate::derivation_rows::add_derivation_rows;
+use crate::drawings::add_tree;
+use crate::execution::add_execution;
+use crate::flow_rows::add_flow_rows;
 use crate::forms::{Form, OPTIONS, Request};
-use crate::operation_rows::operation_rows;
+use crate::operation_rows::add_operation_rows;
 use crate::origins::Origins;
-use crate::pages::page;
-use crate::token_rows::token_rows;
+use crate::pages::add_page;
+use crate::robots::Robot;
+use crate::token_rows::add_token_rows;
 use derivations::{Compiled, compile};
 use facts::{Facts, add_rows};
 use grammar::{Code, Diagnostic, ParseFault, Profile};
-use parser::parse;
-use std::alloc::Global;
+use std::alloc::{AllocError, Global};
 use std::process::ExitCode;
 use tokens::{MemoryFeed, WINDOW_BYTES};
 use tools::{
     Draft, Fault, OUTPUT_OPTIONS, Options, PROFILE_OPTIONS, ProgramFrame, Work, name_of, source_of,
     tell_diagnostic, write_to,
 };
-use trees::TreeMaker;
 
 /// The program's name, its line of wrong usage, and its options.
 const FRAME: ProgramFrame = ProgramFrame {
@@ -69,90 +68,78 @@ impl Work for Stages {
         let mut request = Request::read(rt.alloc(), options)?;
         let source = source_of(rt, FRAME.name, request.file)?;
         let source = source.as_slice();
+        let mut text = String::new(rt.alloc());
         let mut feed = MemoryFeed::new(source, WINDOW_BYTES);
         match compile(request.profile, &mut feed) {
             Ok(made) => {
-                let text = whole(rt.alloc(), &mut request, source, &made)?;
+                add_form(&mut text, &mut request, source, made)?;
                 write_to(rt, options, text.as_str())
             }
             Err(ParseFault::Source(fault)) => {
-                if let Some(text) = before_fault(rt.alloc(), &request, source, fault)? {
+                add_before_fault(&mut text, &request, source, fault)?;
+                if !text.is_empty() {
                     write_to(rt, options, text.as_str())?;
                 }
                 tell_diagnostic(rt, request.file, &fault);
                 Err(Fault::Source)
             }
-            // (neither happens: the source is in memory, and compiling asks for none)
+            // (a source in memory never fails to be read)
             Err(ParseFault::Device) => Err(Fault::Read),
             Err(ParseFault::Memory) => Err(Fault::Memory),
         }
     }
 }
 
-/// Returns the text that is asked for of a source that compiles. The only fault is that memory is refused.
-fn whole(
-    alloc: Global,
+/// Adds the form that is asked for of a source that compiles. The only fault is that memory is refused.
+fn add_form(
+    text: &mut String,
     request: &mut Request<'_>,
     source: &[u8],
-    made: &Compiled,
-) -> Result<String, Fault> {
-    let profile = request.profile;
-    let text = match request.form {
-        Form::Tokens => token_rows(alloc, source, None)?,
-        Form::Derivation => derivation_rows(alloc, source, None)?,
-        Form::Tree => tree(alloc, source, profile, false)?,
-        Form::Dot => tree(alloc, source, profile, true)?,
-        Form::Code => listing(alloc, source, made, &Origins::find(alloc, source, profile)?)?,
-        Form::Operations => operation_rows(alloc, made)?,
-        Form::Flow => flow_rows(alloc, made, &Origins::find(alloc, source, profile)?)?,
+    made: Compiled,
+) -> Result<(), Fault> {
+    let (alloc, profile) = (*text.allocator(), request.profile);
+    let origins = Origins::find(alloc, source, &made.program)?;
+    let robot = Robot::new(made, origins);
+    match request.form {
+        Form::Tokens => add_token_rows(text, source, None)?,
+        Form::Derivation => add_derivation_rows(text, source, None)?,
+        Form::Tree => add_tree(text, source, profile, &robot, false)?,
+        Form::Dot => add_tree(text, source, profile, &robot, true)?,
+        Form::Code => add_listing(text, source, &robot)?,
+        Form::Operations => add_operation_rows(text, &robot)?,
+        Form::Flow => add_flow_rows(text, &robot)?,
         Form::Bounds => {
             let mut rows = Draft::new(alloc);
             add_rows(&mut rows, request.file, &known(alloc, source, profile)?);
-            rows.finish()?
+            rows.move_behind(text)?;
         }
         Form::Html => {
             let facts = known(alloc, source, profile)?;
-            let origins = Origins::find(alloc, source, profile)?;
-            page(alloc, name_of(request.file), source, made, &origins, &facts)?
+            add_page(text, name_of(request.file), source, &robot, &facts)?;
         }
-        Form::Run(cycles) => {
-            let origins = Origins::find(alloc, source, profile)?;
-            execution(alloc, made, &origins, cycles, &mut request.replies)?
-        }
-    };
-    Ok(text)
-}
-
-/// Returns the tree of a source that compiles: indented, or as a graph.
-fn tree(alloc: Global, source: &[u8], profile: Profile, is_graph: bool) -> Result<String, Fault> {
-    let mut maker = TreeMaker::new(alloc, profile);
-    match parse(&mut MemoryFeed::new(source, WINDOW_BYTES), &mut maker) {
-        Ok(names) => Ok(drawn(alloc, maker.functions(), &names, is_graph)?),
-        Err(_) => Err(Fault::Memory),
+        Form::Run(cycles) => add_execution(text, &robot, cycles, &mut request.replies)?,
     }
+    Ok(())
 }
 
 /// Returns what is known before a match of the robot of a source that compiles.
 fn known(alloc: Global, source: &[u8], profile: Profile) -> Result<Facts, Fault> {
-    match Facts::of(alloc, source, profile) {
-        Ok(facts) => Ok(facts),
-        Err(_) => Err(Fault::Memory),
-    }
+    Facts::of(alloc, source, profile).map_err(|_| Fault::Memory)
 }
 
-/// Returns what can be shown of a source with a fault: its tokens, and the steps of its derivation, up to the first
-/// that doesn't fit; of one with too much code the code up to the limit.
-fn before_fault(
-    alloc: Global,
+/// Adds what can be shown of a source with a fault: its tokens, and the steps of its derivation, up to the first that
+/// doesn't fit; of one with too much code the code up to the limit.
+fn add_before_fault(
+    text: &mut String,
     request: &Request<'_>,
     source: &[u8],
     fault: Diagnostic,
-) -> Result<Option<String>, Fault> {
+) -> Result<(), AllocError> {
     match request.form {
-        Form::Tokens => Ok(Some(token_rows(alloc, source, Some(fault))?)),
-        Form::Derivation => Ok(Some(derivation_rows(alloc, source, Some(fault))?)),
+        Form::Tokens => add_token_rows(text, source, Some(fault)),
+        Form::Derivation => add_derivation_rows(text, source, Some(fault)),
         Form::Code if fault.code == Code::TooMuchCode => {
-            Ok(listing_to_limit(alloc, source, request.profile)?)
+            add_listing_to_limit(text, source, request.profile)
         }
         Form::Code
         | Form::Tree
@@ -161,6 +148,6 @@ fn before_fault(
         | Form::Flow
         | Form::Bounds
         | Form::Html
-        | Form::Run(_) => Ok(None),
+        | Form::Run(_) => Ok(()),
     }
 }

@@ -2,7 +2,7 @@
 
 ghost use Rattle.std.specs.Prelude.{◌<◌};
 
-use tools::{Draft, Text};
+use std::fmt;
 
 /// How many colours there are.
 pub const COLOURS: usize = 12;
@@ -14,26 +14,20 @@ pub fn hue(colour: usize) -> usize
     colour % COLOURS * 150 % 360
 }
 
-/// Adds words, and a number.
-pub fn add_number(text: &mut Draft, words: &str, number: usize) {
-    text.add(words);
-    text.number(number as u64);
-}
+/// A text, with the characters that mean something in HTML replaced.
+#[derive(Clone, Copy)]
+pub struct Escaped<'a>(pub &'a str);
 
-/// Adds words, and the number of a line.
-pub fn add_line(text: &mut Draft, words: &str, line: u32) {
-    text.add(words);
-    text.number(u64::from(line));
-}
-
-/// Adds a text, with the characters that mean something in HTML replaced.
-pub fn add_escaped(text: &mut Draft, plain: &str) {
-    for character in plain.chars() {
-        match character {
-            '&' => text.add("&amp;"),
-            '<' => text.add("&lt;"),
-            '>' => text.add("&gt;"),
-            _ => text.push(character),
+impl<'a> fmt::Display for Escaped<'a> {
+    fn fmt<W: fmt::Write>(&self, f: &mut fmt::Formatter<W>) -> fmt::Result {
+        for character in self.0.chars() {
+            match character {
+                '&' => f.write_str("&amp;")?,
+                '<' => f.write_str("&lt;")?,
+                '>' => f.write_str("&gt;")?,
+                _ => f.write_char(character)?,
+            }
         }
+        Ok(())
     }
 }

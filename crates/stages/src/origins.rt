@@ -1,28 +1,28 @@
 //! The line of a source that each instruction of its program comes from.
 
-use derivations::{SourcePosition, lines};
-use grammar::Profile;
+use code::Program;
+use derivations::{SourcePosition, positions_of};
 use std::alloc::{AllocError, Global};
 
-/// The lines of instructions, by address, and the addresses by line.
+/// The lines of instructions, from 1, by address, and the addresses by line.
 #[derive(Drop)]
 pub struct Origins {
-    lines: Vec<u32>,
-    by_line: Vec<(u32, usize)>,
-    distinct: Vec<u32>,
+    lines: Vec<usize>,
+    by_line: Vec<(usize, usize)>,
+    distinct: Vec<usize>,
 }
 
 impl Origins {
-    /// Finds the line of each instruction of a source that compiles by this profile.
-    pub fn find(alloc: Global, source: &[u8], profile: Profile) -> Result<Origins, AllocError> {
-        Origins::up_to(alloc, source, profile, usize::MAX)
+    /// Finds the line of each instruction of a source's program.
+    pub fn find(alloc: Global, source: &[u8], program: &Program) -> Result<Origins, AllocError> {
+        Origins::up_to(alloc, source, program, usize::MAX)
     }
 
-    /// Finds the line of each of the first instructions, at most this many, of a source that compiles by this profile.
+    /// Finds the line of each of the first instructions, at most this many, of a source's program.
     pub fn up_to(
         alloc: Global,
         source: &[u8],
-        profile: Profile,
+        program: &Program,
         most: usize,
     ) -> Result<Origins, AllocError> {
         let mut origins = Origins {
@@ -30,9 +30,9 @@ impl Origins {
             by_line: Vec::new(alloc),
             distinct: Vec::new(alloc),
         };
-        if let Some(found) = lines(source, profile) {
-            let places = found.places();
-            origins.add(places.get(..most).unwrap_or(places))?;
+        if let Some(found) = positions_of(program, source) {
+            let positions = found.places();
+            origins.add(positions.get(..most).unwrap_or(positions))?;
         }
         Ok(origins)
     }
@@ -40,37 +40,36 @@ impl Origins {
     /// Adds the lines of these places, of which each is an instruction's.
     fn add(&mut self, places: &[SourcePosition]) -> Result<(), AllocError> {
         for (address, place) in places.iter().enumerate() {
-            self.lines.push(place.line)?;
-            self.by_line.push((place.line, address))?;
+            let line = place.line as usize;
+            self.lines.push(line)?;
+            self.by_line.push((line, address))?;
+            self.distinct.push(line)?;
         }
         self.by_line.sort()?;
-        for (line, _) in self.by_line.as_slice() {
-            if self.distinct.last() != Some(line) {
-                self.distinct.push(*line)?;
-            }
-        }
+        self.distinct.sort()?;
+        self.distinct.dedup();
         Ok(())
     }
 
-    /// Returns the line of the instruction of an address, from 1.
-    pub fn line(&self, address: usize) -> Option<u32> {
-        self.lines.get(address).copied()
+    /// Returns the line of the instruction of an address, 0 if there is none.
+    pub fn line(&self, address: usize) -> usize {
+        self.lines.get(address).copied().unwrap_or(0)
     }
 
     /// Returns the instructions that come from a line, the first address first: each with the line.
-    pub fn of_line(&self, line: u32) -> &[(u32, usize)] {
+    pub fn of_line(&self, line: usize) -> &[(usize, usize)] {
         let begin = self.by_line.partition_point(|made| made.0 < line);
         let end = self.by_line.partition_point(|made| made.0 <= line);
         self.by_line.get(begin..end).unwrap_or(&[])
     }
 
     /// Returns the lines from which instructions come, each once, the first line first.
-    pub fn distinct(&self) -> &[u32] {
+    pub fn distinct(&self) -> &[usize] {
         self.distinct.as_slice()
     }
 
     /// Returns how many lines before this one have instructions.
-    pub fn rank(&self, line: u32) -> usize {
+    pub fn rank(&self, line: usize) -> usize {
         self.distinct.partition_point(|other| *other < line)
     }
 }

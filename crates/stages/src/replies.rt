@@ -1,9 +1,11 @@
 //! What intrinsic functions reply in a run.
 
 use grammar::Intrinsic;
-use settings::value_number;
 use std::alloc::Global;
-use tools::Fault;
+use tools::{Fault, Wrong};
+
+/// What is wrong with a word that lists no replies.
+const NO_LIST: Fault = Fault::Wrong(Wrong::Unlike("replies", "scan=500,0"));
 
 /// A reply of a function, or of all that have no replies of their own.
 #[derive(Clone, Copy)]
@@ -34,18 +36,12 @@ impl Replies {
         for part in word.split(|c| c == ',' || c == ' ') {
             let mut number = part;
             if let Some((name, behind)) = part.split_once('=') {
-                of = named(name);
-                if of.is_none() {
-                    return Err(Fault::Usage);
-                }
+                of = Some(named(name).ok_or(NO_LIST)?);
                 number = behind;
             }
-            let Some(value) = value_of(number) else {
-                return Err(Fault::Usage);
-            };
             let reply = Reply {
                 of,
-                value,
+                value: value_of(number).ok_or(NO_LIST)?,
                 is_taken: false,
             };
             if self.listed.push(reply).is_err() {
@@ -57,7 +53,9 @@ impl Replies {
 
     /// Takes the next reply of a function: 0 after the last one.
     pub fn next(&mut self, intrinsic: Intrinsic) -> i32 {
-        let of = self.lists(intrinsic).then_some(intrinsic);
+        let own = Some(intrinsic);
+        let has_own = self.listed.iter().any(|reply| reply.of == own);
+        let of = if has_own { own } else { None };
         for reply in &mut self.listed {
             if reply.of == of && !reply.is_taken {
                 reply.is_taken = true;
@@ -65,16 +63,6 @@ impl Replies {
             }
         }
         0
-    }
-
-    /// Reports whether a function has replies of its own.
-    fn lists(&self, intrinsic: Intrinsic) -> bool {
-        for reply in &self.listed {
-            if reply.of == Some(intrinsic) {
-                return true;
-            }
-        }
-        false
     }
 }
 
@@ -88,19 +76,15 @@ pub fn begins_replies(word: &str) -> bool {
 
 /// Returns the intrinsic function of a name.
 fn named(name: &str) -> Option<Intrinsic> {
-    for intrinsic in Intrinsic::ALL {
-        if intrinsic.name() == name {
-            return Some(intrinsic);
-        }
-    }
-    None
+    Intrinsic::ALL
+        .into_iter()
+        .find(|intrinsic| intrinsic.name() == name)
 }
 
 /// Reads a reply: one or more digits, maybe with a `-` before them.
 fn value_of(word: &str) -> Option<i32> {
-    let value = match word.strip_prefix('-') {
-        Some(digits) => -i64::try_from(value_number(digits, 0, 2_147_483_648)?).ok()?,
-        None => i64::try_from(value_number(word, 0, 2_147_483_647)?).ok()?,
-    };
-    i32::try_from(value).ok()
+    if word.starts_with('+') {
+        return None;
+    }
+    word.parse().ok()
 }

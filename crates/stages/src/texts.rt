@@ -15,27 +15,17 @@ const REPLACEMENT: char = '\u{fffd}';
 /// Returns the lines of a source, without their LF. What follows the first byte 26 is no source.
 pub fn lines_of(alloc: Global, source: &[u8]) -> Result<Vec<&[u8]>, AllocError> {
     let mut lines = Vec::new(alloc);
-    let mut start = 0usize;
-    for (at, byte) in source.iter().enumerate() {
-        if *byte == b'\n' || *byte == END_BYTE {
-            lines.push(source.get(start..at).unwrap_or(&[]))?;
-            start = at.saturating_add(1);
-        }
-        if *byte == END_BYTE {
-            return Ok(lines);
-        }
+    let before_end = source.split(|byte| *byte == END_BYTE).next().unwrap_or(&[]);
+    for line in before_end.split(|byte| *byte == b'\n') {
+        lines.push(line)?;
     }
-    lines.push(source.get(start..).unwrap_or(&[]))?;
     Ok(lines)
 }
 
 /// Returns a line of a source as text: bytes that are no UTF-8, and control characters other than the tab, are
 /// replaced. A CR at its end is dropped.
 pub fn shown(alloc: Global, line: &[u8]) -> Result<String, AllocError> {
-    let line = match line {
-        [before @ .., b'\r'] => before,
-        _ => line,
-    };
+    let line = line.strip_suffix(b"\r").unwrap_or(line);
     let mut text = String::new(alloc);
     for character in String::from_utf8_lossy(alloc, line)?.chars() {
         text.push(printed(character))?;

@@ -1,97 +1,72 @@
 //! The tokens of a source as rows.
 
+use crate::texts::ascii;
 use derivations::{Derivation, Located, locate};
-use grammar::{Code, Diagnostic};
-use std::alloc::{AllocError, Global};
-use std::str;
+use grammar::{Code, Diagnostic, lexical_error_code};
+use std::alloc::AllocError;
 use tokens::{Keyword, Token};
-use tools::{Draft, Text, add_left, add_right};
 
-/// Returns a line for each token of a source, the end among them: its line, its column in bytes, both from 1, its kind,
+/// Adds a line for each token of a source, the end among them: its line, its column in bytes, both from 1, its kind,
 /// and its text. Of a source with a fault the last line is that of the first token that doesn't fit, with the fault, if
 /// there is such a token.
-pub fn token_rows(
-    alloc: Global,
+pub fn add_token_rows(
+    text: &mut String,
     source: &[u8],
     fault: Option<Diagnostic>,
-) -> Result<String, AllocError> {
-    let mut text = Draft::new(alloc);
-    let tokens = locate(alloc, source)?;
-    let last = first_misfit(tokens.as_slice());
+) -> Result<(), AllocError> {
+    let tokens = locate(*text.allocator(), source)?;
+    let misfit = Derivation::reached(tokens.as_slice(), tokens.len()).place();
     for (index, located) in tokens.iter().enumerate() {
-        add_row(&mut text, source, located);
-        if index == last {
-            add_fault(&mut text, located, fault);
+        add_row(text, source, located)?;
+        if index == misfit {
+            return end_misfit(text, located, fault);
         }
-        text.add("\n");
-        if index == last {
-            break;
-        }
+        text.push('\n')?;
     }
-    text.finish()
-}
-
-/// Returns the index of the first token that doesn't fit, or one past the last token.
-fn first_misfit(tokens: &[Located]) -> usize {
-    Derivation::reached(tokens, tokens.len()).place()
+    Ok(())
 }
 
 /// Adds the row of a token.
-fn add_row(text: &mut Draft, source: &[u8], located: &Located) {
-    let kind = kind_of(&located.token);
-    add_right(text, u64::from(located.line), 5);
-    text.add(" ");
-    add_right(text, u64::from(located.column), 5);
-    text.add(" ");
+fn add_row(text: &mut String, source: &[u8], located: &Located) -> Result<(), AllocError> {
+    let (line, column, kind) = (located.line, located.column, kind_of(&located.token));
     if located.token.is_last() {
-        text.add(kind);
+        write!(text, "{line:>5} {column:>5} {kind}")
     } else {
-        add_left(text, kind, 10);
-        text.add(" ");
-        add_spelling(text, source, located);
+        let spelling = spelling(source, located);
+        write!(text, "{line:>5} {column:>5} {kind:<10} {spelling}")
     }
 }
 
-/// Adds how a token is spelled, or of one that is the last its kind.
-pub fn add_spelling(text: &mut Draft, source: &[u8], located: &Located) {
+/// Returns how a token is spelled, or of one that is the last its kind.
+pub fn spelling<'a>(source: &'a [u8], located: &Located) -> &'a str {
     if located.token.is_last() {
-        text.add(kind_of(&located.token));
+        kind_of(&located.token)
     } else {
-        let spelling = source.get(located.start..located.end).unwrap_or(&[]);
-        text.add(str::from_utf8(spelling).unwrap_or("?"));
+        ascii(source.get(located.start..located.end).unwrap_or(&[]))
     }
 }
 
-/// Adds the fault of a source behind a token that doesn't fit, if that is the fault.
-pub fn add_fault(text: &mut Draft, located: &Located, fault: Option<Diagnostic>) {
-    if let Some(Diagnostic { line, code }) = fault
-        && line == located.line
-        && is_of_token(code)
-    {
-        text.add("  ; ");
-        text.add(code.text());
+/// Ends the row of a token that doesn't fit: with the source's fault, if that is the fault.
+pub fn end_misfit(
+    text: &mut String,
+    located: &Located,
+    fault: Option<Diagnostic>,
+) -> Result<(), AllocError> {
+    let (line, code) = (located.line, misfit_code(&located.token));
+    if fault == Some(Diagnostic { line, code }) {
+        writeln!(text, "  ; {}", code.text())
+    } else {
+        text.push('\n')
     }
 }
 
-/// Reports whether a fault is that a token doesn't fit.
-fn is_of_token(code: Code) -> bool {
-    match code {
-        Code::BadCharacter
-        | Code::CommentNotClosed
-        | Code::NameTooLong
-        | Code::ConstantTooLarge
-        | Code::SourceTooLong
-        | Code::SyntaxError
-        | Code::ReservedWord => true,
-        Code::NestedTooDeeply
-        | Code::TooManyVariables
-        | Code::TooManyFunctions
-        | Code::FunctionDefinedTwice
-        | Code::IntrinsicRedefined
-        | Code::BadParameterDeclaration
-        | Code::TooMuchCode
-        | Code::FunctionNotDefined
-        | Code::NoMainFunction => false,
+/// Returns what is wrong with a token that doesn't fit.
+fn misfit_code(token: &Token) -> Code {
+    match token {
+        Token::Fault(fault) => lexical_error_code(*fault),
+        Token::Keyword(Keyword::Refused) => Code::ReservedWord,
+        // any other token fits elsewhere
+        _ => Code::SyntaxError,
     }
 }
 

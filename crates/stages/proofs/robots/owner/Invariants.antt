@@ -1,5 +1,5 @@
 use Rattle.std.proofs.Common.{◌≡◌, ◌<◌, ◌≤◌, ℕ, IfSome, None, get_or}
-use Rattle.stages.proofs.spelling.owner.Given as goal
+use Rattle.stages.proofs.robots.owner.Given as goal
 
 -- of the functions so far that begin at the address or before, the last one begins last
 abbrev pub invariant-loop-number : goal.invariant-loop-number

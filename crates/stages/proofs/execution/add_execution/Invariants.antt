@@ -1,6 +1,6 @@
 use Rattle.code.specs.ReachedMachines.{IsReachable}
-use Rattle.stages.proofs.execution.execution.Given as goal
+use Rattle.stages.proofs.execution.add_execution.Given as goal
 
 -- the machine fits its program
 abbrev pub invariant-loop-cycle : goal.invariant-loop-cycle
-invariant-loop-cycle l = IsReachable l.machine l.made.program
+invariant-loop-cycle l = IsReachable l.machine l.robot.program
