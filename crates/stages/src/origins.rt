@@ -37,10 +37,10 @@ impl Origins {
         Ok(origins)
     }
 
-    /// Adds the lines of these places, of which each is an instruction's.
-    fn add(&mut self, places: &[SourcePosition]) -> Result<(), AllocError> {
-        for (address, place) in places.iter().enumerate() {
-            let line = place.line as usize;
+    /// Adds the lines of these positions, of which each is an instruction's.
+    fn add(&mut self, positions: &[SourcePosition]) -> Result<(), AllocError> {
+        for (address, position) in positions.iter().enumerate() {
+            let line = position.line as usize;
             self.lines.push(line)?;
             self.by_line.push((line, address))?;
             self.distinct.push(line)?;
