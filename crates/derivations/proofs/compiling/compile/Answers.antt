@@ -7,7 +7,8 @@ finish-program-requires g c =
     record {
       profile = _;
       file = is.file;
-      reported = record { resolved = is.resolved; stands = is.built _ c.new-maker.ensures; named = is.named; main = is.main };
+      reported = record
+          { resolved = is.resolved; stands = is.built _ c.new-maker.ensures; named = is.named; main = is.main };
     }
 
 pub returns-clause-compiles : goal.returns-clause-compiles
