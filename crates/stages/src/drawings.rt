@@ -29,10 +29,10 @@ enum Pending {
 /// A tree as far as it was drawn.
 #[derive(Drop)]
 struct Drawing<'a> {
+    tree: &'a SourceTree,
+    robot: &'a Robot,
     text: &'a mut String,
     is_graph: bool,
-    robot: &'a Robot,
-    tree: &'a SourceTree,
     count: usize,
     // each with the node above it, the next one last
     pending: Vec<(Drawn, Pending)>,
@@ -48,28 +48,29 @@ pub fn add_tree(
     robot: &Robot,
     is_graph: bool,
 ) -> Result<(), AllocError> {
-    let alloc = *text.allocator();
-    let tokens = locate(alloc, source)?;
+    let tokens = locate(*text.allocator(), source)?;
     let tree = SourceTree::of(tokens.as_slice(), profile);
-    if is_graph {
-        writeln!(
-            text,
-            "digraph tree {{\n  node [shape=box, fontname=\"monospace\"];"
-        )?;
-    }
-    let mut drawing = Drawing {
-        text,
-        is_graph,
-        robot,
-        tree: &tree,
-        count: 0,
-        pending: Vec::new(alloc),
-    };
-    drawing.add_file()?;
-    text.push_str(if is_graph { "}\n" } else { "" })
+    Drawing::of(&tree, robot, text, is_graph).add_file()
 }
 
 impl<'a> Drawing<'a> {
+    /// Begins with nothing drawn.
+    fn of(
+        tree: &'a SourceTree,
+        robot: &'a Robot,
+        text: &'a mut String,
+        is_graph: bool,
+    ) -> Drawing<'a> {
+        Drawing {
+            pending: Vec::new(*text.allocator()),
+            tree,
+            robot,
+            text,
+            is_graph,
+            count: 0,
+        }
+    }
+
     /// Adds a node below another one. The root is below itself.
     fn add(&mut self, above: Drawn, label: impl fmt::Display + Drop) -> Result<Drawn, AllocError> {
         let (number, depth) = (self.count, above.depth.saturating_add(1));
@@ -88,6 +89,10 @@ impl<'a> Drawing<'a> {
 
     /// Adds the file: its externals, and its functions.
     fn add_file(&mut self) -> Result<(), AllocError> {
+        if self.is_graph {
+            writeln!(self.text, "digraph tree {{")?;
+            writeln!(self.text, r#"  node [shape=box, fontname="monospace"];"#)?;
+        }
         let root = Drawn {
             number: 0,
             depth: 0,
@@ -99,7 +104,7 @@ impl<'a> Drawing<'a> {
         for body in self.tree.bodies() {
             self.add_function(root, body)?;
         }
-        Ok(())
+        self.text.push_str(if self.is_graph { "}\n" } else { "" })
     }
 
     /// Adds a function with its variables and its statements.
@@ -160,23 +165,21 @@ impl<'a> Drawing<'a> {
         let then_branch = Pending::Added("then", node.second, node.third);
         let else_branch = Pending::Added("else", node.third, index);
         let body = Pending::Added("do", node.second, index);
-        let zero = Pending::Added("constant 0", index, index);
         match node.kind {
             NodeKind::If => self.push(drawn, &[first, then_branch]),
             NodeKind::IfElse => self.push(drawn, &[first, then_branch, else_branch]),
             NodeKind::While => self.push(drawn, &[first, body]),
-            NodeKind::Negate => self.push(drawn, &[zero, rest]),
-            NodeKind::Not => self.push(drawn, &[rest, zero]),
-            NodeKind::Complement => self.push(
-                drawn,
-                &[rest, Pending::Added("constant -1", index, index)],
-            ),
-            NodeKind::PrefixIncrement(..) => self.push(
-                drawn,
-                &[Pending::Added("constant 1", index, index)],
-            ),
+            NodeKind::Negate => self.push(drawn, &[leaf("constant 0"), rest]),
+            NodeKind::Not => self.push(drawn, &[rest, leaf("constant 0")]),
+            NodeKind::Complement => self.push(drawn, &[rest, leaf("constant -1")]),
+            NodeKind::PrefixIncrement(..) => self.push(drawn, &[leaf("constant 1")]),
             // all others have only nodes of the source below them
             _ => self.push(drawn, &[first, rest]),
         }
     }
+}
+
+/// Returns a node of this label that has none below it.
+fn leaf(label: &'static str) -> Pending {
+    Pending::Added(label, 0, 0)
 }
