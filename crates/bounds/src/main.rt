@@ -35,11 +35,13 @@ struct Bounds;
 impl Work for Bounds {
     /// Tells of the files one after the other.
     fn work(&self, rt: &HostRuntime, options: &Options<'_>) -> Result<(), Fault> {
-        let wish = Wish {
-            profile: profile(options)?,
-            as_json: options.has("json"),
-        };
-        tell_files(rt, &wish, options.files())
+        match profile(options) {
+            Ok(profile) => {
+                let as_json = options.has("json");
+                tell_files(rt, &Wish { profile, as_json }, options.files())
+            }
+            Err(fault) => Err(fault),
+        }
     }
 }
 

@@ -49,7 +49,10 @@ struct Why;
 impl Work for Why {
     /// Explains the files one after the other.
     fn work(&self, rt: &HostRuntime, options: &Options<'_>) -> Result<(), Fault> {
-        tell_files(rt, &Wish::read(options)?, options.files())
+        match Wish::read(options) {
+            Ok(wish) => tell_files(rt, &wish, options.files()),
+            Err(fault) => Err(fault),
+        }
     }
 }
 
@@ -69,12 +72,15 @@ impl Wish {
         if strict && !lint {
             return Err(Fault::Wrong(Wrong::Alone("strict", "lint")));
         }
-        Ok(Wish {
-            profile: profile(options)?,
-            all: options.has("all"),
-            lint,
-            strict,
-        })
+        match profile(options) {
+            Ok(profile) => Ok(Wish {
+                profile,
+                all: options.has("all"),
+                lint,
+                strict,
+            }),
+            Err(fault) => Err(fault),
+        }
     }
 }
 
