@@ -55,5 +55,8 @@ pub(crate) fn names_in(profile: Profile, source: &[u8]) -> Result<Pools, ParseFa
     ensures compiles { OnOk result (Compiles profile source.now) }
     ensures fault { IfErr result (IsFirstFault profile source.now) }
 {
-    Ok(compile(profile, &mut SourceFeed::new(source))?.names)
+    match compile(profile, &mut SourceFeed::new(source)) {
+        Ok(made) => Ok(made.names),
+        Err(fault) => Err(fault),
+    }
 }
