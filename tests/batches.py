@@ -16,9 +16,11 @@ CYCLE = re.compile(r"\s*#\[cycle\((\w+)\)\]")
 IMPL = re.compile(r"impl\b(?:<.*?>)? (?:(?:\w+::)*(\w+)(?:<.*>)? for )?(\w+)")
 NAME = re.compile(r"\bfn (\w+)")
 # a goal that the prover finds no proof of, and an error in a proof; none that only says that a name or another proof is gone
-GOAL = re.compile(r"note: (src/\S+?):(\d+):\d+: it is not proved ")
+GOAL = re.compile(r"note: (src/\S+?):(\d+):(\d+): (it is not proved .*)")
 GONE = "has no field|is not in scope|has no `|was not admitted|was rejected"
-ERROR = re.compile(rf"(?:\./)?(proofs/\S+)/\w+\.antt:\d+:\d+: error: (?!.*(?:{GONE}))")
+ERROR = re.compile(rf"(?:\./)?(proofs/\S+)/\w+\.antt:\d+:\d+: error: (?!.*(?:{GONE}))(.*)")
+# Why an edit is refused of which the prover names no goal.
+NO_GOAL = "the crate is not proved with it"
 
 
 @dataclass(frozen=True)
@@ -118,15 +120,55 @@ def edited(texts: dict[str, str], edits: list[Edit]) -> dict[str, str]:
     return found
 
 
-def refused(edits: list[Edit], said: str) -> set[str]:
-    """The names of the edits of a batch of which a check said that a goal of one of their functions isn't proved.
+@dataclass(frozen=True, order=True)
+class Goal:
+    """A goal that isn't proved, by its place in a file of code."""
+
+    path: str
+    line: int
+    column: int
+    text: str
+
+
+def refused(edits: list[Edit], said: str) -> dict[str, str]:
+    """The names of the edits of a batch of which a check said that a goal of one of their functions isn't proved, and for each why:
+    the first such function by its name, and the first goal of it.
 
     An error in a proof counts too, if no other edit of the batch is of functions with this proof."""
+    goals, errors = not_proved(said)
+    errors = {proof: why for proof, why in errors.items() if sum(proof in edit.proofs() for edit in edits) == 1}
+    found: dict[str, str] = {}
+    for edit in edits:
+        for it in sorted(edit.functions, key=lambda it: it.proof):
+            own = [goal.text for goal in goals if goal.path == it.path and goal.line in it.lines]
+            if own or it.proof in errors:
+                found.setdefault(edit.name, f"{it.proof}: {own[0] if own else errors[it.proof]}")
+    return found
+
+
+def not_proved(said: str) -> tuple[list[Goal], dict[str, str]]:
+    """What a check said isn't proved: the goals in their order, and by its proof each error in one. Nothing if all is proved."""
     lines = said.split("\n")
     if not any(line.startswith("logic=not-proved") for line in lines):
-        return set()
-    goals = {(it[1], int(it[2])) for line in lines if (it := GOAL.match(line))}
-    wrong = {"/".join(it[1].split("/")[-2:]) for line in lines if (it := ERROR.match(line))}
-    wrong = {it for it in wrong if sum(it in edit.proofs() for edit in edits) == 1}
-    return {edit.name for edit in edits for it in edit.functions
-            if it.proof in wrong or any(path == it.path and line in it.lines for path, line in goals)}
+        return [], {}
+    goals = sorted(Goal(it[1], int(it[2]), int(it[3]), it[4]) for line in lines if (it := GOAL.match(line)))
+    errors: dict[str, str] = {}
+    for line in lines:
+        if it := ERROR.match(line):
+            errors.setdefault("/".join(it[1].split("/")[-2:]), it[2])
+    return goals, errors
+
+
+def why_refused(edit: Path, texts: dict[str, str], said: str) -> str:
+    """Why an edit is refused that was tried alone, by what a check says of the crate with these texts: the first goal, and its function."""
+    goals, errors = not_proved(said)
+    for goal in goals:
+        found = function_at(goal.path, texts.get(goal.path) or (edit.parent.parent / goal.path).read_text(encoding="utf-8"), goal.line)
+        return f"{found.proof if found else goal.path}: {goal.text}"
+    return next((f"{proof}: {why}" for proof, why in sorted(errors.items())), NO_GOAL)
+
+
+def function_at(path: str, text: str, line: int) -> Function | None:
+    """The function to which a line belongs: its body, or its head."""
+    around = [it for it in surfaces.bodies(text) if it[0] < line <= it[2]]
+    return described(path, text.split("\n"), around[-1][0], around[-1][2]) if around else None

@@ -84,6 +84,11 @@ def judge(cases: Iterable[tuple[str, str | Iterable[str]]]) -> tuple[int, int]:
     return passed, failed
 
 
+def skip(what: str, why: str) -> None:
+    """Says that a test, or a part of one, isn't run, and why. `tests/run` counts these lines."""
+    print(f"skipped: {what}: {why}", flush=True)
+
+
 def names(tests: object) -> list[str]:
     """The names of the tests of an object."""
     return sorted(name for name in vars(type(tests)) if not name.startswith("_"))

@@ -125,7 +125,7 @@ class History:
         return state.words[state.calls[0][2] + self.names.variables[function].index(local)]
 
     def changes(self, name: str, cycle: int) -> bool:
-        """Whether a variable changes in a cycle: of a function, in one call of it."""
+        """Whether a variable changes in a cycle: of a function, in one life of it. Those of main live on when it restarts."""
         before, after = self.states[cycle - 1], self.states[cycle]
         old, new = self.variable(before, name), self.variable(after, name)
         is_one = "." not in name or before.calls[0][2] == after.calls[0][2]

@@ -3,14 +3,17 @@
 from __future__ import annotations
 
 import os
-import shutil
 import subprocess
 
+from packages import lacking
 
-def works() -> bool:
-    """Reports whether strace is there, and may trace."""
+
+def refusal() -> str:
+    """Why nothing can be traced here: strace isn't there, or it may not trace. Nothing if it can."""
     words = ["strace", "-f", "-o", os.devnull, "true"]
-    return bool(shutil.which("strace")) and subprocess.run(words, capture_output=True, check=False).returncode == 0
+    if why := lacking(["strace"]):
+        return why
+    return "strace may not trace here" if subprocess.run(words, capture_output=True, check=False).returncode else ""
 
 
 def run(fault: str, path: str, program: str, *words: str) -> subprocess.CompletedProcess[str]:

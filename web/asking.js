@@ -1,6 +1,5 @@
 // Asks before something is lost, and says what was done, with a way back.
-
-const byId = id => document.getElementById(id);
+import {byId} from "./dom.js";
 
 /** Makes a button with a text, which calls back when it is pressed. */
 export function buttonOf(text, call) {

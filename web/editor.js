@@ -40,23 +40,43 @@ function lineAt(text, place) {
     return text.slice(0, place).split("\n").length;
 }
 
+/** Forgets what a map has by other keys than these. */
+function forget(map, keys) {
+    [...map.keys()].filter(key => !keys.has(key)).forEach(key => map.delete(key));
+}
+
 /** A plain text field for each robot, one of which is shown. */
 class PlainEditor {
     constructor(field) {
         this.field = field;
         this.blank = field.cloneNode();
-        this.fields = new WeakMap();
+        /** The field of each robot by its key, and the source that it was given. */
+        this.fields = new Map();
         this.calls = {input: [], move: []};
     }
 
     /** Shows a robot's source. */
-    show(robot) {
-        if (!this.fields.has(robot)) {
-            this.fields.set(robot, this.fieldOf(robot.source));
+    show({key, source}) {
+        const shown = this.fields.get(key) ?? {field: this.fieldOf(source), source};
+        this.fields.set(key, shown);
+        if (this.field !== shown.field) {
+            this.field.replaceWith(shown.field);
+            this.field = shown.field;
         }
-        const shown = this.fields.get(robot);
-        this.field.replaceWith(shown);
-        this.field = shown;
+        if (shown.source !== source) {
+            shown.source = source;
+            shown.field.value = source;
+        }
+    }
+
+    /** Takes note that the text that is written is this robot's source now. */
+    take(key) {
+        this.fields.get(key).source = this.text;
+    }
+
+    /** Forgets all robots but these. */
+    forget(keys) {
+        forget(this.fields, keys);
     }
 
     fieldOf(text) {
@@ -70,12 +90,6 @@ class PlainEditor {
 
     get text() {
         return this.field.value;
-    }
-
-    /** Puts another text in place of all that is there. */
-    replace(text) {
-        this.field.value = text;
-        this.calls.input.forEach(call => call());
     }
 
     onChange(call) {
@@ -143,7 +157,8 @@ class ColouredEditor {
             extraKeys: {Tab: false, "Shift-Tab": false},
         });
         this.describe(field);
-        this.documents = new WeakMap();
+        /** The document of each robot by its key, and the source that it was given. */
+        this.documents = new Map();
         this.marks = new WeakMap();
         this.found = [];
     }
@@ -156,23 +171,32 @@ class ColouredEditor {
         Object.entries(values).forEach(([name, value]) => input.setAttribute(name, value));
     }
 
-    /** Shows a robot's source. */
-    show(robot) {
-        if (!this.documents.has(robot)) {
-            this.documents.set(robot, new window.CodeMirror.Doc(robot.source, "crobots"));
+    /** Shows a robot's source. Another one than before can be undone by the editor's own keys. */
+    show({key, source}) {
+        const shown = this.documents.get(key) ?? {document: new window.CodeMirror.Doc(source, "crobots"), source};
+        this.documents.set(key, shown);
+        this.fit(source);
+        if (this.mirror.getDoc() !== shown.document) {
+            this.mirror.swapDoc(shown.document);
         }
-        this.fit(robot.source);
-        this.mirror.swapDoc(this.documents.get(robot));
+        if (shown.source !== source) {
+            shown.source = source;
+            shown.document.setValue(source);
+        }
+    }
+
+    /** Takes note that the text that is written is this robot's source now. */
+    take(key) {
+        this.documents.get(key).source = this.text;
+    }
+
+    /** Forgets all robots but these. */
+    forget(keys) {
+        forget(this.documents, keys);
     }
 
     get text() {
         return this.mirror.getValue();
-    }
-
-    /** Puts another text in place of all that is there. */
-    replace(text) {
-        this.fit(text);
-        this.mirror.setValue(text);
     }
 
     /** Leaves out what takes long in very long lines. */

@@ -14,6 +14,15 @@ const MARKS = 4000;
 const TARGET_BYTES = 16 + MARKS;
 const MOST_ROWS = 1000000;
 
+/**
+ * What the module exports. Addresses and counts are numbers of 64 bits.
+ * @typedef {(...words: bigint[]) => number} Call
+ * @typedef {{memory: WebAssembly.Memory, run: Call, film: Call, film_windows: Call, moment: Call, find: Call, explain: Call, turns: Call,
+ *     order_bytes: () => bigint, robot_bytes: () => bigint, target_bytes: () => bigint, sheet_bytes: () => bigint}} Exports
+ * @type {(keyof Exports)[]}
+ */
+const CALLS = ["run", "film", "film_windows", "moment", "find", "explain", "turns", "order_bytes", "robot_bytes", "target_bytes", "sheet_bytes"];
+
 const encoder = new TextEncoder();
 const decoder = new TextDecoder();
 
@@ -35,8 +44,10 @@ export class Engine {
     }
 
     constructor(exports) {
+        /** @type {Exports} */
         this.exports = exports;
         this.memory = exports.memory;
+        this.checkCalls();
         this.checkSizes();
         const start = this.memory.buffer.byteLength;
         this.order = start;
@@ -46,6 +57,19 @@ export class Engine {
         this.faults = this.text + SHEET_BYTES;
         const end = this.faults + SHEET_BYTES;
         this.memory.grow(Math.ceil((end - start) / PAGE_BYTES));
+    }
+
+    /** Throws if the module lacks a call that this file makes. */
+    checkCalls() {
+        const lacking = CALLS.filter(name => typeof this.exports[name] !== "function");
+        if (lacking.length || !(this.memory instanceof WebAssembly.Memory)) {
+            throw new Error(`the module and the page differ: it lacks ${lacking.join(", ") || "a memory"}`);
+        }
+    }
+
+    /** Does nothing: it answers once the module is there. */
+    ready() {
+        return true;
     }
 
     /** Throws if the module's blocks are not laid out as this file has them. */

@@ -1,45 +1,59 @@
-// Robots from files and to files of one's own computer.
+// Robots from files and to files of one's own computer, and files with battles.
 import {Limits} from "./limits.js";
 import {cleanName} from "./names.js";
+import {imported} from "./versions.js";
 
-/** Returns a file's text: of UTF-8, or else of a byte a letter, as the language has it. */
-function textOf(bytes) {
+// a file with battles may be as long as all that a browser keeps
+const MOST_BATTLES_BYTES = 64 * 1024 * 1024;
+
+/** Returns a file's text: of UTF-8, of which a byte order mark is a letter, or else of a byte a letter, as the language has it. */
+export function textOf(bytes) {
     try {
-        return new TextDecoder("utf-8", {fatal: true}).decode(bytes);
+        return new TextDecoder("utf-8", {fatal: true, ignoreBOM: true}).decode(bytes);
     } catch {
         return new TextDecoder("windows-1252").decode(bytes);
     }
 }
 
-/** Reads a file as a robot. */
-async function robotOf(file) {
-    return {name: cleanName(file.name, "robot.r"), source: textOf(await file.arrayBuffer())};
+/** Reads a file as a robot, or as battles. */
+async function read(file) {
+    if (file.size > MOST_BATTLES_BYTES) {
+        throw new RangeError(file.name);
+    }
+    const source = textOf(await file.arrayBuffer());
+    const battles = source.startsWith("{") ? imported(source) : null;
+    if (!battles && file.size >= Limits.sourceBytes) {
+        throw new RangeError(file.name);
+    }
+    return battles ?? {name: cleanName(file.name, "robot.r"), source};
 }
 
-/** Reads files as robots; returns them, and the names of those that are too long to be one or can't be read. */
-export async function robotsOf(files) {
-    const robots = [];
-    const refused = [];
+/** Reads files; returns robots, versions of battles, and the names of files that are too long or can't be read. */
+export async function readFiles(files) {
+    const robots = [], battles = [], refused = [];
     for (const file of files) {
         try {
-            if (file.size >= Limits.sourceBytes) {
-                throw new RangeError(file.name);
-            }
-            robots.push(await robotOf(file));
+            const found = await read(file);
+            ("versions" in found ? battles : robots).push(found);
         } catch {
             refused.push(cleanName(file.name, "a file"));
         }
     }
-    return {robots, refused};
+    return {robots, battles, refused};
+}
+
+/** Saves a text as a file. */
+export function saveText(name, text) {
+    const address = URL.createObjectURL(new Blob([text], {type: "text/plain"}));
+    const link = Object.assign(document.createElement("a"), {href: address, download: name});
+    link.click();
+    // the browser has begun to read it by then
+    setTimeout(() => URL.revokeObjectURL(address), 60000);
 }
 
 /** Saves a robot as a file, whose name ends in .r. */
 export function save({name, source}) {
-    const address = URL.createObjectURL(new Blob([source], {type: "text/plain"}));
-    const link = Object.assign(document.createElement("a"), {href: address, download: name.endsWith(".r") ? name : `${name}.r`});
-    link.click();
-    // the browser has begun to read it by then
-    setTimeout(() => URL.revokeObjectURL(address), 60000);
+    saveText(name.endsWith(".r") ? name : `${name}.r`, source);
 }
 
 /** Calls back with the files that are dropped on the page. */

@@ -1,6 +1,6 @@
 // Finds a text in the source that is edited, in all its lines, also in those that aren't drawn.
+import {byId} from "./dom.js";
 
-const byId = id => document.getElementById(id);
 // how many places are marked at once
 const MOST_MARKED = 1000;
 

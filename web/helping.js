@@ -1,4 +1,5 @@
 // Help where one writes: the arguments of the function at the cursor, and what a word that is begun may become.
+import {byId} from "./dom.js";
 import {WORDS} from "./language.js";
 
 // how many characters before the cursor are read
@@ -6,8 +7,6 @@ const MOST_LOOKED_AT = 2000;
 const MOST_NAMES = 500;
 const SHORTEST_BEGIN = 2;
 const TOKEN = /[A-Za-z_]\w*|[(),;{}]/g;
-
-const byId = id => document.getElementById(id);
 
 /** Returns a source's text with blanks in place of its comments. */
 function withoutComments(text) {
@@ -49,7 +48,10 @@ export function completions(begin, text, functions) {
 /** The line that shows the arguments of the function at the cursor. */
 class Signature {
     constructor(editor, functions) {
-        Object.assign(this, {editor, functions, box: byId("signature"), shown: ""});
+        this.editor = editor;
+        this.functions = functions;
+        this.box = byId("signature");
+        this.shown = "";
         editor.onMove(() => this.follow());
         byId("writing").addEventListener("focusout", () => this.show(null));
         byId("writing").addEventListener("keydown", event => event.key === "Escape" && this.show(null));
@@ -118,7 +120,8 @@ function listOf(parameters, present) {
 /** Completes words in CodeMirror: by Ctrl and the space key, and while one writes. */
 class Completion {
     constructor(mirror, functions) {
-        Object.assign(this, {mirror, functions});
+        this.mirror = mirror;
+        this.functions = functions;
         mirror.setOption("extraKeys", {...mirror.getOption("extraKeys"), "Ctrl-Space": () => this.show(0)});
         mirror.on("inputRead", (_, {text}) => /^\w$/.test(text.join("\n")) && this.show(SHORTEST_BEGIN));
     }

@@ -1,4 +1,5 @@
 // The panel on a robot from inside: its source with the line that it is at, its calls and variables, at the film's cycle.
+import {byId, made} from "./dom.js";
 import {Ending} from "./limits.js";
 import {STOPPED} from "./calling.js";
 import {Code, callsOf, foundIn, momentOf, valuesOf} from "./moments.js";
@@ -9,12 +10,6 @@ const STOP_AFTER = 300;
 const MOST_LINES = 5000;
 const CAUSES = {words: "its stack is full", frames: "too many calls are open", returned: "main returned"};
 const FILE = {name: "robot"};
-
-const byId = id => document.getElementById(id);
-
-function made(tag, textContent, className = "") {
-    return Object.assign(document.createElement(tag), {textContent, className});
-}
 
 /** Returns a row of a table: a heading over it, or a name and its value. */
 function rowOf({name, value, heading}) {
@@ -44,9 +39,12 @@ const over = (code, call) => ({...into(code), aims: [{marks: code.entriesOf(), f
 export class Inside {
     /** `screen` shows the film, `runner` calls the engine, and `playing` has the button by which a search is stopped. */
     constructor(screen, runner, playing) {
-        Object.assign(this, {screen, runner, playing, marks: new Set()});
+        this.screen = screen;
+        this.runner = runner;
+        this.playing = playing;
+        this.marks = new Set();
         this.panel = byId("inside");
-        this.panel.addEventListener("toggle", () => this.begin());
+        this.panel.addEventListener("toggle", event => event.target === this.panel && this.begin());
         byId("inside-robot").addEventListener("change", () => this.choose());
         byId("inside-source").addEventListener("click", event => this.mark(event.target.closest("button")));
         this.actions = {
@@ -75,7 +73,7 @@ export class Inside {
     /** Follows the film of a match from now on; none if there is no wish. */
     watch(wish = null) {
         this.wish = wish;
-        this.panel.hidden = !wish;
+        this.panel.hidden = byId("inside-place").hidden = !wish;
         if (wish) {
             const names = wish.robots.map(({name}) => name);
             const robots = names.length === 1 ? [...names, ...names] : names;
@@ -86,7 +84,17 @@ export class Inside {
         }
     }
 
+    /** An open panel stands in the other column than the film, where there are two. */
     begin() {
+        const {open} = this.panel;
+        const place = byId("inside-place");
+        if (open) {
+            byId("left").prepend(place);
+        } else {
+            byId("replay").after(place);
+        }
+        byId("main").classList.toggle("stepping", open);
+        this.screen.beside(open);
         if (this.isOpen && !this.code) {
             this.choose();
         }

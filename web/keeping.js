@@ -1,149 +1,188 @@
-// Which battle is edited: one's own, one that came with a link, or one that was kept before; and that none of them is lost.
-import {Notice, buttonOf, reveal} from "./asking.js";
-import {copyOf, firstBattle, namesOf} from "./battles.js";
-import {battleOf, isBattle} from "./links.js";
-import {Keeper, Kept} from "./shelves.js";
-import {NEW_SOURCE} from "./workbench.js";
+// Says what the store keeps and what it can't, follows links, and asks before a page is left that has something unkept.
+import {Notice, reveal} from "./asking.js";
+import {copyOf, isSame, unfit} from "./battles.js";
+import {byId} from "./dom.js";
+import {saveText} from "./files.js";
+import {MOST_LINK, battleOf, fragmentOf, isBattle, linkedMoment} from "./links.js";
+import {exported} from "./versions.js";
 
 const BROKEN = "The link carries no battle that can be read, so this is another one.";
-const UNKEPT = "This browser keeps nothing of this page: its storage is blocked or full. Save your robots as files before you leave.";
+const REFUSED = "This browser keeps nothing of this page: its storage is blocked or full. Save your robots as files before you leave.";
+const FULL = "The storage is full: your last changes aren't kept. Delete versions in 'My battles', or save your robots as files before you leave.";
 const APART = "Another tab has changed this battle too. Yours is now a battle of its own; both are in 'My battles'.";
 const OTHER = "This battle was changed in another tab.";
-const LINKED = "This battle came with a link.";
+const LINKED = "This battle came with a link, and stands beside your own.";
+const ON_A_FILE = "This page is a file of this computer, so a link would lead nowhere else. Send the battle as a file: this page opens it.";
+const TOO_LONG = "The battle is too long for a link. Send it as a file: this page opens it.";
+const WORDS = {matches: "matches", limit: "most cycles of each", first: "first match", seed: "seed", profile: "language"};
 
-const byId = id => document.getElementById(id);
+/** Returns how many versions there are, in words. */
+const counted = count => `${count} version${count === 1 ? "" : "s"}`;
 
 export class Keeping {
-    /** `show` is called with each battle that comes to be edited. */
-    constructor(show) {
-        Object.assign(this, {show, keeper: new Keeper(), noted: new Notice("noted"), linked: new Notice("linked")});
-        byId("unkept").textContent = UNKEPT;
-        byId("kept").addEventListener("toggle", () => this.showEntries());
-        byId("new").addEventListener("click", () => this.beginNew());
-        this.keeper.onOther(() => this.noted.say(OTHER, {"Show it here": () => this.open(this.keeper.present ?? this.displaced)}));
-        window.addEventListener("hashchange", () => this.follow());
+    /**
+     * `watch` is called with the moment that a link names.
+     * @param {import("./store.js").Store} store
+     * @param {import("./shelves.js").Keeper} keeper
+     */
+    constructor(store, keeper, watch) {
+        this.watch = watch;
+        this.store = store;
+        this.keeper = keeper;
+        this.noted = new Notice("noted");
+        this.linked = new Notice("linked");
+        store.onChange(() => this.follow());
+        keeper.onChange = () => this.sayKept();
+        keeper.onOther(window, line => this.sayOther(line));
+        window.addEventListener("hashchange", () => this.followLink());
+        window.addEventListener("beforeunload", event => {
+            if (keeper.isUnkept || keeper.isFull && store.current.isTouched) {
+                event.preventDefault();
+                event.returnValue = "";
+            }
+        });
     }
 
     /** Begins with the battle of a link, or with the one that was kept last, or with samples. */
     begin(linked, samples) {
-        const [entry] = this.keeper.entries;
         const isBroken = isBattle(location.hash) && !linked;
-        if (linked) {
-            this.take(linked);
-        } else if (entry) {
-            this.open(entry);
-        } else {
-            this.edit(firstBattle(samples, {name: "robot1.r", source: NEW_SOURCE}));
-        }
+        this.store.begin(linked, samples);
         if (isBroken) {
             this.noted.say(BROKEN);
         }
+        this.sayKept();
     }
 
-    /** Lets a battle be edited. */
-    edit(battle) {
-        this.battle = battle;
-        this.show(battle);
-        this.showEntries();
-    }
-
-    /** Takes a battle that came with a link. It is kept with its first change, in an entry of its own. */
-    take(battle) {
-        const own = this.displaced;
-        this.keeper.begin(true);
-        this.edit(battle);
-        this.sayLinked(own);
-    }
-
-    /** What a link displaces: the battle that is edited, or the one that was kept last. */
-    get displaced() {
-        const {battle, keeper} = this;
-        return battle && !keeper.isLinked ? {...keeper.place, battle: copyOf(battle)} : keeper.last;
-    }
-
-    sayLinked(own = this.keeper.last) {
-        this.linked.say(LINKED, own ? {"Back to my robots": () => this.open(own)} : {});
-    }
-
-    /** Opens the battle of an entry, and goes on with it. */
-    open(entry) {
-        this.leaveLink();
-        this.keeper.goOn(entry);
-        this.noted.clear();
-        this.linked.clear();
-        this.edit(copyOf(entry.battle));
-        if (entry.isLinked) {
+    /** Says what became of the battle that is current. */
+    follow() {
+        const {store} = this;
+        if (store.current !== this.current) {
+            this.current = store.current;
+            this.noted.clear();
             this.sayLinked();
+        }
+        if (store.current.isTouched) {
+            this.leaveLink();
+        }
+        if (store.takeApart()) {
+            this.noted.say(APART);
+        }
+        if (store.undoable !== this.undoable) {
+            this.undoable = store.undoable;
+            this.sayUndo();
+        }
+        this.sayKept();
+    }
+
+    sayLinked() {
+        const {last, current} = this.store;
+        if (current.isLinked) {
+            this.linked.say(LINKED, last ? {"Back to my robots": () => this.store.openVersion(last.id)} : {});
+        } else {
+            this.linked.clear();
         }
     }
 
-    /** Begins with a battle in an entry of its own; the one before stays in its entry. */
-    beginNew(battle = firstBattle([], {name: "robot1.r", source: NEW_SOURCE})) {
-        this.keeper.begin();
-        this.open({...this.keeper.place, battle});
-        this.changed();
+    /** Says what was removed or replaced, with the way back for just that. */
+    sayUndo() {
+        const {undoable} = this;
+        if (undoable) {
+            const {did, robot, by} = undoable;
+            const text = did === "removed" ? `${robot.name} was removed.` : `${robot.name} was replaced by ${by.name}.`;
+            this.noted.say(text, {Undo: () => this.undo(robot.name)});
+        } else {
+            this.noted.clear();
+        }
+    }
+
+    undo(name) {
+        if (!this.store.undo()) {
+            this.noted.say(`There is no room for ${name} beside what was written since. It is in 'My battles'.`);
+        }
+    }
+
+    /** Says what isn't kept, as long as it is so, and what was dropped to make room. */
+    sayKept() {
+        const {store, keeper} = this;
+        const box = byId("unkept");
+        const text = keeper.isRefused ? REFUSED : keeper.isFull ? FULL : "";
+        const isNew = text !== "" && box.textContent !== text;
+        box.textContent = text;
+        box.hidden = text === "";
+        if (isNew) {
+            reveal(box);
+        }
+        const gone = store.takeDropped();
+        if (gone.length) {
+            const until = new Date(gone.at(-1).time).toLocaleString([], {dateStyle: "medium", timeStyle: "short"});
+            this.noted.say(`To make room, the oldest ${counted(gone.length)} without a name went, up to that of ${until}. A name keeps one; 'My battles' writes all into a file.`);
+        }
+    }
+
+    /** Another tab changed a battle of this line. */
+    sayOther(line) {
+        if (line === this.store.current.line) {
+            this.store.share();
+            this.noted.say(OTHER, {"Show it here": () => this.takeOther(line)});
+        }
+    }
+
+    async takeOther(line) {
+        this.store.take(await this.keeper.load());
+        this.store.openVersion(this.store.archive.newestOf(line).id);
     }
 
     /** The address of a link stays only as long as its battle is shown unchanged. */
     leaveLink() {
-        if (isBattle(location.hash)) {
+        const isSent = this.sent && isSame(this.sent, this.store.battle);
+        if (isBattle(location.hash) && !isSent) {
             history.replaceState(null, "", location.href.split("#")[0]);
         }
     }
 
     /** Shows the battle of a link that is followed in the open page. */
-    async follow() {
+    async followLink() {
         const {hash} = location;
         const battle = await battleOf(hash);
         if (battle) {
-            this.take(battle);
+            this.store.openLink(battle);
+            this.watch(linkedMoment(hash));
         } else if (isBattle(hash)) {
             this.noted.say(BROKEN);
         }
     }
 
-    /** Keeps the battle after a change. */
-    changed() {
-        this.leaveLink();
-        const kept = this.keeper.keep(this.battle);
-        this.sayUnkept(kept === Kept.NOT);
-        if (kept === Kept.APART) {
-            this.noted.say(APART);
-        }
-        this.showEntries();
-    }
-
-    /** Says that nothing is kept, as long as it is so. */
-    sayUnkept(isUnkept) {
-        const box = byId("unkept");
-        if (isUnkept && box.hidden) {
-            reveal(box);
-        }
-        box.hidden = !isUnkept;
-    }
-
-    /** Says what was done, and offers the way back to the battle before. */
-    note(text, before, shown) {
-        this.noted.say(text, {Undo: () => {
-            this.battle = before;
-            this.show(before, shown);
-            this.changed();
-        }});
-    }
-
-    /** Lists the battles that are kept, if the list is open. */
-    showEntries() {
-        if (byId("kept").open) {
-            byId("entries").replaceChildren(...this.keeper.entries.map(entry => this.row(entry)));
+    /** Makes a link to the battle. `say` says how it went. */
+    async share(say) {
+        const wrong = unfit(this.store.battle.settings);
+        if (wrong.length) {
+            say(`No link: ${wrong.map(name => WORDS[name]).join(", ")} out of the limits.`, true);
+        } else {
+            await this.sendLink(this.store.send(), null, say);
         }
     }
 
-    row(entry) {
-        const when = new Date(parseInt(entry.stamp, 10)).toLocaleString([], {dateStyle: "medium", timeStyle: "short"});
-        const button = buttonOf(namesOf(entry.battle), () => this.open(entry));
-        button.setAttribute("aria-current", String(entry.key === this.keeper.key));
-        const row = document.createElement("li");
-        row.append(button, ` ${when}${entry.isLinked ? ", from a link" : ""}`);
-        return row;
+    /** Makes a link to a battle, and to a moment of it if there is one, or offers a file where a link would be no use. */
+    async sendLink(battle, moment, say) {
+        const fragment = location.protocol === "file:" ? "" : await fragmentOf(battle, moment);
+        if (!fragment || fragment.length > MOST_LINK) {
+            const text = fragment ? TOO_LONG : ON_A_FILE;
+            say(text);
+            this.noted.say(text, {"Save the battle as a file": () => this.saveBattle(battle)});
+            return;
+        }
+        this.sent = battle;
+        history.replaceState(null, "", fragment);
+        try {
+            await navigator.clipboard.writeText(location.href);
+            say("The link is copied.");
+        } catch {
+            say("The link stands in the address bar.");
+        }
+    }
+
+    saveBattle(battle) {
+        const version = {id: this.store.newKey(), line: this.store.newKey(), time: Date.now(), why: "sent", label: "", isLinked: true, isTouched: true, battle: copyOf(battle)};
+        saveText("battle.json", exported([version]));
     }
 }

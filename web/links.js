@@ -1,10 +1,13 @@
-// Links that carry a battle: its robots and its settings, packed into the fragment of the address.
-import {checked} from "./battles.js";
+// Links that carry a battle: its robots and its settings, packed into the fragment of the address; and a moment, if one is meant.
+import {checked, copyOf} from "./battles.js";
+import {Limits} from "./limits.js";
 import {bytesOf, unpacked} from "./player/packing.js";
 
 const MARK = "#battle=";
 // four sources of the greatest length, with room for what stands between them
 const MOST_BYTES = 6 * 1024 * 1024;
+/** How many letters a link's fragment has at most: programs that pass links on cut off much longer ones. */
+export const MOST_LINK = 32000;
 
 function toText(bytes) {
     let binary = "";
@@ -14,10 +17,17 @@ function toText(bytes) {
     return btoa(binary).replaceAll("+", "-").replaceAll("/", "_").replaceAll("=", "");
 }
 
-/** Returns the fragment that carries this battle. */
-export async function fragmentOf(battle) {
-    const packed = new Blob([JSON.stringify(battle)]).stream().pipeThrough(new CompressionStream("deflate-raw"));
-    return MARK + toText(await bytesOf(packed));
+/** Returns the fragment that carries this battle, and a moment {number, cycle} of one of its matches if there is one. */
+export async function fragmentOf(battle, moment = null) {
+    const packed = new Blob([JSON.stringify(copyOf(battle))]).stream().pipeThrough(new CompressionStream("deflate-raw"));
+    return MARK + toText(await bytesOf(packed)) + (moment ? `&match=${moment.number}&cycle=${moment.cycle}` : "");
+}
+
+/** Returns the moment that a fragment names, of a match that can be watched; null if it names none. */
+export function linkedMoment(fragment) {
+    const found = /&match=(\d{1,7})&cycle=(\d{1,10})$/.exec(fragment);
+    const [number, cycle] = found ? found.slice(1).map(Number) : [0, 0];
+    return number >= 1 && number <= Limits.first && cycle <= Limits.cycles ? {number, cycle} : null;
 }
 
 /** Returns whether a fragment is one that is to carry a battle. */
@@ -31,8 +41,9 @@ export async function battleOf(fragment) {
         return null;
     }
     try {
-        const bytes = await unpacked(fragment.slice(MARK.length), MOST_BYTES);
-        return checked(JSON.parse(new TextDecoder().decode(bytes)));
+        const bytes = await unpacked(fragment.slice(MARK.length).split("&")[0], MOST_BYTES);
+        const battle = checked(JSON.parse(new TextDecoder().decode(bytes)));
+        return battle && copyOf(battle);
     } catch {
         return null;
     }

@@ -1,21 +1,51 @@
 // The page: what it is built with, and what happens at its buttons.
 import {ask, buttonOf} from "./asking.js";
-import {checked} from "./battles.js";
+import {checked, copyOf} from "./battles.js";
 import {Caller} from "./calling.js";
+import {byId} from "./dom.js";
 import {makeEditor} from "./editor.js";
-import {onDrop, robotsOf, save} from "./files.js";
+import {onDrop, readFiles, save} from "./files.js";
 import {Finder} from "./finding.js";
 import {helpWriting} from "./helping.js";
+import {Histories} from "./histories.js";
 import {Keeping} from "./keeping.js";
-import {battleOf, fragmentOf} from "./links.js";
-import {unpacked} from "./player/packing.js";
+import {battleOf, linkedMoment} from "./links.js";
+import {Places} from "./places.js";
 import {Playing, tell} from "./playing.js";
+import {DatabaseShelf, Keeper, LocalShelf} from "./shelves.js";
+import {Store} from "./store.js";
 import {Workbench} from "./workbench.js";
 
-const NO_DATA = "The page is not whole: its file data.js is missing or can't be read. Unpack or copy all files of the page.";
-const MOST_MODULE_BYTES = 4 * 1024 * 1024;
+// how much room versions take at most: in a database, and where there is only the storage of texts
+const MOST_BYTES = 24 * 1024 * 1024;
+const MOST_LOCAL_BYTES = 6 * 1024 * 1024;
 
-const byId = id => document.getElementById(id);
+let count = 0;
+
+/** Returns a word that no other call in any tab returns. */
+function newKey() {
+    count += 1;
+    return `${Date.now().toString(36)}-${count}-${Math.random().toString(36).slice(2, 10)}`;
+}
+
+/**
+ * Returns something of the browser, or null if it refuses it to this page.
+ * @returns {any}
+ */
+function granted(name) {
+    try {
+        return window[name] ?? null;
+    } catch {
+        return null;
+    }
+}
+
+/** What keeps versions and drafts in this browser. */
+async function keeperOf() {
+    const databases = granted("indexedDB");
+    const database = databases && await DatabaseShelf.open(databases);
+    return new Keeper({local: new LocalShelf(granted("localStorage")), database, tab: newKey()});
+}
 
 /** Returns the samples as choices, those of a level together, the easiest first. */
 function levels(samples) {
@@ -28,20 +58,29 @@ function levels(samples) {
 }
 
 class Page {
-    constructor(newCaller, data, editor) {
+    constructor(newCaller, data, editor, keeper) {
         this.data = data;
-        this.workbench = new Workbench(editor, newCaller(), () => this.changed());
-        this.playing = new Playing(newCaller(), setting => this.changed(setting));
-        this.keeping = new Keeping((battle, shown) => this.show(battle, shown));
+        const known = [...data.robots, ...data.steps].map(({source}) => source);
+        const most = keeper.database ? MOST_BYTES : MOST_LOCAL_BYTES;
+        this.store = new Store({keeper, known, newKey, now: Date.now, most});
+        this.workbench = new Workbench(this.store, editor, newCaller());
+        const places = new Places({write: () => editor.focus(), watch: () => this.playing.focus()});
+        this.playing = new Playing(this.store, newCaller(), places, () => this.workbench.compileAll());
+        this.keeping = new Keeping(this.store, keeper, moment => this.playing.watchMoment(moment));
+        this.histories = new Histories(this.store, text => this.keeping.noted.say(text), async () => this.store.take(await keeper.load()));
+        this.finder = new Finder(editor);
         this.listen();
         this.showSteps();
     }
 
     listen() {
+        const {store} = this;
         byId("sample").append(...levels(this.data.robots));
         const presses = {
-            "add-sample": () => this.workbench.add([this.sample]), replace: () => this.replace(), remove: () => this.remove(),
-            save: () => save(this.workbench.robot), open: () => byId("files").click(), link: () => this.copyLink(),
+            "add-sample": () => store.addRobots([this.sample]), replace: () => store.replaceRobot(store.robot.key, this.sample),
+            remove: () => this.remove(), save: () => save(store.robot), open: () => byId("files").click(),
+            import: () => byId("files").click(), link: () => this.keeping.share((text, isFault) => tell("said", text, isFault)),
+            "link-moment": () => this.shareMoment(),
         };
         Object.entries(presses).forEach(([id, call]) => byId(id).addEventListener("click", call));
         byId("files").addEventListener("change", event => this.take([...event.target.files]));
@@ -53,46 +92,39 @@ class Page {
         return {name, source};
     }
 
-    show(battle, shown) {
-        this.workbench.show(battle, shown);
-        this.playing.show(battle);
-    }
-
-    /** Takes note of a change of the battle: of its robots, or of a setting. */
-    changed(setting) {
-        this.keeping.changed();
-        this.playing.judgeAges();
-        if (setting === "profile") {
-            this.workbench.compile();
-            this.workbench.compileOthers();
+    /** Makes a link to the moment that the film shows. */
+    shareMoment() {
+        const {filmed, screen} = this.playing;
+        if (filmed && screen.player) {
+            const moment = {number: filmed.number, cycle: Math.floor(screen.player.cycle)};
+            this.keeping.sendLink(copyOf(filmed), moment, (text, isFault) => tell("told", text, isFault));
         }
-    }
-
-    /** Puts the sample in place of the robot that is shown. */
-    replace() {
-        const {robot, shown, battle} = this.workbench;
-        const before = {...battle, robots: battle.robots.map(it => it === robot ? {...robot} : it)};
-        this.workbench.replace(this.sample);
-        this.keeping.note(`${before.robots[shown].name} was replaced by ${this.sample.name}.`, before, shown);
     }
 
     async remove() {
-        const {robot, shown, battle} = this.workbench;
-        if (await ask(`Remove ${robot.name} from this battle?`, "Remove it")) {
-            const before = {...battle, robots: [...battle.robots]};
-            this.workbench.remove();
-            this.keeping.note(`${robot.name} was removed.`, before, shown);
+        const {key, name} = this.store.robot;
+        if (await ask(`Remove ${name} from this battle?`, "Remove it")) {
+            this.store.removeRobot(key);
         }
     }
 
-    /** Takes files as robots. */
+    /** Takes files: robots, and battles, of which a single one is opened beside one's own. */
     async take(files) {
-        const {robots, refused} = await robotsOf(files);
-        const count = this.workbench.add(robots);
+        const {robots, battles, refused} = await readFiles(files);
+        const count = this.store.addRobots(robots);
         const left = [...robots.slice(count).map(({name}) => name), ...refused];
         const why = left.length ? ` Not opened: ${left.join(", ")}. A battle has at most four robots, and a robot at most 1 MiB.` : "";
-        this.keeping.noted.say(`${count} of ${files.length} files opened.${why}`);
+        this.keeping.noted.say(`${count + battles.length} of ${files.length} files opened.${battles.map(it => this.takeBattles(it)).join("")}${why}`);
         byId("files").value = "";
+    }
+
+    takeBattles({versions, unread}) {
+        if (versions.length === 1 && !unread) {
+            this.store.openLink(versions[0].battle);
+            return "";
+        }
+        const count = this.store.readVersions(versions);
+        return ` ${count} versions came into 'My battles', ${versions.length - count} were there${unread ? `, ${unread} can't be read` : ""}.`;
     }
 
     showSteps() {
@@ -105,66 +137,29 @@ class Page {
         const code = Object.assign(made("pre", source), {tabIndex: 0});
         row.append(made("h3", title), made("p", text), code, buttonOf(`Try it against ${against}`, () => {
             const other = this.data.robots.find(it => it.name === against);
-            this.keeping.beginNew(checked({robots: [{name, source}, other], settings: {matches: 10}}));
-            this.keeping.noted.say(`This is a new battle: ${name} against ${against}. Press Run.`);
+            this.store.beginNew(checked({robots: [{name, source}, other], settings: {matches: 10}}));
+            this.keeping.noted.say(`This is a new battle: ${name} against ${against}.`, {Run: () => this.playing.run()});
         }));
         return row;
     }
-
-    async copyLink() {
-        history.replaceState(null, "", await fragmentOf(this.workbench.battle));
-        try {
-            await navigator.clipboard.writeText(location.href);
-            tell("said", "The link is copied.");
-        } catch {
-            tell("said", "The link stands in the address bar.");
-        }
-    }
 }
 
-/** Says what the page lacks, and nothing else. */
-function lack(text) {
-    byId("main").hidden = true;
-    byId("lacking").textContent = text;
-    byId("lacking").hidden = false;
-}
-
-/** Returns whether this browser takes the module, by a small one: it copies memory, and extends the sign of a BigInt. */
-function takesModule() {
-    // one function from i64 to i64: i32.const 0, three times, memory.copy; local.get 0, i64.extend8_s
-    const bytes = new Uint8Array([0, 97, 115, 109, 1, 0, 0, 0, 1, 6, 1, 96, 1, 126, 1, 126, 3, 2, 1, 0, 5, 3, 1, 0, 0,
-        7, 5, 1, 1, 102, 0, 0, 10, 17, 1, 15, 0, 65, 0, 65, 0, 65, 0, 252, 10, 0, 0, 32, 0, 194, 11]);
-    try {
-        const {exports} = new WebAssembly.Instance(new WebAssembly.Module(bytes));
-        return exports.f(BigInt(129)) === BigInt(-127);
-    } catch {
-        return false;
-    }
-}
-
-/** Returns whether the browser has all that the page needs; the page says what that is until a script hides it. */
-function isFit() {
-    return takesModule() && typeof DecompressionStream === "function" && CSS.supports("color", "color-mix(in srgb, red, blue)");
-}
-
-/** Makes the page of what it is built with: from a file nothing can be fetched, so all of it is a script. */
-async function make(data) {
-    byId("listing").open = matchMedia("(min-width: 40rem)").matches;
+/** Makes the page of what it is built with and of the module: from a file nothing can be fetched, so all of it is a script. */
+export async function make(module) {
+    const data = globalThis.CROBOTS;
     byId("main").hidden = false;
     const address = URL.createObjectURL(new Blob([data.worker], {type: "text/javascript"}));
-    const [module, battle, editor] = await Promise.all([
-        unpacked(data.module, MOST_MODULE_BYTES), battleOf(location.hash), makeEditor(byId("source"), data.editor),
-    ]);
-    const page = new Page(() => new Caller(address, module), data, editor);
-    page.finder = new Finder(editor);
+    const [battle, editor, keeper] = await Promise.all([battleOf(location.hash), makeEditor(byId("source"), data.editor), keeperOf()]);
+    const kept = await keeper.load();
+    const page = new Page(() => new Caller(address, module), data, editor, keeper);
     helpWriting(editor, data.functions);
+    const moment = battle && linkedMoment(location.hash);
+    page.store.take(kept);
     page.keeping.begin(battle, data.robots);
-}
-
-const data = globalThis.CROBOTS;
-if (isFit() && data) {
-    byId("lacking").hidden = true;
-    make(data).catch(fault => lack(`The page can't start: ${fault.message}`));
-} else if (isFit()) {
-    lack(NO_DATA);
+    try {
+        await page.playing.begin();
+    } catch (fault) {
+        throw new Error(`The page's engine doesn't start: ${fault.message}. Unpack or copy all files of the page once more.`);
+    }
+    await page.playing.watchMoment(moment);
 }

@@ -1,17 +1,18 @@
 // The settings, the run of a battle with its report, and the match that is watched.
-import {copyOf, isSeed} from "./battles.js";
+import {areSame, checked, copyOf, isSeed} from "./battles.js";
+import {byId} from "./dom.js";
 import {Ending, Limits} from "./limits.js";
 import {Inside} from "./insides.js";
 import {Screen} from "./replays.js";
-import {Report} from "./reports.js";
+import {Report, totalsOf} from "./reports.js";
 import {Series, ended} from "./series.js";
 import {Watcher, Wish} from "./watching.js";
 
 const NUMBERS = ["matches", "limit", "first", "profile"];
+// a link to a moment leads to so many cycles before it
+const CYCLES_BEFORE = 300;
 // the settings that a match depends on, beside its number
 const RULES = ["limit", "seed", "profile"];
-
-const byId = id => document.getElementById(id);
 
 /** Says a text in a line of the page. */
 export function tell(id, text, isFault = false) {
@@ -21,8 +22,33 @@ export function tell(id, text, isFault = false) {
 
 /** Returns whether two battles differ in their robots or in one of these settings. */
 function differ(one, other, names) {
-    const partOf = ({robots, settings}) => JSON.stringify([copyOf({robots}).robots, names.map(name => settings[name])]);
-    return partOf(one) !== partOf(other);
+    return !areSame(one.robots, other.robots) || names.some(name => one.settings[name] !== other.settings[name]);
+}
+
+/** What the tab keeps of its last report, so that it is there after a reload; a long one isn't. */
+const KEPT_REPORT = "crobots-report";
+const MOST_KEPT_LETTERS = 1000000;
+
+function keepReport(battle, text) {
+    try {
+        sessionStorage.removeItem(KEPT_REPORT);
+        if (text.length <= MOST_KEPT_LETTERS) {
+            sessionStorage.setItem(KEPT_REPORT, JSON.stringify({battle, text}));
+        }
+    } catch {
+        // it is played again then
+    }
+}
+
+/** The last report of the tab, and its battle; null if there is none. */
+function keptReport() {
+    try {
+        const {battle, text} = JSON.parse(sessionStorage.getItem(KEPT_REPORT));
+        const read = checked(battle);
+        return read && typeof text === "string" ? {battle: copyOf(read), text} : null;
+    } catch {
+        return null;
+    }
 }
 
 /** Calls back when a form is sent, which goes nowhere. */
@@ -34,16 +60,25 @@ function onSubmit(id, call) {
 }
 
 export class Playing {
-    /** `runner` calls the engine; `changed` is called after each change of the settings. */
-    constructor(runner, changed) {
-        Object.assign(this, {runner, changed});
-        this.screen = new Screen(byId("film"), byId("controls"));
+    /**
+     * `runner` calls the engine; `reprofiled` is called after a change of the language's profile.
+     * @param {import("./store.js").Store} store
+     * @param {import("./calling.js").Caller} runner
+     * @param {import("./places.js").Places} places
+     */
+    constructor(store, runner, places, reprofiled) {
+        this.store = store;
+        this.runner = runner;
+        this.places = places;
+        this.reprofiled = reprofiled;
+        this.screen = new Screen(byId("film"), byId("controls"), places);
         this.watcher = new Watcher(runner, this.screen, (text, isFault) => tell("told", text, isFault));
         this.inside = new Inside(this.screen, runner, this);
         this.report = new Report(byId("report"), number => this.watch(new Wish(this.reported, number, 0)));
         byId("settings").addEventListener("input", event => this.takeSettings(event.target.id));
         onSubmit("settings", () => this.run());
         onSubmit("watching", () => this.watchAsked());
+        byId("run").addEventListener("click", () => this.run());
         byId("stop").addEventListener("click", () => runner.stop());
         byId("from").addEventListener("change", event => this.screen.jumpTo(Number(event.target.value)));
         document.addEventListener("keydown", event => {
@@ -52,30 +87,64 @@ export class Playing {
                 this.run();
             }
         });
+        store.onChange(() => this.follow());
     }
 
-    /** Shows the settings of a battle. */
-    show(battle) {
-        this.battle = battle;
-        for (const [id, value] of Object.entries(battle.settings)) {
-            byId(id).value = value;
+    get battle() {
+        return this.store.battle;
+    }
+
+    /** Begins: the engine answers, and the tab's last report is there again. */
+    async begin() {
+        await this.runner.call("ready");
+        const kept = keptReport();
+        if (kept) {
+            this.showReport(kept.battle, kept.text);
         }
-        byId("watched").value = battle.settings.first;
+    }
+
+    /** The focus goes to the film, or to where one asks for it. */
+    focus() {
+        if (this.screen.player) {
+            this.screen.focus();
+        } else {
+            byId("watched").focus();
+        }
+    }
+
+    /** Shows the settings of another battle than before. */
+    follow() {
+        if (this.store.current !== this.current) {
+            this.current = this.store.current;
+            for (const [id, value] of Object.entries(this.battle.settings)) {
+                byId(id).value = value;
+            }
+            byId("watched").value = this.battle.settings.first;
+        }
         this.judgeAges();
     }
 
     takeSettings(id) {
         const numbers = NUMBERS.map(name => [name, Number(byId(name).value)]);
-        this.battle.settings = {...Object.fromEntries(numbers), seed: byId("seed").value};
         if (id === "first") {
             byId("watched").value = byId("first").value;
         }
-        this.changed(id);
+        this.store.set({...Object.fromEntries(numbers), seed: byId("seed").value});
+        if (id === "profile") {
+            this.reprofiled();
+        }
     }
 
     /** Whether the settings, and what else is asked for, can be run; says what is wrong if they can't. */
     isReady(place, ...forms) {
-        if (this.isRunning || !forms.every(id => byId(id).reportValidity())) {
+        if (this.isRunning) {
+            return false;
+        }
+        const wrong = forms.find(id => !byId(id).checkValidity());
+        if (wrong) {
+            // what is wrong is to be seen
+            this.places.go(wrong === "settings" ? "fight" : "watch");
+            byId(wrong).reportValidity();
             return false;
         }
         const isFit = isSeed(byId("seed").value);
@@ -88,7 +157,7 @@ export class Playing {
     busy(isRunning) {
         this.isRunning = isRunning;
         if (isRunning) {
-            this.focused = document.activeElement;
+            this.focused = /** @type {HTMLElement} */ (document.activeElement);
         }
         byId("run").disabled = isRunning;
         byId("watch").disabled = isRunning;
@@ -105,7 +174,10 @@ export class Playing {
             return;
         }
         this.busy(true);
-        const battle = copyOf(this.battle);
+        if (this.places.shown === "write") {
+            this.places.go("fight");
+        }
+        const battle = this.store.run();
         tell("said", "The battle runs.");
         const begun = performance.now();
         const call = settings => this.runner.call("run", settings, battle.robots);
@@ -113,7 +185,9 @@ export class Playing {
         const end = await series.play();
         byId("going").hidden = true;
         this.busy(false);
-        this.showReport(battle, series.text + (end.ending === null ? "" : end.faults));
+        const text = series.text + (end.ending === null ? "" : end.faults);
+        this.showReport(battle, text);
+        keepReport(battle, text);
         tell("said", ended(series, end, performance.now() - begun), end.ending !== Ending.DONE);
     }
 
@@ -126,6 +200,8 @@ export class Playing {
     showReport(battle, text) {
         this.reported = battle;
         this.report.show(text);
+        byId("totals").textContent = battle.settings.matches > 1 ? totalsOf(text) : "";
+        byId("totals").hidden = !byId("totals").textContent;
         this.judgeAges();
     }
 
@@ -136,9 +212,21 @@ export class Playing {
         byId("film-age").hidden = !isOld(this.filmed, RULES);
     }
 
+    /** Plays the match of a moment from some cycles before it on; none if there is none. Who wants no motion sees it stand. */
+    async watchMoment(moment) {
+        if (moment) {
+            const {number, cycle} = moment;
+            await this.watch(new Wish(copyOf(this.battle), number, Math.max(0, cycle - CYCLES_BEFORE)));
+            const {player} = this.screen;
+            if (player && !player.isPlaying && !matchMedia("(prefers-reduced-motion: reduce)").matches) {
+                player.toggle();
+            }
+        }
+    }
+
     watchAsked() {
         if (this.isReady("told", "settings", "watching")) {
-            this.watch(new Wish(copyOf(this.battle), Number(byId("watched").value), Number(byId("from").value)));
+            this.watch(new Wish(this.store.run(), Number(byId("watched").value), Number(byId("from").value)));
         }
     }
 
@@ -148,6 +236,7 @@ export class Playing {
             return;
         }
         this.busy(true);
+        this.places.go("watch");
         byId("watched").value = wish.number;
         tell("told", "The match is being played.");
         this.inside.watch();

@@ -1,17 +1,37 @@
 // Shows a film by the page that plays matches, in a frame.
 
-// how high the film is at least, however low the window
-const LEAST_HEIGHT = 320;
+// how high the film is at least, however low the window; what part of it a film has beside a robot from inside, and at least
+const LEAST_HEIGHT = 200;
+const BESIDE = 0.45;
+const LEAST_PART = 0.5;
+const BELOW = 12;
+const LOW = 400;
+const LEAST_WIDTH_OF_LOW = 520;
+// a frame that doesn't load in this time is made anew, and at last given up
+const MILLISECONDS_TO_LOAD = 4000;
+const TRIES = 3;
+const LOOK_EVERY = 20;
+const LOST = "The film's page doesn't load in this browser. Press Watch once more, or load the page anew.";
 
 /** Returns the names of robots as in a sentence. */
 function listed(names) {
     return [names.slice(0, -1).join(", "), names.at(-1)].filter(it => it).join(" and ");
 }
 
-/** The frame in which a film is shown, as high as what it shows; that fits into the window, below the controls of the page. */
+const later = milliseconds => new Promise(done => setTimeout(done, milliseconds));
+
+/** The frame in which a film is shown, as high as what it shows; that fits into the window, beside what stands above it. */
 export class Screen {
-    constructor(frame, controls) {
-        Object.assign(this, {frame, controls});
+    constructor(frame, controls, places) {
+        this.frame = frame;
+        this.controls = controls;
+        this.places = places;
+        this.isBeside = false;
+        /**
+         * Is called when a film is shown.
+         * @type {(() => void) | null}
+         */
+        this.onShow = null;
         window.addEventListener("resize", () => this.fit());
     }
 
@@ -21,42 +41,77 @@ export class Screen {
 
     /** What plays the film that is shown, if one is. */
     get player() {
-        return this.frame.hidden ? undefined : this.frame.contentWindow.player;
+        return this.frame.hidden ? undefined : this.frame.contentWindow?.player;
+    }
+
+    /** Loads the page that plays, into a frame of its own: one that is in use may be about to load something else. */
+    async load() {
+        for (let tries = 0; tries < TRIES; tries += 1) {
+            const frame = /** @type {HTMLIFrameElement} */ (this.frame.cloneNode());
+            frame.srcdoc = globalThis.CROBOTS.player;
+            frame.hidden = false;
+            this.frame.replaceWith(frame);
+            this.frame = frame;
+            for (const begun = performance.now(); performance.now() - begun < MILLISECONDS_TO_LOAD;) {
+                if (frame.contentWindow?.showFilm && frame.contentDocument.readyState === "complete") {
+                    return;
+                }
+                await later(LOOK_EVERY);
+            }
+        }
+        throw new Error(LOST);
     }
 
     /** Shows a film of the match with this number, from a place on. */
     async show(film, number, place) {
-        await new Promise(done => {
-            this.frame.onload = done;
-            this.frame.srcdoc = globalThis.CROBOTS.player;
-            this.frame.hidden = false;
-        });
+        await this.load();
         this.frame.contentWindow.showFilm(film, `Match ${number}: ${listed(film.robots.map(({name}) => name))}`, place);
         this.onShow?.();
         this.fit();
         new this.frame.contentWindow.ResizeObserver(() => this.resize()).observe(this.inside.body);
     }
 
+    /** What the film's height may be: it fits into the window with what stands above it. */
+    get room() {
+        const {innerHeight, scrollY} = window;
+        if (this.isBeside && !this.places.isWide) {
+            return Math.max(LEAST_HEIGHT, innerHeight * (matchMedia("(orientation: landscape)").matches ? 1 - LEAST_PART / 4 : BESIDE));
+        }
+        const above = this.frame.getBoundingClientRect().top + scrollY + BELOW;
+        return Math.max(LEAST_HEIGHT, innerHeight * LEAST_PART, innerHeight - above);
+    }
+
     /** Hands the window's height in: the frame's own is that of what it shows. */
     fit() {
-        if (this.player) {
-            const {style} = this.inside.documentElement;
+        if (this.player && this.frame.offsetWidth) {
+            const {style, classList} = this.inside.documentElement;
+            const {room} = this;
             // no scroll bar comes and goes, which would change the width and so the height
             style.overflow = "hidden";
-            style.setProperty("--height", `${Math.max(LEAST_HEIGHT, window.innerHeight - this.controls.offsetHeight - 24)}px`);
+            style.setProperty("--height", `${room}px`);
+            classList.toggle("low", room < LOW && this.frame.offsetWidth >= LEAST_WIDTH_OF_LOW);
+            classList.toggle("mini", this.isBeside);
             this.resize();
         }
     }
 
     resize() {
-        this.frame.style.height = `${this.inside.documentElement.offsetHeight + 2}px`;
+        if (this.inside) {
+            this.frame.style.height = `${this.inside.documentElement.offsetHeight + 2}px`;
+        }
     }
 
     /** Scrolls to the film, and lets its keys work. */
     focus() {
-        this.controls.scrollIntoView({block: "start"});
+        this.frame.parentElement.scrollIntoView({block: "start"});
         this.frame.focus();
         this.inside.getElementById("play-pause").focus({preventScroll: true});
+    }
+
+    /** A robot from inside stands beside the film, or no more. */
+    beside(isBeside) {
+        this.isBeside = isBeside;
+        this.fit();
     }
 
     /** Goes to a cycle of the match that is shown. */

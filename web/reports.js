@@ -1,8 +1,22 @@
 // The report of a battle: its text, in which the head of each match is a button that leads to its film.
 
+import {Limits} from "./limits.js";
+
 const HEAD = /^Match (\d+): cycles = \d+$/gm;
 // of a very long report the first matches are buttons
 const MOST_BUTTONS = 5000;
+
+/** Returns the totals at the end of a report, "" if it has none. */
+export function totalsOf(text) {
+    const at = text.lastIndexOf("\nTotals: ");
+    return at < 0 ? "" : text.slice(at + 1);
+}
+
+/** Says how many matches can be pressed, and how the others are watched. */
+function leftOut(count, left) {
+    return count < MOST_BUTTONS ? `Matches after number ${Limits.first.toLocaleString("en")} can't be watched.`
+        : `The first ${count.toLocaleString("en")} matches can be pressed. Watch one of the other ${left.toLocaleString("en")} by its number.`;
+}
 
 /** The report, whose matches are watched by a click, or by the arrow keys and Enter. */
 export class Report {
@@ -23,7 +37,7 @@ export class Report {
         const parts = [];
         let end = 0;
         for (const found of text.matchAll(HEAD)) {
-            if (parts.length >= 2 * MOST_BUTTONS) {
+            if (parts.length >= 2 * MOST_BUTTONS || Number(found[1]) > Limits.first) {
                 break;
             }
             parts.push(text.slice(end, found.index), this.head(found[0], found[1]));
@@ -31,9 +45,18 @@ export class Report {
         }
         this.box.replaceChildren(...parts.filter(it => it !== ""), text.slice(end));
         this.heads = parts.filter(it => typeof it !== "string");
+        this.tellLeft(text.slice(end));
         if (this.heads.length) {
             this.heads[0].tabIndex = 0;
         }
+    }
+
+    /** Says how many matches of the text's rest are no buttons. */
+    tellLeft(rest) {
+        const left = rest.match(HEAD)?.length ?? 0;
+        const line = document.getElementById("report-left");
+        line.hidden = left === 0;
+        line.textContent = left ? leftOut(this.heads.length, left) : "";
     }
 
     head(text, match) {

@@ -1,8 +1,9 @@
 // A series of matches: a long one is played in pieces, so that one sees how far it is.
 //
 // The report of a match is the same in each series that has it. So the reports of pieces, one after another, are those of
-// the whole series, and its totals are the sums of theirs.
-import {Ending} from "./limits.js";
+// the whole series, and its totals are the sums of theirs. No piece may begin after the greatest first match: those behind it
+// are the end of a piece that begins there, whose other matches were played before.
+import {Ending, Limits} from "./limits.js";
 import {STOPPED} from "./calling.js";
 
 // a series of at most this number of matches is one piece, and its report is the engine's as it stands
@@ -20,13 +21,13 @@ class Totals {
         this.rows = [];
     }
 
-    /** Adds those of a piece with this number of matches. */
-    add(matches, text) {
-        this.matches += matches;
+    /** Adds those of a piece with this number of matches; or takes them away, as those of matches that count already. */
+    add(matches, text, sign = 1) {
+        this.matches += sign * matches;
         text.trimEnd().split("\n").slice(1).forEach((line, at) => {
             const [, number, won, tied, lost, name] = TOTAL.exec(line);
             const row = this.rows[at] ??= {number, counts: [0, 0, 0], name};
-            [won, tied, lost].forEach((count, kind) => { row.counts[kind] += Number(count); });
+            [won, tied, lost].forEach((count, kind) => { row.counts[kind] += sign * Number(count); });
         });
     }
 
@@ -40,7 +41,13 @@ class Totals {
 export class Series {
     /** `call` asks the engine to run a number of matches from a number on; `onPiece` is called after each piece. */
     constructor(settings, call, onPiece) {
-        Object.assign(this, {settings, call, onPiece, totals: new Totals(), reports: [], letters: 0, leftOut: 0});
+        this.settings = settings;
+        this.call = call;
+        this.onPiece = onPiece;
+        this.totals = new Totals();
+        this.reports = [];
+        this.letters = 0;
+        this.leftOut = 0;
         this.size = settings.matches <= ONE_PIECE ? settings.matches : 1;
     }
 
@@ -57,30 +64,45 @@ export class Series {
         return [...this.reports, ...more, this.totals].join("");
     }
 
+    /** The number of the next match. */
+    get next() {
+        return this.settings.first + this.played;
+    }
+
+    /** How many matches are played at once: a piece that isn't the last one ends before the greatest first match, or begins there. */
+    get wanted() {
+        const left = this.settings.matches - this.played;
+        const room = Limits.first - this.next;
+        return this.size >= left ? left : room > 0 ? Math.min(this.size, room) : this.size;
+    }
+
     /** Plays it all. Returns how it ended: as a run, or that it was stopped or failed, with the faults or the reason. */
     async play() {
         for (;;) {
             const begun = performance.now();
-            const matches = Math.min(this.size, this.settings.matches - this.played);
-            const {ending, text, faults} = await this.piece(matches);
+            const matches = this.wanted;
+            const again = Math.max(0, this.next - Limits.first);
+            const {ending, text, faults} = await this.piece(again + matches, this.next - again);
             const isTooLong = ending === Ending.FULL && matches > 1;
             if (ending !== Ending.DONE && !isTooLong) {
                 return {ending, faults};
             }
             if (!isTooLong) {
-                this.take(matches, text);
+                this.take(matches, again, text);
                 if (this.played === this.settings.matches) {
                     return {ending, faults};
                 }
                 this.onPiece(this.played);
             }
-            this.size = isTooLong ? Math.ceil(matches / 2) : this.fitting(matches, performance.now() - begun);
+            const fitting = this.fitting(matches, performance.now() - begun);
+            // of matches that are played again there are at most as many as of others
+            this.size = isTooLong ? Math.ceil(matches / 2) : Math.max(this.next - Limits.first, fitting);
         }
     }
 
-    async piece(matches) {
+    async piece(matches, first) {
         try {
-            return await this.call({...this.settings, matches, first: this.settings.first + this.played});
+            return await this.call({...this.settings, matches, first});
         } catch (fault) {
             return {ending: null, text: "", faults: fault.message};
         }
@@ -92,25 +114,41 @@ export class Series {
         return Math.max(1, Math.min(wanted, 4 * matches, MOST_OF_A_PIECE));
     }
 
-    take(matches, text) {
+    /** Takes the report of a piece, whose first matches may count already. */
+    take(matches, again, text) {
+        const {next} = this;
         this.whole = matches === this.settings.matches ? text : undefined;
-        // a name has no line break, so this is no part of one
+        // a name has no line break, so these are no parts of one
         const at = text.lastIndexOf("\nTotals: ") + 1;
-        this.totals.add(matches, text.slice(at));
-        if (this.letters + at > MOST_LETTERS) {
+        const from = again ? text.indexOf(`\nMatch ${next}: `) + 1 : 0;
+        if (again) {
+            this.totals.add(again, this.tail, -1);
+        }
+        this.tail = text.slice(at);
+        this.totals.add(again + matches, this.tail);
+        if (this.letters + at - from > MOST_LETTERS) {
             this.leftOut += matches;
         } else {
-            this.reports.push(text.slice(0, at));
-            this.letters += at;
+            this.reports.push(text.slice(from, at));
+            this.letters += at - from;
         }
     }
+}
+
+/** Returns in words who won. */
+function won({totals: {matches, rows}}) {
+    if (matches > 1) {
+        return `Won: ${rows.map(({name, counts}) => `${name} ${counts[0].toLocaleString("en")}`).join(", ")}.`;
+    }
+    const winner = rows.find(({counts}) => counts[0] > 0);
+    return winner ? `${winner.name} won.` : "Nobody won.";
 }
 
 /** Returns in words how a series ended. */
 export function ended(series, {ending, faults}, milliseconds) {
     switch (ending) {
     case Ending.DONE:
-        return `Done in ${(milliseconds / 1000).toFixed(2)} seconds.`;
+        return `Done in ${(milliseconds / 1000).toFixed(2)} seconds. ${won(series)}`;
     case Ending.FAULTY:
         return "No match was played: a robot has a fault.";
     case Ending.REFUSED:

@@ -1,170 +1,350 @@
-// The battles that the browser keeps: each is an entry of its own in the storage, and the last twenty stay.
+// Where the browser keeps versions and drafts: IndexedDB has room for the versions, and localStorage keeps a draft at once. Each takes
+// what the other one refuses.
 import {checked} from "./battles.js";
+import {bytesOf, versionOf} from "./versions.js";
 
-const PREFIX = "crobots-battle-";
-const MOST_KEPT = 20;
-// where an earlier page kept its only battle
+/**
+ * @typedef {import("./versions.js").Version} Version
+ * @typedef {{line: string, time: number, isLinked: boolean, isTouched: boolean, battle: import("./battles.js").Battle}} Draft
+ * @typedef {{read(): any, put(key: string, record: any): any, remove(key: string, time?: number): any}} Shelf
+ */
+
+const MINE = "crobots-";
+const VERSION = "crobots-version-";
+const DRAFT = "crobots-draft-";
+// where earlier pages kept each battle, and before that their only one
+const FORMER_BATTLE = "crobots-battle-";
 const FORMER = "crobots";
+const PROBE = "crobots-probe";
+// a browser that doesn't open its database in this time has none
+const MILLISECONDS_TO_OPEN = 1500;
+const TABLE = "records";
 
-let count = 0;
+/** A storage of texts: what is put there is kept when the call returns, and it throws what it doesn't take. */
+export class LocalShelf {
+    /** @param {Storage | null} storage */
+    constructor(storage) {
+        this.storage = storage;
+    }
 
-/** Returns a word that no other change of any tab has. */
-function newStamp() {
-    count += 1;
-    return `${Date.now()}-${count}-${Math.random().toString(36).slice(2)}`;
+    /** All records, each [key, record]; what can't be read is none. */
+    read() {
+        const {storage} = this;
+        const keys = Array.from({length: storage.length}, (_, at) => storage.key(at)).filter(it => it.startsWith(MINE) || it === FORMER);
+        return keys.map(key => [key, recordOf(key, storage.getItem(key))]).filter(([, record]) => record);
+    }
+
+    put(key, record) {
+        if (!this.storage) {
+            throw new Error("no storage");
+        }
+        this.storage.setItem(key, JSON.stringify(record));
+    }
+
+    /** Removes a record, or only that of a time. */
+    remove(key, time) {
+        if (time === undefined || recordOf(key, this.storage.getItem(key) ?? "")?.time === time) {
+            this.storage.removeItem(key);
+        }
+    }
 }
 
-/** Returns the browser's storage, or null if it has none for this page. */
-function storage() {
+/** What stands in the storage by a key. What earlier pages kept is a draft. */
+function recordOf(key, text) {
     try {
-        return window.localStorage;
+        if (key === FORMER) {
+            return {line: key, time: 0, isLinked: false, battle: JSON.parse(text)};
+        }
+        if (key.startsWith(FORMER_BATTLE)) {
+            const end = text.indexOf("\n");
+            const {battle, isLinked} = JSON.parse(text.slice(end + 1));
+            return {line: key, time: parseInt(text, 10) || 0, isLinked, battle};
+        }
+        return JSON.parse(text);
     } catch {
         return null;
     }
 }
 
-/** The entries of the storage. Each has a stamp, which changes with it, a line break, and a battle in JSON. */
-class Shelf {
-    constructor(place) {
-        this.place = place;
+/** A database of the browser: it answers when something is kept, or fails. */
+export class DatabaseShelf {
+    /** Opens the database; answers null if the browser has none for this page. */
+    static open(databases, name = "crobots") {
+        const opened = new Promise((done, fail) => {
+            const asked = databases.open(name, 1);
+            asked.onupgradeneeded = () => asked.result.createObjectStore(TABLE);
+            asked.onsuccess = () => done(new DatabaseShelf(asked.result));
+            asked.onerror = asked.onblocked = () => fail(asked.error);
+        });
+        const late = new Promise(done => setTimeout(done, MILLISECONDS_TO_OPEN, null));
+        return Promise.race([opened, late]).catch(() => null);
     }
 
-    /** The keys of all entries, the last changed first. */
-    keys() {
-        const keys = Array.from({length: this.place?.length ?? 0}, (_, at) => this.place.key(at)).filter(it => it.startsWith(PREFIX));
-        const changed = new Map(keys.map(key => [key, parseInt(this.stampOf(key), 10) || 0]));
-        return keys.sort((a, b) => changed.get(b) - changed.get(a));
+    constructor(database) {
+        this.database = database;
     }
 
-    stampOf(key) {
-        const text = this.place?.getItem(key);
-        return text ? text.slice(0, text.indexOf("\n")) : null;
+    /** Does something in a transaction of its own; answers what it asked for once that is written. */
+    within(mode, act) {
+        return new Promise((done, fail) => {
+            const transaction = this.database.transaction(TABLE, mode);
+            const asked = act(transaction.objectStore(TABLE));
+            transaction.oncomplete = () => done(asked.map(it => it.result));
+            transaction.onerror = transaction.onabort = () => fail(transaction.error ?? new Error("aborted"));
+        });
     }
 
-    /** Reads an entry: its key, its stamp, its battle, and whether that began with a link; null if there is none. */
-    read(key) {
-        const text = this.place?.getItem(key) ?? "";
-        const end = text.indexOf("\n");
-        try {
-            const {battle, isLinked} = JSON.parse(text.slice(end + 1));
-            const found = checked(battle);
-            return found && {key, stamp: text.slice(0, end), battle: found, isLinked: isLinked === true};
-        } catch {
-            return null;
-        }
+    async read() {
+        const [keys, records] = await this.within("readonly", table => [table.getAllKeys(), table.getAll()]);
+        return keys.map((key, at) => [key, records[at]]);
     }
 
-    /** Writes an entry; throws if the storage doesn't take it. */
-    write({key, stamp, battle, isLinked}) {
-        if (!this.place) {
-            throw new Error("no storage");
-        }
-        this.place.setItem(key, `${stamp}\n${JSON.stringify({battle, isLinked})}`);
+    put(key, record) {
+        return this.within("readwrite", table => [table.put(record, key)]);
     }
 
-    /** Removes all but the last entries. */
-    tidy() {
-        for (const key of this.keys().slice(MOST_KEPT)) {
-            this.place.removeItem(key);
-        }
-    }
-
-    /** Makes an entry of what an earlier page kept. */
-    takeFormer() {
-        const text = this.place?.getItem(FORMER);
-        if (text) {
-            const battle = JSON.parse(text);
-            this.write({key: PREFIX + newStamp(), stamp: newStamp(), battle, isLinked: false});
-            this.place.removeItem(FORMER);
-        }
+    /** Removes a record, or only that of a time. */
+    remove(key, time) {
+        return this.within("readwrite", table => {
+            const asked = table.get(key);
+            asked.onsuccess = () => {
+                if (time === undefined || asked.result?.time === time) {
+                    table.delete(key);
+                }
+            };
+            return [asked];
+        });
     }
 }
 
-/** How keeping a battle went. */
-export const Kept = Object.freeze({WELL: "well", APART: "apart", NOT: "not"});
-
-/** Keeps the battle that is edited in its entry. */
+/** Keeps versions and drafts, one after another, and knows what isn't kept yet. */
 export class Keeper {
-    constructor() {
-        this.shelf = new Shelf(storage());
-        this.begin();
+    /** @param {{local: Shelf | null, database: Shelf | null, tab: string}} shelves `tab` is a word that no other tab has */
+    constructor({local, database, tab}) {
+        this.local = local;
+        this.database = database;
+        this.tab = tab;
+        /**
+         * What is to be kept and isn't yet, by its place; what fails stays here.
+         * @type {Map<string, any>}
+         */
+        this.pending = new Map();
+        /** @type {Set<string>} */
+        this.failed = new Set();
+        this.queue = Promise.resolve();
+        this.isRefused = false;
+        /**
+         * Drops a version, but not this one, if that helps to make so much room; returns it, or null.
+         * @type {(id: string, needed: number) => Version | null}
+         */
+        this.makeRoom = () => null;
+        this.onChange = () => {};
+    }
+
+    get shelves() {
+        return [this.database, this.local].filter(it => it);
+    }
+
+    /** Whether something isn't kept. */
+    get isUnkept() {
+        return this.pending.size > 0;
+    }
+
+    /** Whether something can't be kept. */
+    get isFull() {
+        return this.isRefused || this.failed.size > 0;
+    }
+
+    /** Reads all that is kept: versions, and drafts with their places. */
+    async load() {
+        const found = new Map();
+        let taking = 0;
+        for (const name of ["local", "database"]) {
+            taking += await this.probe(name) ? 1 : 0;
+            for (const [key, record] of await this.readAll(name)) {
+                if (!(found.get(key)?.time > record.time)) {
+                    found.set(key, record);
+                }
+            }
+        }
+        this.isRefused = taking === 0;
+        return sorted(found);
+    }
+
+    /** Whether a shelf takes something. */
+    async probe(name) {
         try {
-            this.shelf.takeFormer();
+            await this[name].put(PROBE, {});
+            await this[name].remove(PROBE);
+            return true;
         } catch {
-            // it stays where it is
+            return false;
         }
     }
 
-    /** Begins with a battle that has no entry yet; its first change makes one. */
-    begin(isLinked = false) {
-        Object.assign(this, {key: PREFIX + newStamp(), stamp: null, isLinked});
-    }
-
-    /** The entry that is edited, without its battle. */
-    get place() {
-        const {key, stamp, isLinked} = this;
-        return {key, stamp, isLinked};
-    }
-
-    /** Goes on with the battle of an entry. */
-    goOn({key, stamp, isLinked}) {
-        Object.assign(this, {key, stamp, isLinked});
-    }
-
-    /**
-     * Keeps a battle. If another tab changed the entry since this one read it, the battle gets an entry of its own, so that
-     * neither is lost.
-     */
-    keep(battle) {
-        const found = this.stampNow();
-        const isApart = found !== null && found !== this.stamp;
-        if (isApart) {
-            this.key = PREFIX + newStamp();
-        }
-        this.stamp = newStamp();
+    /** What stands in a shelf; one that can't be read is used no more. */
+    async readAll(name) {
         try {
-            this.shelf.write({key: this.key, stamp: this.stamp, battle, isLinked: this.isLinked});
-            this.shelf.tidy();
+            return await this[name].read();
         } catch {
-            return Kept.NOT;
-        }
-        return isApart ? Kept.APART : Kept.WELL;
-    }
-
-    stampNow() {
-        try {
-            return this.shelf.stampOf(this.key);
-        } catch {
-            return null;
-        }
-    }
-
-    /** The entries, the last changed first. */
-    get entries() {
-        try {
-            return this.shelf.keys().map(key => this.shelf.read(key)).filter(it => it);
-        } catch {
+            this[name] = null;
             return [];
         }
     }
 
-    /** The entry to come back to: the last changed of one's own battles, or else of all; not the one that is edited. */
-    get last() {
-        const others = this.entries.filter(({key}) => key !== this.key);
-        return others.find(({isLinked}) => !isLinked) ?? others[0] ?? null;
+    /** Keeps a version. The draft that it was is needed no more then, unless that was changed since. */
+    put(version, draft = null) {
+        this.enqueue(VERSION + version.id, version, () => draft && this.undraft(draft, version.id));
     }
 
-    /** Calls back when another tab changes the entry that is edited here. */
-    onOther(call) {
-        window.addEventListener("storage", ({key, newValue}) => {
-            if (key === this.key && newValue && !newValue.startsWith(`${this.stamp}\n`)) {
-                call();
+    /** Removes a version. */
+    remove(id) {
+        const key = VERSION + id;
+        this.forget(key);
+        this.queue = this.queue.then(() => this.erase(key)).then(() => this.retry());
+    }
+
+    /** Keeps a draft, at once if it can be; returns its place and time. */
+    draft(draft) {
+        const place = `${DRAFT}${draft.line}-${this.tab}`;
+        try {
+            this.local.put(place, draft);
+            this.forget(place);
+            this.isRefused = false;
+            this.onChange();
+        } catch {
+            this.enqueue(place, JSON.parse(JSON.stringify(draft)));
+        }
+        return {place, time: draft.time};
+    }
+
+    /** A draft is needed no more once this version is kept, unless there is a newer one at its place. */
+    undraft({place, time}, id) {
+        this.queue = this.queue.then(async () => {
+            if (!this.pending.has(VERSION + id)) {
+                if (this.pending.get(place)?.time === time) {
+                    this.forget(place);
+                }
+                await this.erase(place, time);
             }
         });
     }
 
-    /** The entry that is edited, as it now is in the storage. */
-    get present() {
-        return this.shelf.read(this.key);
+    forget(key) {
+        this.pending.delete(key);
+        this.failed.delete(key);
     }
+
+    /** Writes a record after all before it. */
+    enqueue(key, record, then = () => {}) {
+        this.pending.set(key, record);
+        this.queue = this.queue.then(() => this.retry()).then(async () => {
+            if (this.pending.get(key) !== record) {
+                return;
+            }
+            if (await this.write(key, record)) {
+                this.isRefused = false;
+                if (this.pending.get(key) === record) {
+                    this.forget(key);
+                }
+                then();
+            } else {
+                this.failed.add(key);
+            }
+            this.onChange();
+        });
+    }
+
+    /** Tries once more to write what failed. */
+    async retry() {
+        for (const key of [...this.failed]) {
+            const record = this.pending.get(key);
+            if (record && await this.write(key, record) && this.pending.get(key) === record) {
+                this.forget(key);
+                this.onChange();
+            }
+        }
+    }
+
+    /** Writes a record where there is room; makes some, but not much more than it takes. Answers whether it is written. */
+    async write(key, record) {
+        const needed = bytesOf({label: "", ...record});
+        for (let freed = 0; ;) {
+            const fault = await this.writeAnywhere(key, record);
+            const gone = isQuota(fault) && freed < 2 * needed ? this.makeRoom(record.id, needed - freed) : null;
+            if (!gone) {
+                return fault === null;
+            }
+            freed += bytesOf(gone);
+            await this.erase(VERSION + gone.id);
+        }
+    }
+
+    /**
+     * Writes a record into the first shelf that takes it, unless there is a newer one meanwhile. Answers null, or what it isn't
+     * written for: want of room, if that is one cause.
+     */
+    async writeAnywhere(key, record) {
+        let why = new Error("no storage");
+        for (const shelf of this.shelves) {
+            if (this.pending.get(key) !== record) {
+                return null;
+            }
+            try {
+                await shelf.put(key, record);
+                return null;
+            } catch (fault) {
+                why = isQuota(why) ? why : fault;
+            }
+        }
+        return why;
+    }
+
+    /** Removes what stands at a place, or only that of a time. */
+    async erase(key, time) {
+        for (const shelf of this.shelves) {
+            try {
+                await shelf.remove(key, time);
+            } catch {
+                // it stays
+            }
+        }
+    }
+
+    /** Waits until all is written that can be. */
+    async idle() {
+        for (let seen = null; seen !== this.queue;) {
+            seen = this.queue;
+            await seen;
+        }
+    }
+
+    /** Calls back when another tab changes a battle of this line. */
+    onOther(events, call) {
+        events.addEventListener("storage", ({key, newValue}) => {
+            if (key?.startsWith(DRAFT) && newValue && !key.endsWith(`-${this.tab}`)) {
+                call(JSON.parse(newValue).line);
+            }
+        });
+    }
+}
+
+/** Whether a shelf refused something for want of room: Firefox has a name of its own for it. */
+function isQuota(fault) {
+    return fault?.name === "QuotaExceededError" || fault?.name === "NS_ERROR_DOM_QUOTA_REACHED";
+}
+
+/** Returns records by their kinds. */
+function sorted(found) {
+    const versions = [], drafts = [];
+    for (const [key, record] of found) {
+        const isVersion = key.startsWith(VERSION);
+        const version = versionOf(isVersion ? record : {...record, id: key});
+        if (version && isVersion) {
+            versions.push(version);
+        } else if (version) {
+            drafts.push({place: key, version});
+        }
+    }
+    return {versions, drafts};
 }

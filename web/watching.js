@@ -10,7 +10,10 @@ const SHOW_AFTER = 300;
 /** What is to be watched: the match with this number of a battle, from a cycle on. */
 export class Wish {
     constructor({robots, settings}, number, cycle) {
-        Object.assign(this, {robots, settings, number, cycle});
+        this.robots = robots;
+        this.settings = settings;
+        this.number = number;
+        this.cycle = cycle;
         this.from = Math.floor(cycle / UPDATE_CYCLES);
     }
 }
@@ -18,7 +21,9 @@ export class Wish {
 export class Watcher {
     /** `runner` calls the engine, `screen` shows films, `say` shows how it goes. */
     constructor(runner, screen, say) {
-        Object.assign(this, {runner, screen, say});
+        this.runner = runner;
+        this.screen = screen;
+        this.say = say;
     }
 
     async ask(wish, call, more) {
@@ -34,6 +39,15 @@ export class Watcher {
      * stay if all that the page can keep of the match ends before them. Returns whether a film is shown.
      */
     async watch(wish) {
+        try {
+            return await this.show(wish);
+        } catch (fault) {
+            this.say(fault.message, true);
+            return false;
+        }
+    }
+
+    async show(wish) {
         const windows = await this.ask(wish, "windows", {from: wish.from, windows: FIRST_WINDOWS});
         const isAll = windows.ending === Ending.DONE && wish.from === 0;
         const isPart = windows.ending === Ending.DONE || windows.ending === Ending.GOES_ON;

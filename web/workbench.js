@@ -1,17 +1,14 @@
-// The robots of the battle: a tab for each, its name, its source, its listing and its first fault.
+// The robots of the battle: a tab for each, its name, its source, its listing and its first fault. The store has them.
 import {adviceOf} from "./advice.js";
+import {byId} from "./dom.js";
 import {Limits, Ending} from "./limits.js";
 import {showExplanation, warningsOf} from "./explaining.js";
 import {Listing, linesOf, turnsOf} from "./listings.js";
-import {cleanName, freeName, nameInWork} from "./names.js";
+import {freeName, nameInWork} from "./names.js";
+import {NEW_SOURCE} from "./store.js";
 
 const COMPILE_AFTER = 250;
 const DIAGNOSTIC = /^robot:(\d+): (.*)\n$/;
-
-/** The smallest robot that does something. */
-export const NEW_SOURCE = "main() {\n  while (1) {\n    drive(0, 0);\n  }\n}\n";
-
-const byId = id => document.getElementById(id);
 
 /** Waits for an answer of the engine; what a call failed by stands in place of the faults. */
 async function answered(call) {
@@ -23,139 +20,136 @@ async function answered(call) {
 }
 
 export class Workbench {
-    /** `compiler` calls the engine; `changed` is called after each change of the battle. */
-    constructor(editor, compiler, changed) {
-        Object.assign(this, {editor, compiler, changed, shown: 0, faults: new WeakMap()});
+    /**
+     * `compiler` calls the engine.
+     * @param {import("./store.js").Store} store
+     */
+    constructor(store, editor, compiler) {
+        this.store = store;
+        this.editor = editor;
+        this.compiler = compiler;
+        this.faults = new Map();
         this.listing = new Listing(byId("code"), line => editor.goTo(line));
         editor.onChange(() => this.edited());
         editor.onMove(line => this.listing.mark(line));
-        byId("name").addEventListener("input", event => this.rename(event.target, nameInWork(event.target.value)));
-        byId("name").addEventListener("change", event => this.rename(event.target, cleanName(event.target.value, this.otherName())));
+        byId("name").addEventListener("input", event => this.rename(event.target));
+        byId("name").addEventListener("change", event => { event.target.value = this.robot.name; });
         byId("add").addEventListener("click", () => this.addNew());
         byId("tabs").addEventListener("keydown", event => this.moveTab(event));
+        store.onChange(() => this.follow());
     }
 
     get robot() {
-        return this.battle.robots[this.shown];
+        return this.store.robot;
     }
 
-    get isFull() {
-        return this.battle.robots.length >= Limits.robots;
-    }
-
-    /** Shows a battle, and one of its robots. */
-    show(battle, at = 0) {
-        this.battle = battle;
-        this.showRobot(Math.min(at, battle.robots.length - 1));
-        this.compileOthers();
+    /** Shows what the store has, as far as that isn't shown. */
+    follow() {
+        const {robots, shown, current} = this.store;
+        const tabs = JSON.stringify([robots.map(({key, name}) => [key, name]), shown]);
+        const isOther = current !== this.current;
+        this.current = current;
+        if (isOther) {
+            this.editor.forget(new Set(robots.map(({key}) => key)));
+            this.faults.clear();
+        }
+        if (isOther || tabs !== this.tabs) {
+            this.tabs = tabs;
+            this.showTabs();
+        }
+        this.showRobot();
+        if (isOther || robots.length !== this.count) {
+            this.count = robots.length;
+            this.compileOthers();
+        }
     }
 
     /** Shows a tab for each robot. */
     showTabs() {
-        const tabs = this.battle.robots.map((robot, at) => this.tab(robot, at));
+        const hadFocus = byId("tabs").contains(document.activeElement);
+        const tabs = this.store.robots.map((robot, at) => this.tab(robot, at));
         byId("tabs").replaceChildren(...tabs);
-        byId("add").disabled = this.isFull;
-        byId("add-sample").disabled = this.isFull;
+        byId("add").disabled = byId("add-sample").disabled = this.store.isFull;
         byId("remove").disabled = tabs.length === 1;
+        byId("panel").setAttribute("aria-labelledby", `tab-${this.store.shown}`);
+        if (hadFocus) {
+            byId(`tab-${this.store.shown}`).focus();
+        }
     }
 
-    tab(robot, at) {
-        const tab = Object.assign(document.createElement("button"), {type: "button", textContent: robot.name, id: `tab-${at}`});
-        const isShown = at === this.shown;
-        tab.dataset.number = at + 1;
+    /** @param {import("./battles.js").Robot} robot */
+    tab({key, name}, at) {
+        const tab = Object.assign(document.createElement("button"), {type: "button", textContent: name, id: `tab-${at}`});
+        const isShown = at === this.store.shown;
+        tab.dataset.number = `${at + 1}`;
         tab.tabIndex = isShown ? 0 : -1;
-        tab.classList.toggle("faulty", Boolean(this.faults.get(robot)));
-        Object.entries({role: "tab", "aria-selected": isShown, "aria-controls": "panel"}).forEach(([name, value]) => tab.setAttribute(name, value));
-        tab.addEventListener("click", () => this.showRobot(at));
+        tab.classList.toggle("faulty", Boolean(this.faults.get(key)));
+        Object.entries({role: "tab", "aria-selected": `${isShown}`, "aria-controls": "panel"}).forEach(([word, value]) => tab.setAttribute(word, value));
+        tab.addEventListener("click", () => this.store.show(at));
         return tab;
     }
 
     /** Goes to the tab before or after by the arrow keys. */
     moveTab(event) {
         const step = {ArrowLeft: -1, ArrowRight: 1}[event.key];
-        const count = this.battle.robots.length;
+        const count = this.store.robots.length;
         if (step && event.target.getAttribute("role") === "tab") {
-            this.showRobot((this.shown + step + count) % count);
-            byId(`tab-${this.shown}`).focus();
+            this.store.show((this.store.shown + step + count) % count);
         }
     }
 
-    showRobot(at) {
-        this.shown = at;
-        this.showTabs();
-        byId("panel").setAttribute("aria-labelledby", `tab-${at}`);
-        byId("name").value = this.robot.name;
-        this.editor.show(this.robot);
-        this.compile();
+    /** Shows the robot that is chosen, and compiles it if it is another one, or if another hand than the editor's wrote it. */
+    showRobot() {
+        const {key, name, source} = this.robot;
+        const isOther = key !== this.key || source !== this.source;
+        this.key = key;
+        this.source = source;
+        if (document.activeElement !== byId("name") || isOther) {
+            byId("name").value = name;
+        }
+        if (isOther) {
+            this.editor.show(this.robot);
+            this.compile();
+        }
     }
 
     addNew() {
-        this.add([{name: freeName(this.battle.robots), source: NEW_SOURCE}]);
+        this.store.addRobots([{name: freeName(this.store.robots), source: NEW_SOURCE}]);
         byId("name").focus();
     }
 
-    /** Adds as many of these robots as there is room for, and shows the first of them. Returns how many those are. */
-    add(robots) {
-        const first = this.battle.robots.length;
-        const added = robots.slice(0, Limits.robots - first);
-        if (added.length) {
-            this.battle.robots.push(...added);
-            this.changed();
-            this.showRobot(first);
-            this.compileOthers();
+    /** Gives the robot a name, which is then the same in the tab and in the report: without blanks around it. */
+    rename(field) {
+        const text = nameInWork(field.value);
+        if (field.value !== text) {
+            field.value = text;
         }
-        return added.length;
-    }
-
-    remove() {
-        this.battle.robots.splice(this.shown, 1);
-        this.changed();
-        this.showRobot(Math.max(0, this.shown - 1));
-    }
-
-    /** Puts another robot in place of the one that is shown; the editor can take it back. */
-    replace({name, source}) {
-        this.robot.name = name;
-        this.editor.replace(source);
-        this.changed();
-        this.showRobot(this.shown);
-    }
-
-    otherName() {
-        return freeName(this.battle.robots.filter(it => it !== this.robot));
-    }
-
-    /** Gives the robot a name, which is then the same in the field, in the tab and in the report. */
-    rename(field, name) {
-        if (field.value !== name) {
-            field.value = name;
-        }
-        this.robot.name = name;
-        byId(`tab-${this.shown}`).textContent = name;
-        this.changed();
+        this.store.rename(this.robot.key, text);
     }
 
     edited() {
         const {text} = this.editor;
-        if (text !== this.robot.source) {
-            this.robot.source = text;
-            this.changed();
+        const {key, source} = this.robot;
+        if (text !== source && key === this.key) {
+            this.editor.take(key);
+            this.source = text;
+            this.store.write(key, text);
             clearTimeout(this.timer);
             this.timer = setTimeout(() => this.compile(), COMPILE_AFTER);
         }
     }
 
     ask(call, {source}) {
-        return answered(this.compiler.call(call, {profile: this.battle.settings.profile}, [{name: "robot", source}]));
+        return answered(this.compiler.call(call, {profile: this.store.battle.settings.profile}, [{name: "robot", source}]));
     }
 
     /** Compiles the robot that is edited, and shows its warnings, and its listing or its diagnostic with what explains it. */
     async compile() {
-        const {robot, battle} = this;
-        const {source} = robot;
-        const [listed, places, explained, turns] = await Promise.all(["list", "places", "explain", "turns"].map(call => this.ask(call, robot)));
-        if (robot === this.robot && battle === this.battle && source === robot.source) {
-            const fault = this.take(robot, listed);
+        const {key, source} = this.robot;
+        const {current} = this.store;
+        const [listed, places, explained, turns] = await Promise.all(["list", "places", "explain", "turns"].map(call => this.ask(call, {source})));
+        if (current === this.store.current && key === this.robot.key && source === this.robot.source) {
+            const fault = this.take(key, listed);
             this.editor.mark(fault?.line ?? null, fault ? `${fault.text}. ${adviceOf(fault.text)}` : "");
             this.editor.warn(warningsOf(explained).filter(({line}) => line !== fault?.line));
             this.listing.show(listed.text, linesOf(places.text), turnsOf(turns));
@@ -167,22 +161,28 @@ export class Workbench {
 
     /** Compiles the robots that aren't shown, for the marks of their tabs. */
     async compileOthers() {
-        const {battle} = this;
-        for (const robot of battle.robots.filter(it => it !== this.robot)) {
-            const listed = await this.ask("list", robot);
-            if (battle !== this.battle) {
+        const {current} = this.store;
+        for (const {key, source} of this.store.robots.filter(it => it.key !== this.key)) {
+            const listed = await this.ask("list", {source});
+            if (current !== this.store.current) {
                 return;
             }
-            this.take(robot, listed);
+            this.take(key, listed);
         }
     }
 
+    /** Compiles all robots anew, by another profile. */
+    compileAll() {
+        this.compile();
+        this.compileOthers();
+    }
+
     /** Takes note of a robot's fault, in its tab too. Returns it, or null if there is none. */
-    take(robot, {ending, faults}) {
+    take(key, {ending, faults}) {
         const found = ending === Ending.FAULTY ? DIAGNOSTIC.exec(faults) : null;
         const fault = found && {line: Number(found[1]), text: found[2]};
-        this.faults.set(robot, fault);
-        const at = this.battle.robots.indexOf(robot);
+        this.faults.set(key, fault);
+        const at = this.store.robots.findIndex(it => it.key === key);
         byId(`tab-${at}`)?.classList.toggle("faulty", fault !== null);
         return fault;
     }

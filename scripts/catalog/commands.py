@@ -75,6 +75,7 @@ SCRIPTS = (
     Script("crobots-league", "league", ("tools", "leagues", "tournaments", "sites", "replays"), "crobots"),
     Script("crobots-replay", "replay", ("tools", "replays"), "crobots-trace"),
     Script("crobots-step", "step", ("tools", "stepping"), "crobots-debug"),
+    Script("crobots-tune", "tune", ("tools", "tuning", "tournaments", "leagues", "sites", "replays"), "crobots"),
 )
 COMMANDS: tuple[Command, ...] = (*PROGRAMS, *SCRIPTS)
 # The game by itself, which is installed before the others.

@@ -9,7 +9,7 @@ from catalog.commands import Command, manual_page
 
 # An item of a list, with the text below it: of an option, and of a word that says what is to be done.
 ITEM = re.compile(r"^\.It (Fl .*)\n((?:(?!\.(?:It|El|Pp|Sx|Bd)\b).*\n)*)", re.MULTILINE)
-WORD = re.compile(r"^\.It Cm (\w+)(?: .*)?\n((?:(?!\.(?:It|El|Pp|Sx|Bd)\b).*\n)*)", re.MULTILINE)
+WORD = re.compile(r"^\.It Cm ([\w-]+)(?: .*)?\n((?:(?!\.(?:It|El|Pp|Sx|Bd)\b).*\n)*)", re.MULTILINE)
 # The macros of mdoc that a sentence may have.
 MACROS = ("Fl", "Cm", "Ar", "Xr", "Pq", "Ql", "Ns", "Op")
 

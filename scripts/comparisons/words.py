@@ -38,7 +38,7 @@ def parser(name: str) -> Parser:
 
 def read(name: str, arguments: list[str]) -> argparse.Namespace:
     """What the words ask for; refuses a match that isn't one of the newer version and others."""
-    given = parser(name).parse_intermixed_args(arguments)
+    given = parser(name).read(arguments)
     if len(given.files) == 1:
         raise Fault("there is no robot to play against")
     if given.robot > len(given.files):

@@ -10,12 +10,13 @@ import sqlite3
 import tempfile
 import zipfile
 import zlib
-from typing import Iterable, Iterator
+from typing import Iterable, Iterator, NamedTuple, Sequence
 
 from tools.faults import FAULTY, FILE, Fault, unreadable, unwritable
 
-from . import tables
+from . import older, tables
 from .entries import SOURCE_MAX, hashed
+from .schema import SCHEMA
 from .standings import Standing
 from .store import Store, filled, told
 
@@ -24,20 +25,29 @@ WRONG = (zipfile.BadZipFile, zlib.error, csv.Error, sqlite3.Error, LookupError, 
          NotImplementedError, RuntimeError)
 SOURCES = "sources/"
 TABLE = "table.csv"
+# A table that archives of the version before don't have.
+NEW = "ending"
 # The tables of the database, in an order in which rows name only rows before them.
-KEPT = ("robot", "entry", "season", "member", "seating", "battle", "publication", "standing")
+KEPT = ("robot", "entry", "season", "ruling", "ending", "correction", "member", "worker", "seating", "battle", "removal",
+        "removed", "publication", "standing")
 README = """\
 This is an archive of a league of CROBOTS robots, as it was on {day}.
 
 sources/HASH.r   the robots' sources, each named by the SHA-256 of its bytes
 robot.csv        the robots that ever joined, by their ids
 entry.csv        who joined, got other bytes, or left, on which day; copy numbers robots with the same bytes
-season.csv       the seasons with their rules (JSON), in which program is the SHA-256 of the program's file; the last
-                 one goes on if it has no end
+season.csv       the seasons with the rules with which they began (JSON), in which program is the SHA-256 of the
+                 program's file
+ruling.csv       other rules that a season got later, when there were so many entries
+ending.csv       how seasons ended: with which entry, and how many matches were missing; the last season may go on
+correction.csv   entries that were taken back (other_day is empty) or got another day, and such days of seasons
 member.csv       in which division a robot began a season
+worker.csv       from where matches were taken that weren't played by the league itself
 seating.csv      robots in the order of their seats, by their bytes, and the seed of their matches
 battle.csv       the matches: in how many cycles each ended, and with which damage the robot of each seat
-publication.csv  the tables that were published, and standing.csv has their rows
+removal.csv      why matches were taken back, and removed.csv has these matches
+publication.csv  the tables that were published, and standing.csv has their rows; hash is that of all rows that were
+                 shown first then: those that have the publication's number, and of it all but the hash itself
 table.csv        the table of the last season
 
 A match is played again by
@@ -48,7 +58,8 @@ where limit and profile are those of the rules. 100 matches, drawn by chance, ar
 
     crobots-league verify 100 {name}
 
-and all by --all in place of 100. It compares the table, too.
+and all by --all in place of 100. It says what is missing and what is beyond the rules, and compares hashes and tables.
+If you have an older archive, or wrote down the hash of one, --since OLDER or --since HASH says what was changed since.
 """
 
 
@@ -76,7 +87,7 @@ def fill(store: Store, standings: Iterable[Standing], archive: zipfile.ZipFile, 
     with member(archive, TABLE, day) as file:
         file.write(tables.comma([*standings]))
     for kept in KEPT:
-        rows = store.database.execute(f"SELECT * FROM {kept} ORDER BY 1, 2")
+        rows = store.database.execute(f"SELECT * FROM {kept} ORDER BY 1, 2, 3")
         with member(archive, f"{kept}.csv", day) as file:
             writer = csv.writer(file, lineterminator="\n")
             writer.writerow([column[0] for column in rows.description])
@@ -108,11 +119,17 @@ def dated(name: str, day: str) -> zipfile.ZipInfo:
 def read(path: str) -> Iterator[tuple[Store, str]]:
     """An archive as a league, in a folder that is removed in the end; and its table."""
     try:
+        if not os.path.isfile(path) and os.path.exists(path):
+            raise Fault(f"{path} is no file", FILE)
         with tempfile.TemporaryDirectory(prefix="crobots-") as folder, zipfile.ZipFile(path) as archive:
-            with filled(os.path.join(folder, "archive.db")) as database:
+            whole(archive)
+            is_older = f"{NEW}.csv" not in archive.namelist()
+            with filled(os.path.join(folder, "archive.db"), older.TABLES if is_older else SCHEMA) as database:
                 store = Store(folder, database)
                 with told(path), store.change():
-                    load(store, archive)
+                    load(store, archive, older.KEPT if is_older else KEPT)
+                if is_older:
+                    older.renew(database)
                 yield store, archive.read(TABLE).decode()
     except OSError as why:
         unreadable(path, why)
@@ -125,22 +142,52 @@ def shown(text: str) -> str:
     return "".join(it if it.isprintable() else "?" for it in text)
 
 
-def load(store: Store, archive: zipfile.ZipFile) -> None:
+def whole(archive: zipfile.ZipFile) -> None:
+    """Refuses an archive that has a file twice: who reads it might read another one."""
+    names = archive.namelist()
+    if twice := {name for name in names if names.count(name) > 1} if len({*names}) < len(names) else set():
+        raise Fault(f"{shown(min(twice))} is there twice", FAULTY)
+
+
+def load(store: Store, archive: zipfile.ZipFile, tables: Iterable[str]) -> None:
     """Reads all members of an archive."""
     for it in archive.infolist():
         if it.filename.startswith(SOURCES):
             source = archive.read(it) if it.file_size <= SOURCE_MAX else b""
             if it.filename != f"{SOURCES}{hashed(source)}.r":
-                raise Fault(f"{it.filename} has other bytes than its name says", FAULTY)
+                raise Fault(f"{shown(it.filename)} has other bytes than its name says", FAULTY)
             store.run("INSERT INTO source VALUES (?, ?)", hashed(source), source)
-    for kept in KEPT:
-        may_lack = [not column[3] for column in store.rows(f"PRAGMA table_info({kept})")]
+    for kept in tables:
+        columns = [Column(name, not must, kind == "REAL")
+                   for _, name, kind, must, *_ in store.rows(f"PRAGMA table_info({kept})")]
         with archive.open(f"{kept}.csv") as file:
             rows = csv.reader(io.TextIOWrapper(file, encoding="utf-8", newline=""))
-            query = f"INSERT INTO {kept} VALUES ({', '.join('?' * len(next(rows, [])))})"
-            store.database.executemany(query, (valued(row, may_lack) for row in rows))
+            if next(rows, []) != [it.name for it in columns]:
+                raise ValueError(f"{kept}.csv has other columns")
+            query = f"INSERT INTO {kept} VALUES ({', '.join('?' * len(columns))})"
+            try:
+                store.database.executemany(query, (valued(row, columns) for row in rows))
+            except sqlite3.IntegrityError as why:
+                raise Fault(f"{kept}.csv {refused(str(why))}", FAULTY) from why
 
 
-def valued(row: list[str], may_lack: list[bool]) -> list[str | None]:
+def refused(why: str) -> str:
+    """Why the database doesn't take a row."""
+    words = {"UNIQUE": "has a row twice", "FOREIGN": "has a row that names one that isn't there"}
+    return words.get(why.partition(" ")[0], f"has a row that can't be: {shown(why)}")
+
+
+class Column(NamedTuple):
+    """A column of a table: whether it may have no value, and whether it has numbers with a point."""
+
+    name: str
+    may_lack: bool
+    is_real: bool
+
+
+def valued(row: list[str], columns: Sequence[Column]) -> list[str | float | None]:
     """The values of a row: a cell is empty if there is no value, unless there has to be one."""
-    return [cell if cell or not lacks else None for cell, lacks in zip(row, may_lack)]
+    if any(not cell.isprintable() for cell in row):
+        raise ValueError("a cell has a sign that can't be shown")
+    cells = zip(row, columns, strict=True)
+    return [None if not cell and it.may_lack else float(cell) if it.is_real else cell for cell, it in cells]

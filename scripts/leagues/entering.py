@@ -10,8 +10,8 @@ from tools.output import show
 from tournaments.programs import Program, program
 from tournaments.robots import Robot, compiled, private
 
-from . import entries, seasons
-from .days import today
+from . import entries, naming, seasons
+from .days import given_day, today
 from .rules import Rules, played_by
 from .store import Store, made, opened
 from .words import ruled
@@ -21,7 +21,7 @@ def init(given: argparse.Namespace) -> None:
     """Makes a league with its first season."""
     by = played_by(ruled(Rules(), given), program(given.crobots))
     with made(given.league) as store, store.change():
-        seasons.begin(store, given.season, given.day or today(), by, {})
+        seasons.begin(store, given.season, given_day(given), by, {})
     show([f"{plain(given.league)} is a league now\n"])
 
 
@@ -33,7 +33,8 @@ def rules(given: argparse.Namespace) -> None:
         if given.crobots:
             by = played_by(by, program(given.crobots))
         named(store, by)
-        seasons.settle(store, season, by)
+        if by != season.rules:
+            seasons.settle(store, season, by, today())
     show(f"{name}: {value}\n" for name, value in by.said())
 
 
@@ -58,18 +59,36 @@ def add(given: argparse.Namespace) -> None:
     """Lets robots join, all or none."""
     if given.id and len(given.robots) > 1:
         raise Fault("--id is for one robot")
-    joining = [(given.id or named_after(path), entries.read(path), path) for path in given.robots]
     with opened(given.league) as store:
+        ids = given_ids(store, given.robots, given.id)
+        joining = [(robot, entries.read(path), path) for robot, path in zip(ids, given.robots)]
         checked(store, program(given.crobots), [(path, source) for _, source, path in joining])
         with store.change():
-            for robot, source, _ in joining:
-                entries.add(store, robot, given.author, source, given.day or today())
-    show(f"{robot} joined\n" for robot, _, _ in joining)
+            for robot, source, path in joining:
+                entries.add(store, robot, given.author, source, given_day(given))
+                if not given.id and robot != named_after(path):
+                    naming.keep(store, "", robot, named_after(path))
+    show(f"{joined(robot, path, given.id)}\n" for robot, _, path in joining)
 
 
 def named_after(path: str) -> str:
-    """A robot's id by its file's name."""
+    """A robot's name by its file."""
     return os.path.basename(path).removesuffix(".r")
+
+
+def given_ids(store: Store, paths: list[str], given: str | None) -> list[str]:
+    """The ids of robots: those that are given, or their names, or ids made of these if they can't be ids."""
+    if given:
+        return [given]
+    found: list[str] = []
+    for name in map(named_after, paths):
+        found.append(name if entries.ID.fullmatch(name) else naming.made(name, {*naming.taken(store), *found}))
+    return found
+
+
+def joined(robot: str, path: str, given: str | None) -> str:
+    """Says that a robot joined, and by which id if its file has another name."""
+    return f"{robot} joined" if given or robot == named_after(path) else f"{plain(named_after(path))} joined as {robot}"
 
 
 def checked(store: Store, crobots: Program, sources: list[tuple[str, bytes]]) -> None:
@@ -85,7 +104,7 @@ def change(given: argparse.Namespace) -> None:
     with opened(given.league) as store:
         checked(store, program(given.crobots), [(given.robot, source)])
         with store.change():
-            entries.change(store, given.id, source, given.day or today())
+            entries.change(store, given.id, source, given_day(given))
     show([f"{given.id} changed\n"])
 
 
@@ -96,5 +115,5 @@ def withdraw(given: argparse.Namespace) -> None:
         for robot in given.ids:
             if robot in (by.anchor, by.champion):
                 raise Fault(f"the rules name the robot {robot}, so it can't leave; `rules` changes them")
-            entries.withdraw(store, robot, given.day or today())
+            entries.withdraw(store, robot, given_day(given))
     show(f"{robot} left\n" for robot in given.ids)

@@ -3,10 +3,12 @@
 from __future__ import annotations
 
 import hashlib
+import os
 import re
+import stat
 from dataclasses import dataclass
 
-from tools.faults import FILE, Fault
+from tools.faults import FILE, Fault, unreadable
 from tournaments import seats
 
 from .store import Store
@@ -15,6 +17,8 @@ ID = re.compile(r"[A-Za-z0-9][A-Za-z0-9_.-]{0,39}")
 AUTHOR_MAX = 80
 SOURCE_MAX = 1 << 20
 ADD, CHANGE, WITHDRAW = "add", "change", "withdraw"
+# What may be corrected: an entry, and the days on which a season began and ended.
+ENTRY, BEGIN, END = "entry", "begin", "end"
 
 
 @dataclass(frozen=True)
@@ -27,6 +31,16 @@ class Entry:
     robot: str
     sha256: str
     copy: int
+
+
+@dataclass(frozen=True)
+class Correction:
+    """An entry or a season that got another day, or an entry that was taken back; how many entries there were then."""
+
+    what: str
+    of: int
+    day: str | None
+    entries: int
 
 
 @dataclass(frozen=True)
@@ -44,10 +58,19 @@ class Entrant:
 
 
 def entries(store: Store, until: int | None = None) -> list[Entry]:
-    """What happened, in its order; until such an entry."""
+    """What happened, in its order, but for what was taken back, and with its days as they were corrected; until such
+    an entry."""
     most = -1 if until is None else until
+    days = {it.of: it.day for it in corrections(store) if it.what == ENTRY}
     rows = store.rows("SELECT number, day, what, robot, sha256, copy FROM entry ORDER BY number LIMIT ?", most)
-    return [Entry(*row) for row in rows]
+    return [Entry(number, days.get(number) or day, *more) for number, day, *more in rows
+            if days.get(number, day) is not None]
+
+
+def corrections(store: Store) -> list[Correction]:
+    """What was put right, in its order: what was done last counts."""
+    rows = store.rows("SELECT what, of, other_day, entries FROM correction ORDER BY number")
+    return [Correction(*row) for row in rows]
 
 
 def playing(happened: list[Entry]) -> dict[str, Entrant]:
@@ -62,25 +85,38 @@ def playing(happened: list[Entry]) -> dict[str, Entrant]:
 
 
 def read(path: str) -> bytes:
-    """A robot's bytes, read once."""
+    """A robot's bytes, read once. What is no file isn't waited for."""
     try:
-        with open(path, "rb") as file:
+        with open(os.open(path, os.O_RDONLY | os.O_NONBLOCK | os.O_CLOEXEC), "rb") as file:
+            if not stat.S_ISREG(os.fstat(file.fileno()).st_mode):
+                raise Fault(f"{path} is no file", FILE)
             found = file.read(SOURCE_MAX + 1)
     except OSError as why:
-        raise Fault(f"cannot read {path}: {why.strerror}", FILE) from why
+        unreadable(path, why)
     if len(found) > SOURCE_MAX:
         raise Fault(f"{path} has more than {SOURCE_MAX} bytes")
     return found
 
 
 def add(store: Store, robot: str, author: str, source: bytes, day: str) -> None:
-    """A robot joins."""
+    """A robot joins. One whose joining was taken back may do so again."""
     if not ID.fullmatch(robot):
         raise Fault(f"{robot!r} is no id: a letter or a digit, and up to 39 letters, digits, '-', '_' and '.'")
-    if store.one("SELECT 1 FROM robot WHERE id = ?", robot):
-        raise Fault(f"there is a robot {robot} already; `change` gives it other bytes")
-    store.run("INSERT INTO robot VALUES (?, ?)", robot, named(author))
+    had = store.one("SELECT author FROM robot WHERE id = ?", robot)
+    if had and any(it.robot == robot for it in entries(store)):
+        raise Fault(taken(robot, had[0], author))
+    if had and had[0] != named(author):
+        raise Fault(f"the id {robot} was given to {had[0] or 'nobody'}, whose robot was taken back; --id gives another")
+    if not had:
+        store.run("INSERT INTO robot VALUES (?, ?, ?)", robot, named(author), store.next())
     enter(store, ADD, robot, kept(store, source), day)
+
+
+def taken(robot: str, theirs: str, author: str) -> str:
+    """Says that an id is taken. Only its own author is told how to replace the robot that has it."""
+    if author and author == theirs:
+        return f"there is a robot {robot} already; `change` gives it other bytes"
+    return f"there is a robot {robot} already" + (f", by {theirs}" if theirs else "") + "; --id gives this one another id"
 
 
 def change(store: Store, robot: str, source: bytes, day: str) -> None:
@@ -104,7 +140,7 @@ def withdraw(store: Store, robot: str, day: str) -> None:
 
 def known(store: Store, robot: str) -> None:
     """Refuses an id that nobody has."""
-    if not store.one("SELECT 1 FROM robot WHERE id = ?", robot):
+    if not any(it.robot == robot for it in entries(store)):
         raise Fault(f"there is no robot {robot}")
 
 
@@ -129,11 +165,18 @@ def kept(store: Store, source: bytes) -> str:
 
 def enter(store: Store, what: str, robot: str, sha256: str, day: str) -> None:
     """Writes down what happened. A robot that has the same bytes once more has its old number with them."""
-    last = store.one("SELECT max(day) FROM entry")[0]
-    if last and day < last:
-        raise Fault(f"the last entry is of {last}, so none can be of {day}")
-    store.run("INSERT INTO entry (day, what, robot, sha256, copy) VALUES (?, ?, ?, ?, ?)", day, what, robot, sha256,
-              copy_of(store, robot, sha256))
+    if day < (last := last_day(store)):
+        raise Fault(f"the last entry is of {last}, so none can be of {day}; `correct` gives it another day")
+    columns = "day, what, robot, sha256, copy, publication"
+    store.run(f"INSERT INTO entry ({columns}) VALUES (?, ?, ?, ?, ?, ?)", day, what, robot, sha256,
+              copy_of(store, robot, sha256), store.next())
+
+
+def last_day(store: Store) -> str:
+    """The day of the last entry that wasn't taken back; nothing if there is none."""
+    days = {it.of: it.day for it in corrections(store) if it.what == ENTRY}
+    rows = store.database.execute("SELECT number, day FROM entry ORDER BY number DESC")
+    return next((days.get(number) or str(day) for number, day in rows if days.get(number, day) is not None), "")
 
 
 def copy_of(store: Store, robot: str, sha256: str) -> int:

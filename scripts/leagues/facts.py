@@ -2,31 +2,42 @@
 
 from __future__ import annotations
 
+import functools
 from collections import defaultdict
-from dataclasses import dataclass
-from typing import Iterator, Sequence
+from dataclasses import dataclass, replace
+from typing import Iterable, Iterator, Sequence
 
-from sites.facts import Battle, Facts, Place, Program, Robot, Score, Seat, Settings, Standing, Table, Version
+from sites.facts import Battle, Facts, Pair, Place, Program, Robot, Score, Seat, Settings, Standing, Table, Verdict, Version
+from sites.facts import Season as SiteSeason
 from sites.gathering import Gathering
 from sites.notables import DEAD
-from tournaments.settings import Group
+from sites.verdicts import BETTER, EVEN, OPEN, WORSE
 
-from .entries import WITHDRAW, Entry, entries, source
-from .publications import publications, published
+from .entries import WITHDRAW, Entrant, Entry, entries, source
+from .naming import names as given_names
+from .publications import final, publications, published
 from .results import Played, Results
 from .schedules import Schedule
-from .seasons import Field, Season
+from .seasons import Season, seasons
+from .sequential import EVEN as NEITHER
+from .sequential import FIRST, SECOND
 from .standings import Standing as LeagueStanding
 from .store import Store
+from .verdicts import Verdicts
 
 # A robot's page has at most this number of its last lost matches.
 LOST = 5
+HIDDEN = "Sources and the archive are shown when the season ends."
+DECIDED = {FIRST: BETTER, SECOND: WORSE, NEITHER: EVEN}
 Lost = dict[str, list[tuple[str, Battle]]]
+# Robots in the order of their seats, and the seed of their matches.
+Seated = tuple[tuple[str, ...], int]
 
 
 @dataclass(frozen=True)
 class Words:
-    """What the site shows beside the league: its title and day, the archive, how it is checked, and robots' sums."""
+    """What the site shows beside the league: its title and day, the archive, how it is checked, robots' sums, copies, and the hash of the
+    publication. Of copies each robot is there that has the code of another author's robot, with that one."""
 
     title: str
     day: str
@@ -34,18 +45,48 @@ class Words:
     verify: str
     page: str
     sums: dict[str, str]
+    copied: dict[str, str]
+    hash: str = ""
 
 
-def facts_of_league(store: Store, field: Field, standings: Sequence[LeagueStanding], words: Words) -> Facts:
+def facts_of_league(store: Store, schedule: Schedule, results: Results, standings: Sequence[LeagueStanding], words: Words) -> Facts:
     """All that the site shows."""
-    rules = field.rules
+    rules, season = schedule.field.rules, schedule.field.season
+    happened = entries(store, season.last_entry)
     ranks = {it.robot: row for row, it in enumerate(standings)}
-    gathering, lost = gathered(Schedule(field), Results(store, rules), ranks)
-    settings = Settings(rules.matches, rules.cycles, rules.seed, rules.profile, rules.sizes, tuple(more(field.season)))
+    guests = left(happened, season)
+    ranks |= {it.robot: len(ranks) + row for row, it in enumerate(guests)}
+    gathering, lost = gathered(seatings(schedule, guests), results, ranks)
+    settings = Settings(rules.matches, rules.cycles, rules.seed, rules.profile, rules.sizes, tuple(more(season)))
     return Facts(
-        words.title, settings, Program(rules.version, rules.program), tuple(robots(store, field, lost, words.sums)),
-        tuple(rows(standings)), tuple(gathering.pairs()), words.day, tuple(earlier(store, words.day)),
-        "points a match", words.archive, words.verify, words.page)
+        words.title, settings, Program(rules.version, rules.program), tuple(robots(store, happened, season, lost, words)),
+        tuple(rows(standings)), tuple(decided(gathering.pairs(), schedule, results)), words.day,
+        tuple(earlier(store, season, words.day)), "points a match", words.archive, words.verify, words.page, hash=words.hash,
+        season=season.name, divisions=rules.divisions, seasons=tuple(past(store, season)),
+        hidden=HIDDEN if is_hidden(season) else "")
+
+
+def decided(pairs: Iterable[Pair], schedule: Schedule, results: Results) -> Iterator[Pair]:
+    """The pairs with what the sequential test says of each, if the rules have it: its decision, and its interval."""
+    if not schedule.field.rules.sure:
+        yield from pairs
+        return
+    verdicts = Verdicts(schedule, results)
+    places = {it.robot: at for at, it in enumerate(schedule.field.robots)}
+    for pair in pairs:
+        if pair.one not in places or pair.other not in places:
+            yield pair
+            continue
+        one, other = places[pair.one], places[pair.other]
+        told = verdicts.told((min(one, other), max(one, other)))
+        assert told
+        it = told if one < other else told.turned
+        yield replace(pair, low=it.low, high=it.high, verdict=Verdict(DECIDED.get(it.decision, OPEN), it.matches))
+
+
+def is_hidden(season: Season) -> bool:
+    """Whether the sources of a season's new robots aren't shown yet."""
+    return season.rules.hidden and not season.ended
 
 
 def more(season: Season) -> Iterator[tuple[str, str]]:
@@ -58,57 +99,105 @@ def more(season: Season) -> Iterator[tuple[str, str]]:
 
 
 def rows(standings: Sequence[LeagueStanding]) -> Iterator[Standing]:
-    """The rows of the table, of robots that have a rating; lower divisions go on where higher ones end."""
+    """The rows of the tables of all divisions, of robots that have a rating."""
     for it in standings:
-        if not it.is_rated:
-            continue
-        above = sum(other.division < it.division for other in standings)
-        score = Score(it.score.won, it.score.tied, it.score.lost)
-        rating = it.rating.value, it.rating.low, it.rating.high
-        yield Standing(it.robot, above + it.rank, score, it.points, *rating, it.close)
+        if it.is_rated:
+            score = Score(it.score.won, it.score.tied, it.score.lost)
+            rating = it.rating.value, it.rating.low, it.rating.high
+            yield Standing(it.robot, it.rank, score, it.points, *rating, it.close, it.division)
 
 
-def earlier(store: Store, day: str) -> Iterator[Table]:
-    """The tables that were published before a day, the oldest first."""
+def earlier(store: Store, season: Season, day: str) -> Iterator[Table]:
+    """The tables that were published before this one, the oldest first: of a day the last one of each season."""
+    found: dict[tuple[str, int], int] = {}
     for it in publications(store):
-        if it.day < day:
-            there = rows(published(store, it.number))
-            yield Table(it.day, {row.robot: Place(row.rank, row.rating, row.low, row.high) for row in there})
+        if it.season < season.number and it.day <= day or it.season == season.number and it.day < day:
+            found[it.day, it.season] = it.number
+    names = {it.number: it.name for it in seasons(store)}
+    for (of_day, number), publication in sorted(found.items(), key=lambda it: (it[0][1], it[0][0])):
+        there = rows(published(store, publication))
+        places = {row.robot: Place(row.rank, row.rating, row.low, row.high, row.division) for row in there}
+        yield Table(of_day, places, names[number])
 
 
-def robots(store: Store, field: Field, lost: Lost, sums: dict[str, str]) -> Iterator[Robot]:
+def past(store: Store, season: Season) -> Iterator[SiteSeason]:
+    """The seasons that ended before this one."""
+    for it in seasons(store):
+        if it.number < season.number:
+            said = tuple((name.capitalize(), value) for name, value in it.rules.said())
+            yield SiteSeason(it.name, it.begun, it.ended, said, tuple(rows(final(store, it))), it.rules.divisions)
+
+
+def robots(store: Store, happened: Sequence[Entry], season: Season, lost: Lost, words: Words) -> Iterator[Robot]:
     """The robots that play, and those that left."""
-    happened = entries(store, field.season.last_entry)
     authors = dict(store.rows("SELECT id, author FROM robot"))
+    shown = {it.sha256 for it in happened if it.number <= season.first_entry or not is_hidden(season)}
+    names = given_names(store)
     for robot in dict.fromkeys(it.robot for it in happened):
         own = [it for it in happened if it.robot == robot]
-        left = own[-1].day if own[-1].what == WITHDRAW else ""
+        gone = own[-1].day if own[-1].what == WITHDRAW else ""
         battles = tuple(battle for _, battle in lost.get(robot, ()))
-        yield Robot(robot, robot, tuple(versions(store, own)), authors[robot], left, sums.get(robot, ""), battles)
+        yield Robot(robot, names.get(robot, robot), tuple(versions(store, own, shown)), authors[robot], gone,
+                    words.sums.get(robot, ""), battles, words.copied.get(robot, ""))
 
 
-def versions(store: Store, own: Sequence[Entry]) -> Iterator[Version]:
-    """The sources of a robot, each since the day on which it got it."""
+def versions(store: Store, own: Sequence[Entry], shown: set[str]) -> Iterator[Version]:
+    """The versions of a robot, each since the day on which it got it; with its source, if that is shown."""
     for it in own:
         if it.what != WITHDRAW:
-            yield Version(it.sha256, source(store, it.sha256), it.day)
+            yield Version(it.sha256, source(store, it.sha256) if it.sha256 in shown else None, it.day)
 
 
-def gathered(schedule: Schedule, results: Results, ranks: dict[str, int]) -> tuple[Gathering, Lost]:
+def left(happened: Sequence[Entry], season: Season) -> list[Entrant]:
+    """The robots that left while the season went on, with the bytes that they had."""
+    last = {it.robot: it for it in happened}
+    gone = [it for it in happened if it.number > season.first_entry and it.what == WITHDRAW and last[it.robot] is it]
+    return [Entrant(it.robot, it.sha256, it.copy) for it in gone]
+
+
+def seatings(schedule: Schedule, guests: Sequence[Entrant]) -> Iterator[tuple[tuple[str, str], Seated]]:
+    """All seatings of a season, as results name them, also those of robots that left meanwhile."""
+    yield from named(schedule, schedule.groups())
+    if guests:
+        field = schedule.field
+        among = tuple(sorted([*field.robots, *guests], key=lambda it: (it.sha256, it.robot)))
+        wider = Schedule(replace(field, robots=among))
+        places = {at for at, it in enumerate(among) if it in guests}
+        yield from named(wider, (group for group in wider.groups() if not places.isdisjoint(group)))
+
+
+def named(schedule: Schedule, groups: Iterable[tuple[int, ...]]) -> Iterator[tuple[tuple[str, str], Seated]]:
+    """The seatings of groups, with the robots' ids in the order of their seats."""
+    ids = [it.robot for it in schedule.field.robots]
+    for group in groups:
+        for seats, seed in schedule.seatings(group):
+            yield schedule.seated(seats, seed), (tuple(ids[at] for at in seats), seed)
+
+
+def gathered(them: Iterable[tuple[tuple[str, str], Seated]], results: Results, ranks: dict[str, int]) -> tuple[Gathering, Lost]:
     """Adds up all matches of a season, and finds the last ones that each robot lost."""
-    where = {results.number(schedule.seated(*it)): it for group in schedule.groups() for it in schedule.seatings(group)}
     found, lost = Gathering(ranks), defaultdict[str, list[tuple[str, Battle]]](list)
-    for number, played in results.each():
-        if number in where:
-            battles = [battle(schedule, *where[number], it) for it in played]
+    for where, (robots, seed) in them:
+        if played := results.battles(where):
+            battles = [battle(robots, seed, it) for it in played]
             found.add(battles)
-            for seat, robot in enumerate(it.robot for it in battles[0].seats):
-                there = [(it.day, one) for it, one in zip(played, battles) if it.match.damage[seat] >= DEAD]
-                lost[robot] = sorted([*lost[robot], *there], key=lambda it: (it[0], it[1].number), reverse=True)[:LOST]
+            for at, robot in enumerate(robots):
+                there = [(it.day, one) for it, one in zip(played, battles) if it.match.damage[at] >= DEAD]
+                lost[robot] = last_ones([*lost[robot], *there])
     return found, lost
 
 
-def battle(schedule: Schedule, seats: Group, seed: int, it: Played) -> Battle:
+def last_ones(lost: Iterable[tuple[str, Battle]]) -> list[tuple[str, Battle]]:
+    """The last lost matches, by their days and then by their numbers, the last one first."""
+    return sorted(lost, key=lambda it: (it[0], it[1].number), reverse=True)[:LOST]
+
+
+def battle(robots: Sequence[str], seed: int, it: Played) -> Battle:
     """A match as the site names it."""
-    names = [schedule.field.robots[at].robot for at in seats]
-    return Battle(tuple(map(Seat, names, it.match.damage)), it.number, seed, it.match.cycles)
+    return Battle(tuple(map(seat, robots, it.match.damage)), it.number, seed, it.match.cycles)
+
+
+@functools.lru_cache(1 << 16)
+def seat(robot: str, damage: int) -> Seat:
+    """A robot with its damage: of a large league there are many equal ones."""
+    return Seat(robot, damage)

@@ -1,29 +1,71 @@
-"""What is wanted as command lines, for other machines: some series a line, so that an array of jobs isn't too large."""
+"""What is wanted as command lines, for other machines: a file of the league has all series, and each line plays some of them.
+
+A line names the file, where in it the first series begins, and how many follow. So it is short, however many series it has, and an
+array of jobs needn't be large. All names are relative to the league's folder, which may be anywhere on another machine."""
 
 from __future__ import annotations
 
-from typing import Iterable, Iterator
+import contextlib
+import hashlib
+import os
+import shlex
+import time
+from typing import Iterator
 
-from tournaments.plans import Plan, lines, one_write
+from tools.faults import Fault, unwritable
+from tournaments.plans import SERIES, Plan, one_write
+from tournaments.records import Record
 
-# A shell's word has at most 131,071 bytes.
-LINE_MAX = 100_000
+from .sources import replaced
+
+NAME = "plans"
+CHUNK = os.path.join(os.path.dirname(os.path.realpath(__file__)), "chunk.sh")
+# A plan is needed as long as its lines are played. Older ones are removed when another is made.
+DAYS = 30
 
 
-def planned(plan: Plan, program: str, piece: int | None, chunk: int) -> Iterator[str]:
-    """The command lines of a plan, at most `chunk` series a line."""
+def planned(plan: Plan, folder: str, program: str, piece: int | None, chunk: int) -> Iterator[str]:
+    """Writes the series of a plan, if there are any, into a file of the league's folder; gives the command lines that play them."""
+    if not plan.only:
+        return
     most = min(piece or plan.settings.matches, one_write(plan.settings, plan.robots))
-    if plan.only:
-        yield from chunks(lines(Plan(plan.settings, plan.robots, most, plan.only), program), chunk)
+    rows = [f"{program}\n".encode(), *(row(it) for it in Plan(plan.settings, plan.robots, most, plan.only).planned())]
+    if "\n" in program:
+        raise Fault("the program's path has a line break")
+    name = kept(os.path.join(folder, NAME), b"".join(rows))
+    run = shlex.quote(os.path.join(folder, NAME, "run"))
+    begin = len(rows[0])
+    for at in range(1, len(rows), chunk):
+        part = rows[at:at + chunk]
+        yield f"sh {run} {name} {begin} {len(part)}\n"
+        begin += sum(map(len, part))
 
 
-def chunks(commands: Iterable[str], most: int) -> Iterator[str]:
-    """Puts commands into lines of at most `most` commands, and of a length that a shell takes."""
-    line: list[str] = []
-    for command in map(str.rstrip, commands):
-        if len(line) == most or sum(map(len, line)) + len(command) > LINE_MAX:
-            yield "; ".join(line) + "\n"
-            line = []
-        line.append(command)
-    if line:
-        yield "; ".join(line) + "\n"
+def row(it: Record) -> bytes:
+    """A series: the head of its record, its options, and the files of its robots, with tabs between them."""
+    series = it.series
+    options = it.settings.options(series.seed, series.first, series.matches)
+    return "\t".join([it.head(), " ".join(options), " ".join(robot.path for robot in it.robots)]).encode() + b"\n"
+
+
+def kept(folder: str, text: bytes) -> str:
+    """Writes a plan beside what plays it, and removes old ones; answers its name, which is the beginning of its hash."""
+    name = hashlib.sha256(text).hexdigest()[:16]
+    try:
+        os.makedirs(folder, exist_ok=True)
+        for place, path in (("run", CHUNK), ("series", SERIES)):
+            with open(path, "rb") as file:
+                replaced(os.path.join(folder, place), file.read())
+        replaced(os.path.join(folder, name), text)
+        remove_old(folder, time.time() - DAYS * 86400)
+    except OSError as why:
+        unwritable(folder, why)
+    return name
+
+
+def remove_old(folder: str, before: float) -> None:
+    """Removes the files that were written before a time. Others may do so at the same time."""
+    for it in os.scandir(folder):
+        with contextlib.suppress(FileNotFoundError):
+            if it.stat().st_mtime < before:
+                os.unlink(it.path)

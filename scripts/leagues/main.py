@@ -11,13 +11,14 @@ from .words import Words
 MODULES = {
     "init": "entering", "rules": "entering", "add": "entering", "change": "entering", "withdraw": "entering",
     "play": "sessions", "take": "taking", "season": "turning", "status": "showing", "table": "showing",
-    "publish": "publishing", "verify": "verifying",
+    "publish": "publishing", "verify": "verifying", "drop": "dropping", "correct": "correcting", "history": "history",
+    "take-in": "handing",
 }
 
 
 def league(name: str, arguments: list[str]) -> None:
     """Does what the words ask for."""
-    given = Words(name).parser.parse_args(arguments)
+    given = Words(name).parse(arguments)
     module = importlib.import_module(f".{MODULES[given.command]}", __package__)
-    does: Callable[[object], None] = getattr(module, given.command)
+    does: Callable[[object], None] = getattr(module, given.command.replace("-", "_"))
     does(given)

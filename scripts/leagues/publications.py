@@ -2,62 +2,105 @@
 
 from __future__ import annotations
 
-from dataclasses import dataclass
+from dataclasses import dataclass, replace
 from decimal import Decimal
 from typing import Sequence
 
-from tournaments.ratings import Rating
+from tournaments.ratings import VERSION, Rating
 from tournaments.tallies import Score
 
+from . import chain
 from .seasons import Season
 from .standings import Standing, placed
 from .store import Store
 
-COLUMNS = "division, rank, robot, sha256, won, tied, lost, points, rating, low, high"
+COLUMNS = "division, rank, robot, sha256, won, tied, lost, points, rating, low, high, close"
+# The number of the way in which ratings are worked out: 1 was that of leagues without a chain. Tables of another scale keep their numbers.
+SCALE = VERSION
 
 
 @dataclass(frozen=True)
 class Publication:
-    """A table of a day; final if its season ended with it."""
+    """A table of a day; final if its season ended with it. The hash is that of the chain, if it is in it."""
 
     number: int
     season: int
     day: str
     final: bool
+    missing: int | None
+    scale: int
+    before: str
+    hash: str
 
 
-def publish(store: Store, season: Season, day: str, standings: Sequence[Standing], final: bool = False) -> int:
-    """Keeps a table. One that was published on the same day, in the same season, is replaced."""
-    same = "SELECT number FROM publication WHERE season = ? AND day = ? AND final = ?"
-    for old, in store.rows(same, season.number, day, final):
-        store.run("DELETE FROM standing WHERE publication = ?", old)
-        store.run("DELETE FROM publication WHERE number = ?", old)
-    number = store.run("INSERT INTO publication (season, day, final) VALUES (?, ?, ?)", season.number, day, final)
-    store.database.executemany(f"INSERT INTO standing (publication, played, {COLUMNS}) VALUES ({', '.join('?' * 13)})",
+def publish(store: Store, season: Season, day: str, standings: Sequence[Standing], missing: int,
+            final: bool = False) -> Publication:
+    """Keeps a table, while so many matches are missing, in the chain. One that is like the last one is that one."""
+    last = latest(store)
+    wanted = season.number, day, final, missing, SCALE
+    if last and (last.season, last.day, last.final, last.missing, last.scale) == wanted and is_last(store, last, standings):
+        return last
+    before = chain.links(store)
+    number = store.run("INSERT INTO publication (season, day, final, missing, scale, before, hash) "
+                       "VALUES (?, ?, ?, ?, ?, ?, '')", *wanted, before[-1].hash if before else "")
+    store.database.executemany(f"INSERT INTO standing (publication, played, {COLUMNS}) VALUES ({', '.join('?' * 14)})",
                                [(number, it.score.played, *values(it)) for it in standings])
-    return number
+    found = chain.hashed(text for _, text in chain.lines(store, before[-1].number if before else 0))
+    store.run("UPDATE publication SET hash = ? WHERE number = ?", found, number)
+    return Publication(number, *wanted, before[-1].hash if before else "", found)
+
+
+def is_last(store: Store, last: Publication, standings: Sequence[Standing]) -> bool:
+    """Reports whether nothing was added since the last publication, and its table is this one."""
+    shown = [values(it) for it in published(store, last.number)]
+    return not any(chain.lines(store, last.number)) and sorted(shown) == sorted(map(values, standings))
+
+
+def latest(store: Store) -> Publication | None:
+    """The last publication."""
+    found = every(store)
+    return found[-1] if found else None
 
 
 def values(it: Standing) -> tuple[object, ...]:
     score, rating = it.score, it.rating
     return (it.division, it.rank, it.robot, it.sha256, score.won, score.tied, score.lost, str(it.points),
-            rating.value, rating.low, rating.high)
+            rating.value, rating.low, rating.high, int(it.close))
+
+
+def every(store: Store) -> list[Publication]:
+    """All publications in their order."""
+    rows = store.rows("SELECT number, season, day, final, missing, scale, before, hash FROM publication ORDER BY number")
+    return [Publication(number, season, day, bool(final), *more) for number, season, day, final, *more in rows]
 
 
 def publications(store: Store) -> list[Publication]:
-    """All publications in their order."""
-    rows = store.rows("SELECT number, season, day, final FROM publication ORDER BY number")
-    return [Publication(number, season, day, bool(final)) for number, season, day, final in rows]
+    """The publications in their order; of those of one day, in one season, the last one."""
+    return [*{(it.season, it.day, it.final): it for it in every(store)}.values()]
 
 
 def published(store: Store, number: int) -> list[Standing]:
     """The table of a publication."""
     rows = store.rows(f"SELECT {COLUMNS} FROM standing WHERE publication = ? ORDER BY division, rank, robot", number)
     found: list[Standing] = []
-    for division, rank, robot, sha256, won, tied, lost, points, *rating in rows:
-        it = Standing(division, rank, robot, sha256, Score(won, tied, lost), Decimal(points), Rating(*rating))
-        found.append(placed(found, it))
+    for division, rank, robot, sha256, won, tied, lost, points, rating, low, high, close in rows:
+        it = Standing(division, rank, robot, sha256, Score(won, tied, lost), Decimal(points), Rating(rating, low, high))
+        found.append(replace(placed(found, it), close=overlaps(found, it) if close is None else bool(close)))
     return found
+
+
+def overlaps(above: Sequence[Standing], it: Standing) -> bool:
+    """Reports whether a robot was close to the one above by the first scale: their intervals overlap in whole numbers."""
+    if not above or above[-1].division != it.division or not (above[-1].is_rated and it.is_rated):
+        return False
+    ours, theirs = it.rating, above[-1].rating
+    return round(ours.low) <= round(theirs.high) and round(theirs.low) <= round(ours.high)
+
+
+def scale(store: Store) -> int:
+    """The scale of the last table; one of the version before has the first."""
+    last = latest(store)
+    return last.scale if last and last.hash else 1
 
 
 def final(store: Store, season: Season) -> list[Standing]:

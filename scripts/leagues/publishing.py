@@ -5,47 +5,66 @@ from __future__ import annotations
 import argparse
 import os
 import shlex
-import tempfile
 
+from sites.facts import Facts
 from sites.folders import Foreign
 from sites.publishing import publish as write_site
 from tools.faults import FILE, Fault, plain, unwritable
 from tools.output import show
+from tournaments.programs import program
 
-from . import archives, publications
-from .days import today
-from .facts import Words, facts_of_league
-from .results import Results
-from .schedules import Schedule
-from .seasons import field, season
+from . import archives, likeness
+from .copies import published
+from .days import given_day
+from .entries import entries
+from .facts import Words, facts_of_league, is_hidden
+from .seasons import season
 from .sources import laid
-from .standings import standings
-from .store import opened
+from .store import Store, opened
 from .sums import sums
+
+
+def copies(store: Store, jobs: int) -> dict[str, str]:
+    """The robots that have the code of another author's robot, as far as it is known, or the program is there."""
+    it = season(store)
+    happened = entries(store, it.last_entry)
+    folder = laid(store, {one.sha256 for one in happened})
+    try:
+        crobots = program(None).path
+    except Fault:
+        crobots = ""
+    files = {one.sha256: os.path.join(folder, one.sha256) for one in happened} if crobots else {}
+    code = likeness.codes(store, it.rules.profile, crobots, files, jobs)
+    return likeness.copied(happened, dict(store.rows("SELECT id, author FROM robot")), code)
 
 
 def publish(given: argparse.Namespace) -> None:
     """Publishes the last season's table as it is now."""
-    day = given.day or today()
+    day = given_day(given)
     name = os.path.basename(os.path.abspath(given.league))
-    with opened(given.league) as store, tempfile.TemporaryDirectory(prefix="crobots-") as folder:
-        archive = os.path.join(folder, f"{name}-{day}.zip")
-        with store.view():
-            it = season(store)
-            schedule, results = Schedule(field(store, it)), Results(store, it.rules)
-            table = standings(schedule, results)
-            archives.write(store, table, archive, day)
-            sources = laid(store, {it.sha256 for it in schedule.field.robots})
-            said = sums(schedule, results, sources, given.sums, given.jobs)
-            verify = f"crobots-league verify 100 {shlex.quote(os.path.basename(archive))}"
-            words = Words(given.title or name, day, archive, verify, given.page, said)
-            facts = facts_of_league(store, schedule.field, table, words)
+    with opened(given.league) as store:
         with store.change():
-            publications.publish(store, it, day, table)
-        try:
-            write_site(facts, given.site, given.replays, given.jobs)
-        except Foreign as why:
-            raise Fault(str(why), FILE) from why
-        except OSError as why:
-            unwritable(given.site, why)
-    show([f"{len(table)} robots, {len(facts.pairs)} pairs in {plain(given.site)}\n"])
+            copied = copies(store, given.jobs)
+        with published(store, day) as now:
+            archive = os.path.join(now.store.folder, f"{name}-{day}.zip")
+            archives.write(now.store, now.table, archive, day)
+            sources = laid(now.store, {it.sha256 for it in now.schedule.field.robots})
+            # sums show lines of the sources
+            said = {} if is_hidden(now.season) else sums(now.schedule, now.results, sources, given.sums, given.jobs)
+            verify = f"crobots-league verify 100 {shlex.quote(os.path.basename(archive))}"
+            shown = ("", "") if is_hidden(now.season) else (archive, verify)
+            words = Words(given.title or name, day, *shown, given.page, said, copied, now.publication.hash)
+            facts = facts_of_league(now.store, now.schedule, now.results, now.table, words)
+            write(facts, given)
+    show([f"{len(now.table)} robots, {len(facts.pairs)} pairs in {plain(given.site)}\n",
+          f"publication {now.publication.number} has the hash {now.publication.hash}\n"])
+
+
+def write(facts: Facts, given: argparse.Namespace) -> None:
+    """Writes the site into its folder."""
+    try:
+        write_site(facts, given.site, given.replays, given.jobs)
+    except Foreign as why:
+        raise Fault(str(why), FILE) from why
+    except OSError as why:
+        unwritable(given.site, why)

@@ -18,8 +18,9 @@ Seated = tuple[str, str]
 DEAD = 100
 BY = "seating.cycles = ? AND profile = ? AND program = ?"
 COLUMNS = "seating, battle.number, battle.cycles, damage1, damage2, damage3, damage4, battle.day"
+FOUGHT = "number, cycles, damage1, damage2, damage3, damage4, day"
 JOINED = f"FROM battle JOIN seating ON seating.number = seating WHERE {BY}"
-INSERT = "INSERT INTO battle VALUES (?, ?, ?, ?, ?, ?, ?, ?)"
+INSERT = "INSERT INTO battle VALUES (?, ?, ?, ?, ?, ?, ?, ?, ?, ?)"
 
 
 def seated(hashes: Sequence[str], seed: int) -> Seated:
@@ -61,6 +62,11 @@ class Results:
         """The numbers of a seating's matches."""
         return [number for number, in self._store.rows("SELECT number FROM battle WHERE seating = ?", seating)]
 
+    def battles(self, where: Seated) -> list[Played]:
+        """The matches of a seating, by their numbers; none if nothing of it was played."""
+        rows = self._store.database.execute(f"SELECT {FOUGHT} FROM battle WHERE seating = ? ORDER BY number", [self.number(where)])
+        return [Played(at, ended(cycles, damage), day) for at, cycles, *damage, day in rows]
+
     def counts(self, look: int) -> dict[int, dict[int, Count]]:
         """Of each seating of two robots what the first one did, in each part of `look` matches."""
         query = (f"SELECT seating, (battle.number - 1) / {look}, count(*), sum(damage1 < {DEAD} AND damage2 = {DEAD}), "
@@ -91,20 +97,21 @@ def ended(cycles: int, damage: Sequence[int | None]) -> Match:
     return Match(cycles, tuple(it for it in damage if it is not None))
 
 
-def keep(store: Store, rules: Rules, where: Seated, first: int, results: str, day: str) -> tuple[int, int]:
-    """Keeps the results of a series; answers how many are new, and how many were there.
+def keep(store: Store, rules: Rules, where: Seated, first: int, results: str, day: str,
+         worker: int | None = None) -> tuple[int, int]:
+    """Keeps the results of a series, played here or by a worker; answers how many are new, and how many were there.
 
     A result that is there otherwise is refused, with the whole series: then either was not played as it says."""
     by = (rules.cycles, rules.profile, rules.program)
-    columns = "hashes, seed, cycles, profile, program"
-    store.run(f"INSERT OR IGNORE INTO seating ({columns}) VALUES (?, ?, ?, ?, ?)", *where, *by)
+    columns, after = "hashes, seed, cycles, profile, program, publication", store.next()
+    store.run(f"INSERT OR IGNORE INTO seating ({columns}) VALUES (?, ?, ?, ?, ?, ?)", *where, *by, after)
     number = int(store.one(f"SELECT number FROM seating WHERE hashes = ? AND seed = ? AND {BY}", *where, *by)[0])
     theirs = dict(enumerate(map(match, results.split(",")), first))
     known = ours(store, number, first, first + len(theirs) - 1)
     for it, result in known.items():
         if theirs[it] != result:
             raise Fault(f"has match {it} of these robots with another result than the league", FILE)
-    new = [row(number, it, result, day) for it, result in theirs.items() if it not in known]
+    new = [(*row(number, it, result), day, worker, after) for it, result in theirs.items() if it not in known]
     store.database.executemany(INSERT, new)
     return len(new), len(known)
 
@@ -116,6 +123,6 @@ def ours(store: Store, seating: int, first: int, last: int) -> dict[int, Match]:
     return {number: ended(cycles, damage) for number, cycles, *damage in store.rows(query, seating, first, last)}
 
 
-def row(seating: int, number: int, it: Match, day: str) -> tuple[int | str | None, ...]:
+def row(seating: int, number: int, it: Match) -> tuple[int | None, ...]:
     damage: list[int | None] = [*it.damage, None, None]
-    return seating, number, it.cycles, *damage[:4], day
+    return seating, number, it.cycles, *damage[:4]

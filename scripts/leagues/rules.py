@@ -39,6 +39,8 @@ class Rules:
     anchor: str = ""
     anchored: int = 0
     divisions: int = 1
+    # sources of robots that are new aren't shown before the season ends
+    hidden: bool = False
 
     @property
     def sizes(self) -> tuple[int, ...]:
@@ -62,7 +64,8 @@ class Rules:
                  ("points", f"{self.win} a win, {self.tie} a tie")]
         more = [("sample", f"{self.sample} groups", self.sample), ("until sure", "yes", self.sure),
                 ("anchor", f"{self.anchor} has {self.anchored}", self.anchor),
-                ("divisions", str(self.divisions), self.divisions > 1)]
+                ("divisions", str(self.divisions), self.divisions > 1),
+                ("sources", "hidden until the season ends", self.hidden)]
         return found + [(name, value) for name, value, is_there in more if is_there]
 
     def _mode(self) -> str:

@@ -2,9 +2,11 @@
 
 from __future__ import annotations
 
+from collections import Counter
 from decimal import Decimal
 from typing import Mapping
 
+from tournaments.closeness import Weight
 from tournaments.settings import Group
 from tournaments.tallies import Score
 
@@ -24,15 +26,8 @@ def scores(schedule: Schedule, results: Results) -> dict[Group, ByRobot]:
             for letters, matches in ended.get(results.number(schedule.seated(robots, seed)) or 0, {}).items():
                 of_group = found.setdefault(group, {at: Score() for at in group})
                 for robot, letter in zip(robots, letters):
-                    count(of_group[robot], letter, matches)
+                    of_group[robot].add(letter, matches)
     return found
-
-
-def count(score: Score, letter: str, matches: int) -> None:
-    """Adds matches that ended so for a robot."""
-    score.won += matches * (letter == "w")
-    score.tied += matches * (letter == "t")
-    score.lost += matches * (letter == "l")
 
 
 def total(parts: Mapping[Group, ByRobot], robots: int) -> list[Score]:
@@ -41,7 +36,7 @@ def total(parts: Mapping[Group, ByRobot], robots: int) -> list[Score]:
     for of_group in parts.values():
         for robot, score in of_group.items():
             for letter, matches in (("w", score.won), ("t", score.tied), ("l", score.lost)):
-                count(found[robot], letter, matches)
+                found[robot].add(letter, matches)
     return found
 
 
@@ -66,3 +61,16 @@ def mean(score: Score, rules: Rules) -> Decimal:
 
 def average(numbers: list[Decimal]) -> Decimal:
     return sum(numbers, Decimal(0)) / len(numbers)
+
+
+def worth(rules: Rules) -> dict[str, float]:
+    """What a match that ended so is worth."""
+    return {"w": float(rules.win), "t": float(rules.tie), "l": 0.0}
+
+
+def weights(parts: Mapping[Group, ByRobot], rules: Rules) -> Weight:
+    """How much a match counts in a robot's points: its groups count alike, however much was played of each."""
+    many: Counter[tuple[int, int]] = Counter()
+    for group in parts:
+        many.update((robot, len(group)) for robot in group)
+    return lambda robot, group: float(rules.weight(len(group))) / many[robot, len(group)] / parts[group][robot].played

@@ -7,11 +7,12 @@ from typing import Sequence
 
 from tools.faults import Fault
 
-from .entries import Entrant, Entry, entries, playing
+from .entries import BEGIN, END, Entrant, Entry, corrections, entries, last_day, playing
 from .rules import Rules, rules
 from .store import Store
 
-COLUMNS = "number, name, begun, ended, first_entry, last_entry, rules"
+QUERY = ("SELECT number, name, begun, ending.day, first_entry, last_entry, rules FROM season "
+         "LEFT JOIN ending ON season = number ORDER BY number")
 
 
 @dataclass(frozen=True)
@@ -58,31 +59,36 @@ def begin(store: Store, name: str, day: str, by: Rules, divisions: dict[str, int
     if store.one("SELECT 1 FROM season WHERE name = ?", name):
         raise Fault(f"there was a season {name} already")
     count = store.one("SELECT count(*) FROM entry")[0]
-    columns = "name, begun, first_entry, rules"
-    number = store.run(f"INSERT INTO season ({columns}) VALUES (?, ?, ?, ?)", name, day, count, by.text())
-    rows = [(number, *it) for it in sorted(divisions.items())]
-    store.database.executemany("INSERT INTO member VALUES (?, ?, ?)", rows)
+    columns, after = "name, begun, first_entry, rules, publication", store.next()
+    number = store.run(f"INSERT INTO season ({columns}) VALUES (?, ?, ?, ?, ?)", name, day, count, by.text(), after)
+    rows = [(number, *it, after) for it in sorted(divisions.items())]
+    store.database.executemany("INSERT INTO member VALUES (?, ?, ?, ?)", rows)
 
 
-def end(store: Store, season: Season, day: str) -> None:
-    """Ends a season."""
-    count, last = store.one("SELECT count(*), max(day) FROM entry")
-    if day < max(season.begun, last or ""):
-        raise Fault(f"the season {season.name} began on {season.begun}, and the last entry is of {last}: "
+def end(store: Store, season: Season, day: str, missing: int) -> None:
+    """Ends a season, in which so many matches are missing."""
+    last = last_day(store)
+    if day < max(season.begun, last):
+        raise Fault(f"the season {season.name} began on {season.begun}, and the last entry is of {last or 'no day'}: "
                     f"it can't end on {day}")
-    store.run("UPDATE season SET ended = ?, last_entry = ? WHERE number = ?", day, count, season.number)
+    count = store.one("SELECT count(*) FROM entry")[0]
+    store.run("INSERT INTO ending VALUES (?, ?, ?, ?, ?)", season.number, day, count, missing, store.next())
 
 
-def settle(store: Store, season: Season, by: Rules) -> None:
+def settle(store: Store, season: Season, by: Rules, day: str) -> None:
     """Gives a season other rules."""
-    store.run("UPDATE season SET rules = ? WHERE number = ?", by.text(), season.number)
+    count = store.one("SELECT count(*) FROM entry")[0]
+    store.run("INSERT INTO ruling (day, season, entries, rules, publication) VALUES (?, ?, ?, ?, ?)", day, season.number,
+              count, by.text(), store.next())
 
 
 def seasons(store: Store) -> list[Season]:
-    """All seasons in their order."""
-    rows = store.rows(f"SELECT {COLUMNS} FROM season ORDER BY number")
-    return [Season(number, name, begun, ended or "", first, last, rules(text))
-            for number, name, begun, ended, first, last, text in rows]
+    """All seasons in their order, with their last rules, and with their days as they were corrected."""
+    rulings = dict(store.rows("SELECT season, rules FROM ruling WHERE rules != '' ORDER BY number"))
+    days = {(it.what, it.of): it.day for it in corrections(store)}
+    return [Season(number, name, days.get((BEGIN, number)) or begun, days.get((END, number)) or ended or "", first, last,
+                   rules(rulings.get(number, text)))
+            for number, name, begun, ended, first, last, text in store.rows(QUERY)]
 
 
 def season(store: Store, name: str | None = None) -> Season:

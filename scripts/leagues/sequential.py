@@ -28,21 +28,33 @@ SHARE. EVEN is decided when it has, and the same of the second robot. If m is ou
 improbable so.
 
 So with SHARE = ERROR / 2 what is decided of a pair is false with a chance of at most ERROR, however often it is looked
-at. By the sum over all pairs, of a table's pairs at most the share ERROR is expected to be decided falsely."""
+at. By the sum over all pairs, of a table's pairs at most the share ERROR is expected to be decided falsely.
+
+The interval. Against any mean m in place of 1/2 a match of share x multiplies the ratio for a chance p by
+
+    (p / m)**x * ((1 - p) / (1 - m))**(1 - x)   if x is 0 or 1, and by the mean of both, if x = 1/2
+
+By the same argument the average over all p ever comes to 1 / SHARE with a chance of at most SHARE if m is the mean. The
+interval is made of all m against which it hasn't come to that. It holds the mean with a chance of 1 - SHARE, whenever one
+looks. At m = 1/2 the average is `sides`: so 1/2 is outside of the interval just when a side is decided."""
 
 from __future__ import annotations
 
+import functools
 import math
 from dataclasses import dataclass
 from typing import Iterable
 
 ERROR = 0.05
 SHARE = ERROR / 2
+ENOUGH = -math.log(SHARE)
 MARGIN = 0.1
 # Bets against a difference: small ones if nearly all matches are won or lost, large ones if nearly all are ties.
 BETS = (0.4, 1.0, 2.2)
 # A pair is judged after each LOOK matches, of which both seatings have equally many.
 LOOK = 10
+# Of an interval: by how many halvings its ends are found, and at how many chances p the average is taken, at least.
+HALVINGS, NODES = 20, 80
 FIRST, SECOND, EVEN = "first", "second", "even"
 
 
@@ -72,6 +84,38 @@ def sides(it: Count) -> float:
     return both * math.log(2) + math.lgamma(it.won + 1) + math.lgamma(it.lost + 1) - math.lgamma(both + 2)
 
 
+def against(it: Count, mean: float) -> float:
+    """The logarithm of how much more likely the matches are than by this mean, by the average over all chances."""
+    nodes = NODES + 2 * math.isqrt(it.played)
+    logs = []
+    for node in range(nodes):
+        won, lost = (node + 0.5) / nodes / mean, (nodes - node - 0.5) / nodes / (1 - mean)
+        logs.append(it.won * math.log(won) + it.lost * math.log(lost) + it.even * math.log((won + lost) / 2))
+    most = max(logs)
+    return most + math.log(sum(math.exp(one - most) for one in logs) / nodes)
+
+
+@functools.cache
+def interval(it: Count) -> tuple[float, float]:
+    """All means against which the matches don't speak enough, whenever play stopped; all there are if nothing was played."""
+    if not it.played:
+        return 0.0, 1.0
+    return 1 - upper(it.turned), upper(it)
+
+
+def upper(it: Count) -> float:
+    """The upper end of the interval. It is on the side of 1/2 on which the decision says it is."""
+    near, far = (it.won + it.even / 2) / it.played, 1.0
+    if near == far:
+        return far
+    if near < 0.5:
+        near, far = (near, 0.5) if sides(it) >= ENOUGH else (0.5, far)
+    for _ in range(HALVINGS):
+        middle = (near + far) / 2
+        near, far = (middle, far) if against(it, middle) < ENOUGH else (near, middle)
+    return far
+
+
 def below(it: Count) -> float:
     """The logarithm of how much the matches speak against a first robot that is better by the margin or more."""
     middle = 0.5 + MARGIN
@@ -83,10 +127,9 @@ def below(it: Count) -> float:
 
 def looked(it: Count) -> str:
     """What is decided if these are all matches; nothing if more are needed."""
-    enough = -math.log(SHARE)
-    if sides(it) >= enough:
+    if sides(it) >= ENOUGH:
         return FIRST if it.won > it.lost else SECOND
-    return EVEN if min(below(it), below(it.turned)) >= enough else ""
+    return EVEN if min(below(it), below(it.turned)) >= ENOUGH else ""
 
 
 def decision(parts: Iterable[Count]) -> tuple[str, int]:

@@ -5,7 +5,7 @@ from __future__ import annotations
 import argparse
 import math
 from contextlib import closing
-from dataclasses import dataclass
+from dataclasses import dataclass, replace
 
 from tools.faults import Fault
 from tools.output import say, show
@@ -19,7 +19,7 @@ from tournaments.robots import Robot
 from tournaments.sessions import done
 from tournaments.settings import Group
 
-from .days import today
+from .days import given_day
 from .farm import planned
 from .locks import alone
 from .missing import missing, nearest
@@ -77,6 +77,7 @@ def checked(season: Season, found: Program) -> None:
 
 def play(given: argparse.Namespace) -> None:
     """Plays what is missing, or prints it."""
+    given_day(given)
     found = program(given.crobots)
     with opened(given.league) as store:
         if not given.plan:
@@ -84,7 +85,13 @@ def play(given: argparse.Namespace) -> None:
             return
         season = running(store)
         checked(season, found)
-        show(planned(wanted(store, season, given.jobs, given.piece).plan, found.path, given.piece, given.chunk))
+        plan = relative(wanted(store, season, given.jobs, given.piece).plan)
+        show(planned(plan, store.folder, found.path, given.piece, given.chunk))
+
+
+def relative(plan: Plan) -> Plan:
+    """A plan whose robots are named by their hashes, as the league's folder of sources has them."""
+    return replace(plan, robots=[Robot(it.sha256, it.sha256) for it in plan.robots])
 
 
 def play_all(store: Store, given: argparse.Namespace, found: Program) -> None:
@@ -114,7 +121,7 @@ def play_round(store: Store, given: argparse.Namespace, found: Program, by: Rule
         try:
             with closing(Player(found, given.jobs, now.folder).play(now.records, glance)) as ended:
                 for record in ended:
-                    keep_record(store, by, record, given.day or today())
+                    keep_record(store, by, record, given_day(given))
                     progress.count(record.series.matches)
         except Stopped as why:
             progress.clear()

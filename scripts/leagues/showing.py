@@ -4,9 +4,10 @@ from __future__ import annotations
 
 import argparse
 
+from tools.faults import Fault
 from tools.output import show
 
-from . import tables
+from . import decided, tables
 from .locks import is_played
 from .missing import missing
 from .publications import final, publications
@@ -22,12 +23,15 @@ def table(given: argparse.Namespace) -> None:
     with opened(given.league) as store, store.view():
         it = season(store, given.season)
         rows = rated(store, it)
-    if given.csv:
-        show([tables.comma(rows)])
-    elif given.json:
-        show([tables.everything(it, rows)])
+        pairs = [*decided.decided(Schedule(field(store, it)), Results(store, it.rules))] if given.pairs or given.json else []
+    if given.pairs and not it.rules.sure:
+        raise Fault("--pairs shows what the sequential test says, and this season has none")
+    if given.json:
+        show([tables.everything(it, rows, pairs)])
+    elif given.pairs:
+        show([decided.comma(pairs) if given.csv else decided.table(pairs)])
     else:
-        show([tables.table(it, rows)])
+        show([tables.comma(rows) if given.csv else tables.table(it, rows)])
 
 
 def rated(store: Store, it: Season) -> list[Standing]:
@@ -40,7 +44,7 @@ def status(given: argparse.Namespace) -> None:
     with opened(given.league) as store, store.view():
         it = season(store)
         there = field(store, it)
-        said = [*of_season(it), *it.rules.said(), *of_robots(store, there), *of_matches(store, there)]
+        said = [*of_season(it), *it.rules.said(), *of_robots(store, there), *of_matches(store, there), *of_pairs(store, there)]
         show(f"{name}: {value}\n" for name, value in said)
 
 
@@ -52,6 +56,13 @@ def of_robots(store: Store, there: Field) -> list[tuple[str, str]]:
     """How many robots play, and how many left."""
     ever = store.one("SELECT count(*) FROM robot")[0]
     return [("robots", f"{len(there.robots)} play, {ever - len(there.robots)} left")]
+
+
+def of_pairs(store: Store, there: Field) -> list[tuple[str, str]]:
+    """What the sequential test says of all pairs, if the season has it."""
+    if not there.rules.sure:
+        return []
+    return [("verdicts", decided.in_short([*decided.decided(Schedule(there), Results(store, there.rules))]))]
 
 
 def of_matches(store: Store, there: Field) -> list[tuple[str, str]]:

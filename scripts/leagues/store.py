@@ -16,40 +16,11 @@ from urllib.parse import quote
 
 from tools.faults import FILE, Fault, unwritable
 
-NAME = "league.db"
-APPLICATION = 0x43524F42
-VERSION = 1
-PATIENCE = 60.0
+from .older import BEFORE, renew
+from .schema import APPLICATION, SCHEMA, VERSION
 
-SCHEMA = """
-CREATE TABLE source (sha256 TEXT PRIMARY KEY, bytes BLOB NOT NULL) WITHOUT ROWID;
--- each robot that ever joined; its id is never given again
-CREATE TABLE robot (id TEXT PRIMARY KEY, author TEXT NOT NULL) WITHOUT ROWID;
--- what happened, in its order: a robot joined, got other bytes, or left; copy: how many others had these bytes before
-CREATE TABLE entry (number INTEGER PRIMARY KEY, day TEXT NOT NULL,
-    what TEXT NOT NULL CHECK (what IN ('add', 'change', 'withdraw')), robot TEXT NOT NULL REFERENCES robot,
-    sha256 TEXT NOT NULL REFERENCES source, copy INTEGER NOT NULL);
--- first_entry and last_entry: how many entries there were when it began and when it ended
-CREATE TABLE season (number INTEGER PRIMARY KEY, name TEXT NOT NULL UNIQUE, begun TEXT NOT NULL, ended TEXT,
-    first_entry INTEGER NOT NULL, last_entry INTEGER, rules TEXT NOT NULL);
-CREATE TABLE member (season INTEGER NOT NULL REFERENCES season, robot TEXT NOT NULL REFERENCES robot,
-    division INTEGER NOT NULL, PRIMARY KEY (season, robot)) WITHOUT ROWID;
--- robots in their seats, by their bytes, and the seed of their matches; program: the hash of what plays the season
-CREATE TABLE seating (number INTEGER PRIMARY KEY, hashes TEXT NOT NULL, seed TEXT NOT NULL, cycles INTEGER NOT NULL,
-    profile INTEGER NOT NULL, program TEXT NOT NULL, UNIQUE (seed, hashes, cycles, profile, program));
--- a match: after how many cycles it ended, and with which damage the robot of each seat
-CREATE TABLE battle (seating INTEGER NOT NULL REFERENCES seating, number INTEGER NOT NULL, cycles INTEGER NOT NULL,
-    damage1 INTEGER NOT NULL, damage2 INTEGER NOT NULL, damage3 INTEGER, damage4 INTEGER, day TEXT NOT NULL,
-    PRIMARY KEY (seating, number)) WITHOUT ROWID;
--- a table as it was shown on a day; final: as its season ended
-CREATE TABLE publication (number INTEGER PRIMARY KEY, season INTEGER NOT NULL REFERENCES season, day TEXT NOT NULL,
-    final INTEGER NOT NULL);
-CREATE TABLE standing (publication INTEGER NOT NULL REFERENCES publication, robot TEXT NOT NULL REFERENCES robot,
-    sha256 TEXT NOT NULL, division INTEGER NOT NULL, rank INTEGER NOT NULL, played INTEGER NOT NULL,
-    won INTEGER NOT NULL, tied INTEGER NOT NULL, lost INTEGER NOT NULL, points TEXT NOT NULL,
-    rating REAL NOT NULL, low REAL NOT NULL, high REAL NOT NULL,
-    PRIMARY KEY (publication, robot)) WITHOUT ROWID;
-"""
+NAME = "league.db"
+PATIENCE = 60.0
 
 
 @dataclass(frozen=True)
@@ -69,6 +40,10 @@ class Store:
     def run(self, query: str, *values: Any) -> int:
         """Changes something; answers the number of the row that was added last."""
         return self.database.execute(query, values).lastrowid or 0
+
+    def next(self) -> int:
+        """The number of the publication that will show first what is added now."""
+        return int(self.one("SELECT coalesce(max(number), 0) + 1 FROM publication")[0])
 
     @contextlib.contextmanager
     def change(self) -> Iterator[None]:
@@ -115,13 +90,14 @@ def made(folder: str) -> Iterator[Store]:
 
 
 @contextlib.contextmanager
-def filled(path: str) -> Iterator[sqlite3.Connection]:
-    """A new database with its tables."""
+def filled(path: str, tables: str = SCHEMA) -> Iterator[sqlite3.Connection]:
+    """A new database with these tables."""
     with told(path), contextlib.closing(sqlite3.connect(path, isolation_level=None)) as database:
         database.execute("PRAGMA journal_mode = WAL")
         database.execute("PRAGMA foreign_keys = ON")
-        marks = f"PRAGMA application_id = {APPLICATION}; PRAGMA user_version = {VERSION};"
-        database.executescript(f"BEGIN; {SCHEMA} {marks} COMMIT")
+        version = VERSION if tables == SCHEMA else BEFORE
+        marks = f"PRAGMA application_id = {APPLICATION}; PRAGMA user_version = {version};"
+        database.executescript(f"BEGIN; {tables} {marks} COMMIT")
         yield database
 
 
@@ -146,12 +122,28 @@ def connected(path: str) -> sqlite3.Connection:
         database.execute("PRAGMA foreign_keys = ON")
         if database.execute("PRAGMA application_id").fetchone()[0] != APPLICATION:
             raise Fault(f"{path} is no database of a league", FILE)
-        if database.execute("PRAGMA user_version").fetchone()[0] != VERSION:
-            raise Fault(f"{path} is of another version of this script", FILE)
+        return renewed(database, path, mode == "mode=rw")
     except BaseException:
         database.close()
         raise
-    return database
+
+
+def renewed(database: sqlite3.Connection, path: str, may_write: bool) -> sqlite3.Connection:
+    """A database of this version: one of the version before becomes it, if need be a copy of it in memory."""
+    version = database.execute("PRAGMA user_version").fetchone()[0]
+    if version == VERSION:
+        return database
+    if version > VERSION:
+        raise Fault(f"{path} is of a later version of this script", FILE)
+    if may_write:
+        renew(database)
+        return database
+    copy = sqlite3.connect(":memory:", isolation_level=None)
+    with contextlib.closing(database):
+        database.backup(copy)
+    renew(copy)
+    copy.execute("PRAGMA query_only = ON")
+    return copy
 
 
 def escaped(path: str) -> str:

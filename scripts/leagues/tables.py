@@ -7,6 +7,8 @@ from typing import Any, Sequence
 
 from tournaments.tables import aligned, comma_separated, rounded
 
+from .decided import Pair
+from .decided import everything as everything_of
 from .seasons import Season
 from .standings import Standing
 
@@ -38,10 +40,11 @@ def comma(standings: Sequence[Standing]) -> str:
     return comma_separated([["division", *HEAD], *([str(it.division), *cells(it)] for it in standings)])
 
 
-def everything(season: Season, standings: Sequence[Standing]) -> str:
-    """The table as JSON."""
+def everything(season: Season, standings: Sequence[Standing], pairs: Sequence[Pair]) -> str:
+    """The table as JSON, with what the sequential test says of pairs."""
     return json.dumps({"season": season.name, "begun": season.begun, "ended": season.ended or None,
-                       "rules": json.loads(season.rules.text()), "table": [*map(values, standings)]}, indent=1) + "\n"
+                       "rules": json.loads(season.rules.text()), "table": [*map(values, standings)],
+                       **({"pairs": everything_of(pairs)} if pairs else {})}, indent=1) + "\n"
 
 
 def values(it: Standing) -> dict[str, Any]:

@@ -12,7 +12,7 @@ from tournaments.tables import aligned
 from tournaments.words import SEED_MAX
 
 from . import publications, seasons
-from .days import today
+from .days import given_day
 from .entries import entries, playing
 from .missing import missing
 from .results import Results
@@ -48,9 +48,9 @@ def end(store: Store, given: argparse.Namespace) -> None:
     left = sum(it.matches for it in missing(schedule, results))
     if left and not given.unfinished:
         raise Fault(f"{left} matches are missing; `play` plays them, and --unfinished ends the season without them")
-    day = given.day or today()
-    seasons.end(store, season, day)
-    publications.publish(store, season, day, standings(schedule, results), final=True)
+    day = given_day(given)
+    seasons.end(store, season, day, left)
+    publications.publish(store, season, day, standings(schedule, results), left, final=True)
 
 
 def begin(store: Store, given: argparse.Namespace) -> None:
@@ -58,7 +58,7 @@ def begin(store: Store, given: argparse.Namespace) -> None:
     last = seasons.season(store)
     if not last.ended:
         raise Fault(f"the season {last.name} goes on; `season end` ends it")
-    day = given.day or today()
+    day = given_day(given)
     if day < last.ended:
         raise Fault(f"the season {last.name} ended on {last.ended}, so none can begin on {day}")
     seed = (last.rules.seed + 1) % (SEED_MAX + 1)

@@ -6,7 +6,7 @@ import argparse
 import os
 import random
 from contextlib import closing
-from dataclasses import dataclass
+from dataclasses import dataclass, replace
 from itertools import zip_longest
 from typing import Iterator
 
@@ -17,20 +17,24 @@ from tournaments import seats
 from tournaments.playing import Player
 from tournaments.programs import Program, program, version
 from tournaments.progress import Progress
+from tournaments.ratings import NOTHING
 from tournaments.records import Match, Record, Series
 from tournaments.robots import Robot, private
 from tournaments.settings import Settings
 
-from . import archives, tables
+from . import archives, publications, tables
 from .archives import SOURCES
+from .completeness import Finding, beyond, lacking
+from .consistency import copies, inconsistent, last_table
+from .keys import copies_of, possible
+from .past import changed_since
 from .publications import final
 from .results import Results, ended
 from .schedules import Schedule
 from .seasons import Season, field, seasons
 from .sources import replaced
-from .standings import standings
+from .standings import Standing, standings
 from .store import Store
-from .taking import copies_of, possible
 
 MATCHES = 100
 # Most matches that are replayed by one run of the program.
@@ -52,18 +56,34 @@ class Run:
 
 
 def verify(given: argparse.Namespace) -> None:
-    """Compares an archive with what is played now."""
+    """Compares an archive with what is played now, with its rules, and with what it was before."""
     found = program(given.crobots)
     with archives.read(given.archive) as (store, table):
-        wrong = [*sources(store), *seeds(store), *table_of(store, table)]
+        changes = changed_since(store, given.since) if given.since else ()
+        said = [*findings(store, table), *(Finding(True, it) for it in changes)]
         runs = chosen(store, None if given.all else given.number or MATCHES)
-        wrong += replayed(store, found, given, runs)
+        said += [Finding(True, it) for it in replayed(store, found, given, runs)]
         total = store.one("SELECT count(*) FROM battle")[0]
-    show(f"{archives.shown(why)}\n" for why in wrong)
-    count = sum(len(run.matches) for run in runs)
-    show([f"{count} of {total} matches were replayed, {len(wrong) or 'no'} differences\n"])
+        last = publications.latest(store)
+    show(f"{archives.shown(it.said)}\n" for it in said)
+    count, wrong = sum(len(run.matches) for run in runs), sum(it.is_wrong for it in said)
+    show([f"{count} of {total} matches were replayed, {wrong or 'no'} differences\n"])
+    if last and last.hash:
+        show([f"publication {last.number} has the hash {archives.shown(last.hash)}\n"])
     if wrong:
         raise Fault(f"{given.archive} is not what its robots and rules come to", FAULTY)
+
+
+def findings(store: Store, table: str) -> Iterator[Finding]:
+    """All that is to be said of an archive, without any match being replayed."""
+    if wrong := [*copies(store)]:
+        yield from (Finding(True, it) for it in wrong)
+        return
+    for check in (sources, seeds, inconsistent):
+        yield from (Finding(True, it) for it in check(store))
+    yield from lacking(store)
+    yield from beyond(store)
+    yield from (Finding(True, it) for it in table_of(store, table))
 
 
 def sources(store: Store) -> Iterator[str]:
@@ -86,11 +106,32 @@ def table_of(store: Store, table: str) -> Iterator[str]:
     """Rows of tables that the results don't come to: of the last season's, and of those with which others ended."""
     last = seasons(store)[-1]
     for season in seasons(store):
-        ours = tables.comma(standings(Schedule(field(store, season)), Results(store, season.rules)))
+        ours = standings(Schedule(field(store, season)), Results(store, season.rules))
         if season == last:
-            yield from unequal(season, table, ours)
+            theirs, wanted = table, tables.comma(ours)
+            if publications.scale(store) != publications.SCALE:
+                theirs, wanted = unrated(theirs), unrated(wanted)
+            yield from unequal(season, theirs, wanted)
+            yield from last_table(store, ours)
         if season.ended:
-            yield from unequal(season, tables.comma(final(store, season)), ours)
+            yield from ended_table(store, season, ours)
+
+
+def ended_table(store: Store, season: Season, ours: list[Standing]) -> Iterator[str]:
+    """Rows of the table with which a season ended. Ratings of another scale aren't compared."""
+    them = [it for it in publications.every(store) if it.season == season.number and it.final]
+    if not them:
+        yield f"the season {season.name} ended without a table"
+        return
+    theirs = final(store, season)
+    if them[-1].scale != publications.SCALE:
+        theirs, ours = ([replace(it, rating=NOTHING, close=False) for it in rows] for rows in (theirs, ours))
+    yield from unequal(season, tables.comma(theirs), tables.comma(ours))
+
+
+def unrated(table: str) -> str:
+    """A table without its last four columns: those that ratings decide."""
+    return "".join(line.rsplit(",", 4)[0] + "\n" for line in table.splitlines())
 
 
 def unequal(season: Season, theirs: str, ours: str) -> Iterator[str]:

@@ -8,25 +8,29 @@ import re
 from dataclasses import replace
 from typing import Any
 
+from sites.addresses import page as address
 from tools.faults import Fault
 from tournaments.words import CYCLES_MAX, MATCHES_MAX, SEED_MAX, Parser, decimals, within
 
 from .days import day
-from .entries import ID
+from .entries import BEGIN, END, ENTRY, ID
 from .rules import FOURS, GAUNTLET, LADDER, PAIRS, SIZES, THREES, Rules
 
 MODE = rf"({PAIRS}|{THREES}|{FOURS}|{LADDER})|({SIZES}):(.*)|({GAUNTLET}):({ID.pattern})"
 ANCHOR = rf"({ID.pattern})=(-?[0-9]{{1,4}})"
 MODES = "pairs, threes, fours, sizes:A,B,C, ladder, gauntlet:ROBOT"
 ALL, SURE = "all", "sure"
+SHOWN, HIDDEN = "shown", "hidden"
 DIVISIONS_MAX = 100
+CORRECTED = (ENTRY, BEGIN, END)
+TEXT_MAX = 200
 
 
 def mode(text: str) -> dict[str, Any]:
     """Reads who plays whom."""
     found = re.fullmatch(MODE, text)
     if not found:
-        raise argparse.ArgumentTypeError(f"{text!r} is none of {MODES}")
+        raise argparse.ArgumentTypeError(f"'{text}' is none of {MODES}")
     if found[2]:
         weights = decimals(3)(found[3])
         if not any(weights):
@@ -41,7 +45,7 @@ def anchor(text: str) -> dict[str, Any]:
     if text == "none":
         return {"anchor": "", "anchored": 0}
     if not found:
-        raise argparse.ArgumentTypeError(f"{text!r} is no ROBOT=RATING")
+        raise argparse.ArgumentTypeError(f"'{text}' is no ROBOT=RATING")
     return {"anchor": found[1], "anchored": int(found[2])}
 
 
@@ -67,6 +71,8 @@ def of_rules(it: argparse.ArgumentParser) -> None:
         help="play only N groups, drawn by their robots; 0 for all (default 0)")
     one("--until", metavar="all|sure", choices=(ALL, SURE),
         help="play all matches of a pair, or until its result is sure (default all)")
+    one("--sources", metavar="shown|hidden", choices=(SHOWN, HIDDEN),
+        help="show sources, or those of new robots only when the season has ended (default shown)")
     one("--anchor", metavar="ROBOT=RATING", type=anchor, help="the robot with a fixed rating, or none (default none)")
     of_program(rules)
 
@@ -79,6 +85,8 @@ def ruled(before: Rules, given: argparse.Namespace) -> Rules:
         changes |= getattr(given, name) or {}
     if given.until is not None:
         changes["sure"] = given.until == SURE
+    if given.sources is not None:
+        changes["hidden"] = given.sources == HIDDEN
     return checked(replace(before, **changes))
 
 
@@ -95,6 +103,19 @@ def checked(it: Rules) -> Rules:
 
 def of_day(it: argparse.ArgumentParser) -> None:
     it.add_argument("--day", metavar="YYYY-MM-DD", type=day, help="the day that is written down (default: today)")
+    it.add_argument("--future", action="store_true", help="take a day that is in the future")
+
+
+def of_reason(it: argparse.ArgumentParser) -> None:
+    it.add_argument("--why", metavar="TEXT", type=text, required=True, help="the reason, which stays in the history")
+    of_day(it)
+
+
+def text(said: str) -> str:
+    """Reads a short text that can be shown."""
+    if not said.isprintable() or not 1 <= len(said) <= TEXT_MAX or any("\ud800" <= it <= "\udfff" for it in said):
+        raise argparse.ArgumentTypeError(f"{said!r} isn't a text of 1 to {TEXT_MAX} letters that can be shown")
+    return said
 
 
 def of_playing(it: argparse.ArgumentParser) -> None:
@@ -127,6 +148,14 @@ class Words:
         self._playing()
         self._showing()
 
+    def parse(self, arguments: list[str]) -> argparse.Namespace:
+        """Reads the words. Options of a command and its other words may stand in any order."""
+        command = self._commands.choices.get(arguments[0]) if arguments else None
+        if command is None:
+            return self.parser.parse_args(arguments)
+        given = argparse.Namespace(command=arguments[0], script=self.parser.get_default("script"))
+        return command.parse_intermixed_args(arguments[1:], given)
+
     def _command(self, name: str, does: str) -> Parser:
         said = does[0].upper() + does[1:] + "."
         it = self._commands.add_parser(name, help=does, description=said, allow_abbrev=False)
@@ -147,6 +176,7 @@ class Words:
         of_program(it)
         of_day(it)
         it.add_argument("robots", metavar="ROBOT", nargs="+", help="source files")
+        self._handing_in()
         it = self._command("change", "gives a robot other bytes")
         it.add_argument("id", metavar="ID", help="the robot's id")
         it.add_argument("robot", metavar="ROBOT", help="its source file")
@@ -155,6 +185,22 @@ class Words:
         it = self._command("withdraw", "lets robots leave; their matches are kept")
         it.add_argument("ids", metavar="ID", nargs="+", help="robots' ids")
         of_day(it)
+        it = self._command("correct", "takes the latest entry back, or gives it or the season another day")
+        it.add_argument("what", metavar="entry|begin|end", choices=CORRECTED, help="what is put right")
+        it.add_argument("--to", metavar="YYYY-MM-DD", type=day, help="the right day")
+        it.add_argument("--undo", action="store_true", help="take it back")
+        it.add_argument("--last", metavar="N", type=within(1, 10_000), default=1, help="the latest N entries (default 1)")
+        of_reason(it)
+
+    def _handing_in(self) -> None:
+        """Who plays, by folders."""
+        it = self._command("take-in", "takes robots from a folder that has a folder for each author")
+        it.add_argument("--authors", metavar="FILE",
+                        help="a table of comma-separated values, folder and author (default: the folders' names)")
+        it.add_argument("--all-or-none", action="store_true", help="take nothing if any file is faulty")
+        of_program(it)
+        of_day(it)
+        it.add_argument("folder", metavar="FOLDER", help="the folder with the authors' folders")
 
     def _playing(self) -> None:
         """What is played."""
@@ -168,7 +214,18 @@ class Words:
         of_day(it)
         it = self._command("take", "takes what the command lines of a plan wrote")
         it.add_argument("files", metavar="FILE", nargs="*", help="what they wrote (default: standard input)")
+        it.add_argument("--worker", metavar="NAME", type=text, help="from where it comes (default: the file's name)")
+        how = it.add_mutually_exclusive_group()
+        how.add_argument("--check", action="store_true", help="play all of it again before it is taken (default: a part)")
+        how.add_argument("--unchecked", action="store_true", help="play nothing of it again")
+        of_jobs(it)
+        of_program(it)
         of_day(it)
+        it = self._command("drop", "takes matches of the season back, which are played again")
+        it.add_argument("--worker", metavar="NAME", help="those that were taken from there")
+        it.add_argument("--played", metavar="YYYY-MM-DD", type=day, help="those of this day")
+        it.add_argument("--robot", metavar="ID", help="those of this robot")
+        of_reason(it)
         it = self._command("season", "lists the seasons, ends the one that goes on, or begins another")
         it.add_argument("what", metavar="end|begin", nargs="?", choices=("end", "begin"),
                         help="what to do (default: list them)")
@@ -184,15 +241,17 @@ class Words:
     def _showing(self) -> None:
         """What is shown."""
         self._command("status", "says how many robots there are and what is missing")
+        self._command("history", "says what was ever done")
         it = self._command("table", "prints the table")
         it.add_argument("--season", metavar="NAME", help="the season (default: the last one)")
         forms = it.add_mutually_exclusive_group()
         forms.add_argument("--csv", action="store_true", help="print it as comma-separated values")
         forms.add_argument("--json", action="store_true", help="print it as JSON")
+        it.add_argument("--pairs", action="store_true", help="print what the sequential test says of each pair")
         it = self._command("publish", "writes the league's site into a folder, and keeps the table of this day")
         it.add_argument("site", metavar="DIR", help="the folder of the site")
         it.add_argument("--title", metavar="TEXT", help="the site's title (default: the league's folder)")
-        it.add_argument("--page", metavar="URL", default="", help="the page that plays battles in a browser")
+        it.add_argument("--page", metavar="URL", default="", type=address, help="the page that plays battles in a browser")
         it.add_argument("--replays", metavar="N", type=within(0, 100_000), default=100,
                         help="make at most N new pages of matches, if crobots-trace is there (default 100)")
         it.add_argument("--sums", metavar="N", type=within(0, 1000), default=10,
@@ -201,6 +260,8 @@ class Words:
         of_day(it)
         it = self._command("verify", "replays matches of an archive, and compares")
         it.add_argument("--all", action="store_true", help="replay all of its matches")
+        it.add_argument("--since", metavar="OLDER", default="",
+                        help="say what was changed since an older archive, or since the hash of a publication")
         of_playing(it)
         it.add_argument("number", metavar="N", nargs="?", type=within(1, 10**9),
                         help="how many matches, drawn by chance (default 100)")

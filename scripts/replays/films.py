@@ -77,6 +77,8 @@ class Film:
             raise Fault("the match has none of these cycles")
         if not self.names or len(self._ended) != len(self.names):
             raise Fault("the film has no end", UNWRITTEN)
+        if not self._placed:
+            raise Fault("the match has no update in these cycles")
         if len(self._placed) != len(self.names):
             raise Fault("the film has no place of a robot", UNWRITTEN)
 

@@ -44,6 +44,8 @@ def write(text: str, path: str = "") -> None:
                 file.write(text.encode())
         else:
             output.write_all(output.OUTPUT, text.encode())
+    except BrokenPipeError:
+        raise
     except OSError as why:
         raise Fault(f"cannot write {path}".rstrip(), UNWRITTEN) from why
 

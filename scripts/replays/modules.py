@@ -45,6 +45,13 @@ def wrapped(path: str) -> str:
     return f"modules.{name_of(path)} = (() => {{\n{body}return {{{exports}}};\n}})();\n"
 
 
+def waiting_script(path: str) -> str:
+    """A module, with those that it imports, as a function that runs them when it is called, and answers what the module exports."""
+    paths = in_order(os.path.normpath(path))
+    assert len(set(map(name_of, paths))) == len(paths), paths
+    return '() => {\n"use strict";\nconst modules = {};\n' + "".join(map(wrapped, paths)) + f"return modules.{name_of(path)};\n}}"
+
+
 def script_of(path: str) -> str:
     """A module, with those that it imports, as one script."""
     paths = in_order(os.path.normpath(path))

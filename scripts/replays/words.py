@@ -4,6 +4,8 @@ from __future__ import annotations
 
 from dataclasses import dataclass
 
+from tools.faults import Misuse
+from tools.output import written_over
 from tools.words import given, number
 
 NAME = "crobots-replay"
@@ -46,5 +48,8 @@ class Asked:
 
 def read(words: list[str]) -> Asked:
     """Reads the words. What is wrong with values and files `trace` says."""
-    it = given(words, OPTIONS, ("--inside",))
-    return Asked(it.handed_on(but=("-o",)), number(it.last("-k", "-f")), it.files, it.once("-o") or "", it.flags)
+    it = given(words, OPTIONS, ("--inside",)).some_files()
+    file = it.once("-o") or ""
+    if why := written_over(file, it.files):
+        raise Misuse(f"-o {why}")
+    return Asked(it.handed_on(but=("-o",)), number(it.last("-k", "-f")), it.files, file, it.flags)

@@ -54,5 +54,7 @@ def ways(lookup: Lookup, replays: Replays, battle: Battle, up: str) -> Markup:
 
 
 def command(lookup: Lookup, battle: Battle) -> Markup:
-    """The command line that plays the match again, in the site's folder."""
+    """The command line that plays the match again, in the site's folder, if all sources are there."""
+    if not lookup.sources(battle):
+        return Markup("")
     return command_line(commands.again(lookup.facts.settings, battle, lookup.files(battle)))

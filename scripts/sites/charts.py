@@ -4,14 +4,15 @@ from __future__ import annotations
 
 import datetime
 import functools
-from typing import Sequence
+from itertools import groupby
+from typing import Protocol, Sequence
 
 from .facts import Place, Score
 from .markup import Markup, joined, tag
 from .scales import Scale, scale
 
 ROW_WIDTH, ROW_HEIGHT = 270, 26
-TIME_WIDTH, TIME_HEIGHT, TIME_LEFT, TIME_BOTTOM = 760, 230, 48, 28
+TIME_WIDTH, TIME_HEIGHT, TIME_LEFT, TIME_BOTTOM, TIME_TOP = 760, 240, 48, 28, 18
 MINUS = "\N{MINUS SIGN}"
 
 
@@ -104,17 +105,48 @@ def during(days: Sequence[str], changes: Sequence[str]) -> list[str]:
     return [day for day in changes if days[0] < day <= days[-1]]
 
 
-def over_time(days: Sequence[str], places: Sequence[Place], changes: Sequence[str], label: str) -> Markup:
-    """A rating over time with its interval, and a dotted line at each day of a new version."""
+class Stay(Protocol):
+    """Where a robot was on a day, in a season."""
+
+    @property
+    def day(self) -> str: ...
+
+    @property
+    def season(self) -> str: ...
+
+    @property
+    def place(self) -> Place: ...
+
+
+def over_time(found: Sequence[Stay], changes: Sequence[str], label: str) -> Markup:
+    """A rating over time with its interval, and a dotted line at each day of a new version.
+
+    Each season has a line of its own, which begins at a line with its name, if there are several."""
+    days = [it.day for it in found]
     every = sorted({*days, *during(days, changes)})
     times = dict(zip(every, moments(every)))
     across = Scale(times[days[0]], max(times[days[-1]], times[days[0]] + 1), TIME_LEFT + 6, TIME_WIDTH - 14)
-    up = scale([end for it in places for end in (it.low, it.high)], TIME_HEIGHT - TIME_BOTTOM, 8)
+    up = scale([end for it in found for end in (it.place.low, it.place.high)], TIME_HEIGHT - TIME_BOTTOM, TIME_TOP)
     xs = [across.at(times[day]) for day in days]
-    new = [upright(across.at(times[day]), 8, TIME_HEIGHT - TIME_BOTTOM, "change") for day in during(days, changes)]
-    return svg(TIME_WIDTH, TIME_HEIGHT, *levels(up), *first_and_last(days, xs), *new, band(up, xs, places),
-               tag("polyline", points=" ".join(f"{x},{up.at(it.rating)}" for x, it in zip(xs, places)), class_="way"),
-               *(point(x, up, day, it) for x, day, it in zip(xs, days, places)), label=label, kind="time axis")
+    new = [upright(across.at(times[day]), TIME_TOP, TIME_HEIGHT - TIME_BOTTOM, "change") for day in during(days, changes)]
+    parts = [[*part] for _, part in groupby(zip(xs, found), lambda it: it[1].season)]
+    marks = [season_mark(part[0][0], part[0][1].season) for part in parts] if len(parts) > 1 else []
+    return svg(TIME_WIDTH, TIME_HEIGHT, *levels(up), *first_and_last(days, xs), *new, *marks,
+               *(of_season(up, part) for part in parts), label=label, kind="time axis")
+
+
+def of_season(up: Scale, part: Sequence[tuple[float, Stay]]) -> Markup:
+    """The line of a season, with its band and its points."""
+    xs, places = [x for x, _ in part], [it.place for _, it in part]
+    way = tag("polyline", points=" ".join(f"{x},{up.at(it.rating)}" for x, it in zip(xs, places)), class_="way")
+    return joined(band(up, xs, places), way, *(point(x, up, it.day, it.place) for x, it in part))
+
+
+def season_mark(x: float, season: str) -> Markup:
+    """Where a season begins: its name stands above, on the side where there is room."""
+    is_late = x > TIME_WIDTH / 2
+    name = text(x - 4 if is_late else x + 4, TIME_TOP - 4, season, "end" if is_late else "start")
+    return joined(upright(x, TIME_TOP - 10, TIME_HEIGHT - TIME_BOTTOM, "begin"), name)
 
 
 def levels(up: Scale) -> list[Markup]:

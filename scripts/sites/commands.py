@@ -1,17 +1,14 @@
-"""Command lines: as a reader copies them into a shell."""
+"""The words of command lines: of those that play or show a match again."""
 
 from __future__ import annotations
 
-import re
-import shlex
-from typing import Iterable, Sequence
+from typing import Sequence
+
+from tools import shells
 
 from .facts import Battle, Settings
-from .names import UNSEEN
 
-
-# A word that needs no quotes.
-PLAIN = re.compile("[A-Za-z0-9_./-]+")
+line, quoted = shells.line, shells.quoted
 
 
 def again(settings: Settings, battle: Battle, files: Sequence[str]) -> list[str]:
@@ -32,22 +29,3 @@ def shared(settings: Settings, battle: Battle) -> list[str]:
 def dashless(path: str) -> str:
     """A path that is no option."""
     return f"./{path}" if path.startswith("-") else path
-
-
-def line(words: Iterable[str]) -> str:
-    """A command line of these words."""
-    return " ".join(map(quoted, words))
-
-
-def quoted(word: str) -> str:
-    """A word for a shell. One with bytes that can't be shown is written as bash and zsh read it: with their codes."""
-    if PLAIN.fullmatch(word):
-        return word
-    if not UNSEEN.search(word):
-        return shlex.quote(word)
-    return "$'" + re.sub(rb"[^ -&(-\[\]-~]", octal, word.encode("utf-8", "surrogateescape")).decode() + "'"
-
-
-def octal(found: re.Match[bytes]) -> bytes:
-    """The code of a byte."""
-    return f"\\{found[0][0]:03o}".encode()

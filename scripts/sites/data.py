@@ -5,17 +5,19 @@ from __future__ import annotations
 import csv
 import io
 import json
-from typing import Any, Iterable
+from dataclasses import asdict
+from typing import Any, Iterable, Iterator
 
 from . import commands, places
-from .facts import Battle, Pair, Robot, Score, Standing, Table, Version
+from .facts import Battle, Pair, Robot, Score, Season, Standing, Table, Version
 from .lookups import Lookup
 from .names import shown
-from .numbers import decimal
+from .numbers import decimal, tenth
 from .shares import share
+from .verdicts import said, verdict
 
-TABLE = ("rank", "robot", "name", "author", "played", "won", "tied", "lost", "points", "rating", "low", "high", "close")
-PAIRS = ("robot", "against", "played", "won", "tied", "lost", "both_lost", "share", "low", "high")
+TABLE = ("division", "rank", "robot", "name", "author", "played", "won", "tied", "lost", "points", "rating", "low", "high", "close")
+PAIRS = ("robot", "against", "played", "won", "tied", "lost", "both_lost", "share", "low", "high", "verdict")
 
 
 def comma_separated(head: Iterable[str], rows: Iterable[Iterable[object]]) -> str:
@@ -34,8 +36,8 @@ def shown_lines(text: str) -> str:
 def table(lookup: Lookup) -> str:
     """The table, a row a robot."""
     return comma_separated(TABLE, (
-        (it.rank, it.robot, lookup.robots[it.robot].name, lookup.robots[it.robot].author, it.score.played, it.score.won,
-         it.score.tied, it.score.lost, decimal(it.points), round(it.rating, 1), round(it.low, 1), round(it.high, 1),
+        (it.division, it.rank, it.robot, lookup.robots[it.robot].name, lookup.robots[it.robot].author, it.score.played, it.score.won,
+         it.score.tied, it.score.lost, decimal(it.points), tenth(it.rating), tenth(it.low), tenth(it.high),
          "close" if it.close else "")
         for it in lookup.facts.standings))
 
@@ -44,34 +46,48 @@ def pairs(lookup: Lookup) -> str:
     """The pairs, a row for each of both sides."""
     return comma_separated(PAIRS, (
         (it.one, it.other, it.score.played, it.score.won, it.score.tied, it.score.lost, it.score.both,
-         round(share(it.score), 4), round(it.low, 4), round(it.high, 4))
+         round(share(it.score), 4), round(it.low, 4), round(it.high, 4), said(verdict(it)))
         for robot in lookup.facts.robots for it in lookup.opponents(robot.id)))
 
 
 def everything(lookup: Lookup) -> str:
-    """All facts as JSON, but for sources, which are files of the site. Each robot, row, pair and table is a line."""
+    """All facts as JSON, but for sources, which are files of the site, and for what the data files have of pairs beside their scores.
+
+    Each robot, row, pair and table is a line."""
+    return "".join(pieces(lookup))
+
+
+def pieces(lookup: Lookup) -> Iterator[str]:
+    """The same in pieces: a large league has much of it."""
     facts = lookup.facts
-    settings = facts.settings
-    head = {
+    for at, (name, it) in enumerate(head(lookup).items()):
+        yield f"{',' if at else '{'}{json.dumps(name)}: {json.dumps(it)}\n"
+    lists: dict[str, Iterable[dict[str, Any]]] = {
+        "robots": (robot(lookup, it) for it in facts.robots),
+        "table": map(standing, facts.standings),
+        "pairs": map(pair, facts.pairs),
+        "earlier": map(earlier, facts.earlier),
+        "seasons": map(season, facts.seasons),
+    }
+    for name, rows in lists.items():
+        yield f",{json.dumps(name)}: [\n"
+        for at, row in enumerate(rows):
+            yield f"{',' * bool(at)}{json.dumps(row)}\n"
+        yield "]\n"
+    yield "}\n"
+
+
+def head(lookup: Lookup) -> dict[str, Any]:
+    """What there is once."""
+    facts, settings = lookup.facts, lookup.facts.settings
+    return {
         "title": facts.title, "day": facts.day,
         "settings": {"matches": settings.matches, "cycles": settings.cycles, "seed": settings.seed,
                      "profile": settings.profile, "sizes": settings.sizes, **dict(settings.more)},
         "program": {"version": facts.program.version, "sha256": facts.program.sha256},
-        "archive": places.archive_file(facts.archive) if facts.archive else None,
+        "archive": places.archive_file(facts.archive) if facts.archive else None, "hash": facts.hash or None,
+        "season": facts.season, "divisions": facts.divisions,
     }
-    lists = {
-        "robots": [robot(lookup, it) for it in facts.robots],
-        "table": [standing(it) for it in facts.standings],
-        "pairs": [pair(lookup, it) for it in facts.pairs],
-        "earlier": [earlier(it) for it in facts.earlier],
-    }
-    parts = [f"{json.dumps(name)}: {json.dumps(it)}" for name, it in head.items()]
-    parts += [f"{json.dumps(name)}: [\n{','.join(map(line, rows))}]" for name, rows in lists.items()]
-    return "{" + ",\n".join(parts) + "}\n"
-
-
-def line(row: dict[str, Any]) -> str:
-    return json.dumps(row) + "\n"
 
 
 def score(it: Score) -> dict[str, int]:
@@ -85,7 +101,8 @@ def both(it: Score) -> dict[str, int]:
 
 def robot(lookup: Lookup, it: Robot) -> dict[str, Any]:
     return {
-        "id": it.id, "name": it.name, "author": it.author, "withdrawn": it.withdrawn, "page": places.robot_page(it.id),
+        "id": it.id, "name": it.name, "author": it.author, "withdrawn": it.withdrawn, "copied": it.copied or None,
+        "page": places.robot_page(it.id), "data": places.data_file(it.id),
         "versions": [version(it, one) for one in it.versions],
         "lost": [battle(lookup, one) for one in it.lost],
     }
@@ -97,21 +114,22 @@ def version(robot: Robot, it: Version) -> dict[str, Any]:
 
 
 def standing(it: Standing) -> dict[str, Any]:
-    return {"rank": it.rank, "robot": it.robot, **score(it.score), "points": float(it.points), "rating": it.rating,
+    return {"division": it.division, "rank": it.rank, "robot": it.robot, **score(it.score), "points": float(it.points), "rating": it.rating,
             "low": it.low, "high": it.high, "close": it.close}
 
 
 def earlier(it: Table) -> dict[str, Any]:
-    return {"day": it.day, "table": {robot: vars(place) for robot, place in it.places.items()}}
+    return {"day": it.day, "season": it.season, "table": {robot: asdict(place) for robot, place in it.places.items()}}
 
 
-def pair(lookup: Lookup, it: Pair) -> dict[str, Any]:
-    return {
-        "robot": it.one, "against": it.other, **both(it.score), "share": share(it.score), "low": it.low,
-        "high": it.high, "page": places.pair_page(it.one, it.other),
-        "seats": [{"seat": one.seat, "against": one.against, **both(one.score)} for one in it.seats],
-        "notable": [{"what": one.what, **battle(lookup, one.battle)} for one in it.notable],
-    }
+def season(it: Season) -> dict[str, Any]:
+    return {"name": it.name, "begun": it.begun, "ended": it.ended, "rules": dict(it.rules), "divisions": it.divisions,
+            "page": places.season_page(it.name), "table": [*map(standing, it.standings)]}
+
+
+def pair(it: Pair) -> dict[str, Any]:
+    return {"robot": it.one, "against": it.other, **both(it.score), "share": round(share(it.score), 4), "low": round(it.low, 4),
+            "high": round(it.high, 4), "verdict": said(verdict(it)), "page": places.pair_page(it.one, it.other)}
 
 
 def battle(lookup: Lookup, it: Battle) -> dict[str, Any]:

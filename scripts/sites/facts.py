@@ -12,7 +12,7 @@ from typing import Mapping
 RobotId = str
 
 
-@dataclass(frozen=True)
+@dataclass(frozen=True, slots=True)
 class Score:
     """How often one robot won, tied and lost. A robot that died has lost, even if all others died too.
 
@@ -49,7 +49,7 @@ class Program:
     sha256: str
 
 
-@dataclass(frozen=True)
+@dataclass(frozen=True, slots=True)
 class Version:
     """A robot's source as it was played from a day on; None if only its hash is known.
 
@@ -60,16 +60,15 @@ class Version:
     day: str = ""
 
 
-@dataclass(frozen=True)
+@dataclass(frozen=True, slots=True)
 class Seat:
-    """A robot's seat in a match: with which damage it ended. Without a version it is the robot's last one."""
+    """A robot's seat in a match: with which damage it ended. It played with its last version."""
 
     robot: RobotId
     damage: int
-    version: str = ""
 
 
-@dataclass(frozen=True)
+@dataclass(frozen=True, slots=True)
 class Battle:
     """A match that the site names: its robots in the order of their files, its number, its seed, and when it ended."""
 
@@ -95,11 +94,13 @@ class Robot:
     sums: str = ""
     # matches that it lost; if they have days, its last ones, the last one first
     lost: tuple[Battle, ...] = ()
+    # the robot of another author that had the same code before
+    copied: RobotId = ""
 
 
-@dataclass(frozen=True)
+@dataclass(frozen=True, slots=True)
 class Standing:
-    """A row of the table. It is close if its interval overlaps that of the row above."""
+    """A row of the table. Its rank is one of its division. It is close if its points may be those of the row above."""
 
     robot: RobotId
     rank: int
@@ -109,27 +110,42 @@ class Standing:
     low: float
     high: float
     close: bool = False
+    division: int = 1
 
 
-@dataclass(frozen=True)
+@dataclass(frozen=True, slots=True)
 class Place:
-    """Where a robot was in an earlier table."""
+    """Where a robot was in an earlier table: its rank is one of its division."""
 
     rank: int
     rating: float
     low: float
     high: float
+    division: int = 1
 
 
 @dataclass(frozen=True)
 class Table:
-    """An earlier table, as it was published on a day."""
+    """An earlier table, as it was published on a day in a season."""
 
     day: str
     places: Mapping[RobotId, Place]
+    season: str = ""
 
 
 @dataclass(frozen=True)
+class Season:
+    """A season that ended: its days, its rules as rows of a page, and its last table."""
+
+    name: str
+    begun: str
+    ended: str
+    rules: tuple[tuple[str, str], ...]
+    standings: tuple[Standing, ...]
+    divisions: int = 1
+
+
+@dataclass(frozen=True, slots=True)
 class BySeat:
     """What a pair's first robot did from one seat against the other robot in another. Seats count from 1."""
 
@@ -138,7 +154,7 @@ class BySeat:
     score: Score
 
 
-@dataclass(frozen=True)
+@dataclass(frozen=True, slots=True)
 class Notable:
     """A match worth a look, and what it is: 'closest', 'shortest', 'longest', 'greatest upset'."""
 
@@ -146,7 +162,17 @@ class Notable:
     battle: Battle
 
 
-@dataclass(frozen=True)
+@dataclass(frozen=True, slots=True)
+class Verdict:
+    """What is decided of a pair, from its first robot's side, and after how many matches the sequential test did so.
+
+    The number is 0 if no such test was made: then it goes by the interval."""
+
+    what: str
+    matches: int = 0
+
+
+@dataclass(frozen=True, slots=True)
 class Pair:
     """What two robots did to each other, from the first one's side.
 
@@ -159,6 +185,7 @@ class Pair:
     high: float
     seats: tuple[BySeat, ...] = ()
     notable: tuple[Notable, ...] = ()
+    verdict: Verdict | None = None
 
 
 @dataclass(frozen=True)
@@ -169,7 +196,7 @@ class Facts:
     settings: Settings
     program: Program
     robots: tuple[Robot, ...]
-    # best first
+    # division by division, each best first
     standings: tuple[Standing, ...]
     pairs: tuple[Pair, ...]
     # the day of this table, and the tables before, the oldest first
@@ -182,3 +209,11 @@ class Facts:
     verify: str = ""
     # the address of the page that plays battles in a browser
     page: str = ""
+    # the hash of this publication, by which any change of what it shows is seen
+    hash: str = ""
+    # the season of this table with the number of its divisions, and the seasons that ended before it, the oldest first
+    season: str = ""
+    divisions: int = 1
+    seasons: tuple[Season, ...] = ()
+    # why sources are not shown, if they aren't
+    hidden: str = ""

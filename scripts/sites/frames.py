@@ -7,15 +7,16 @@ from .lookups import Lookup
 from .markup import Markup, joined, tag
 from .names import named, shown
 
-# No script runs, and nothing is loaded but the style.
+# Nothing is loaded but the style, and no script runs but the site's own, where a page has data.
 POLICY = "default-src 'none'; style-src 'self'; img-src data:; base-uri 'none'; form-action 'none'"
+SCRIPTED = POLICY + "; script-src 'self'"
 LINKS = ((places.INDEX, "Table"), (places.MAP, "Pairs"), (places.SETTINGS, "Settings"))
 
 
-def page(lookup: Lookup, place: str, title: str, *body: str) -> str:
+def page(lookup: Lookup, place: str, title: str, *body: str, scripted: bool = False) -> str:
     """The page of this place, with what it has in its main part."""
     up = above(place)
-    return "<!DOCTYPE html>\n" + tag("html", head(lookup, title, up), tag(
+    return "<!DOCTYPE html>\n" + tag("html", head(lookup, title, up, scripted), tag(
         "body", tag("a", "to the content", href="#content", class_="skip"), heading(lookup, place, up),
         tag("main", *body, id="content"), foot(lookup)), lang="en") + "\n"
 
@@ -25,15 +26,16 @@ def above(place: str) -> str:
     return "../" * place.count("/")
 
 
-def head(lookup: Lookup, title: str, up: str) -> Markup:
+def head(lookup: Lookup, title: str, up: str, scripted: bool) -> Markup:
     whole = named(lookup.facts.title)
+    script = tag("script", src=up + places.SCRIPT, defer="") if scripted else Markup("")
     return tag(
         "head", tag("meta", charset="utf-8"),
         tag("meta", name="viewport", content="width=device-width, initial-scale=1"),
         tag("meta", name="color-scheme", content="light dark"),
-        tag("meta", http_equiv="Content-Security-Policy", content=POLICY), tag("link", rel="icon", href="data:,"),
+        tag("meta", http_equiv="Content-Security-Policy", content=SCRIPTED if scripted else POLICY), tag("link", rel="icon", href="data:,"),
         tag("title", f"{shown(title)} · {whole}" if title else whole),
-        tag("link", rel="stylesheet", href=up + places.STYLE))
+        tag("link", rel="stylesheet", href=up + places.STYLE), script)
 
 
 def heading(lookup: Lookup, place: str, up: str) -> Markup:

@@ -4,9 +4,10 @@ Of all matches only those that are worth a look are kept, so memory grows with t
 
 from __future__ import annotations
 
+import functools
 import itertools
 from collections import defaultdict
-from dataclasses import dataclass, field
+from dataclasses import dataclass
 from typing import Iterable, Iterator, Mapping, Sequence
 
 from .facts import Battle, BySeat, Notable, Pair, RobotId, Score
@@ -14,11 +15,11 @@ from .notables import DEAD, notables, shortness
 from .shares import interval
 
 
-@dataclass
+@dataclass(slots=True)
 class Between:
     """What two robots did to each other, by their seats, from the side of the higher one."""
 
-    seats: dict[tuple[int, int], Score] = field(default_factory=dict)
+    seats: tuple[BySeat, ...] = ()
     notable: tuple[Notable, ...] = ()
 
 
@@ -28,21 +29,32 @@ class Gathering:
     def __init__(self, rows: Mapping[RobotId, int]) -> None:
         self._rows = rows
         self._pairs: defaultdict[tuple[RobotId, RobotId], Between] = defaultdict(Between)
-        # of each robot the shortest match that it lost to each survivor
-        self._lost: defaultdict[RobotId, dict[RobotId, Battle]] = defaultdict(dict)
 
     def add(self, battles: Sequence[Battle]) -> None:
         """Adds matches of the same robots in the same seats."""
         robots = [seat.robot for seat in battles[0].seats]
         for (seat, one), (against, other) in itertools.permutations(enumerate(robots, 1), 2):
             if self._rows[one] < self._rows[other]:
-                it, at = self._pairs[one, other], (seat, against)
-                it.seats[at] = added([it.seats.get(at, Score(0, 0, 0)), score(battles, *at)])
+                it = self._pairs[one, other]
+                it.seats = with_more(it.seats, by_seat(seat, against, *score(battles, seat, against)))
                 it.notable = notables([*dict.fromkeys(known.battle for known in it.notable), *battles], one, other)
-        for battle in battles:
-            self._add_lost(battle)
 
-    def _add_lost(self, battle: Battle) -> None:
+    def pairs(self) -> Iterator[Pair]:
+        """All pairs, in the order of the table. What was added is given away."""
+        for key in sorted(self._pairs, key=lambda it: [self._rows[robot] for robot in it]):
+            it = self._pairs.pop(key)
+            total = added(known.score for known in it.seats)
+            yield Pair(*key, total, *interval(total), it.seats, it.notable)
+
+
+class Losses:
+    """Of each robot the shortest match that it lost to each survivor."""
+
+    def __init__(self, rows: Mapping[RobotId, int]) -> None:
+        self._rows = rows
+        self._lost: defaultdict[RobotId, dict[RobotId, Battle]] = defaultdict(dict)
+
+    def add(self, battle: Battle) -> None:
         """Takes note of the robots that lost to another one."""
         survivors = [seat.robot for seat in battle.seats if seat.damage < DEAD]
         for robot in {seat.robot for seat in battle.seats if seat.damage >= DEAD}:
@@ -51,24 +63,31 @@ class Gathering:
                 if known is None or shortness(battle) < shortness(known):
                     self._lost[robot][survivor] = battle
 
-    def pairs(self) -> Iterator[Pair]:
-        """All pairs, in the order of the table."""
-        for (one, other), it in sorted(self._pairs.items(), key=lambda it: [self._rows[robot] for robot in it[0]]):
-            total = added(it.seats.values())
-            seats = tuple(BySeat(*places, found) for places, found in sorted(it.seats.items()))
-            yield Pair(one, other, total, *interval(total), seats, it.notable)
-
-    def lost(self, robot: RobotId, most: int) -> tuple[Battle, ...]:
+    def of(self, robot: RobotId, most: int) -> tuple[Battle, ...]:
         """The shortest lost matches of a robot, one to each of the lowest ones in the table that survived it."""
         found = sorted(self._lost[robot].items(), key=lambda it: -self._rows[it[0]])
         return tuple(dict.fromkeys(battle for _, battle in found))[:most]
 
 
-def score(battles: Iterable[Battle], seat: int, against: int) -> Score:
-    """What the robot in one seat did to that in another."""
-    died = [tuple(it.seats[at - 1].damage >= DEAD for at in (seat, against)) for it in battles]
+def score(battles: Iterable[Battle], seat: int, against: int) -> tuple[int, int, int, int]:
+    """What the robot in one seat did to that in another: its wins, ties and losses, and how many of these both lost."""
+    died = [(it.seats[seat - 1].damage >= DEAD, it.seats[against - 1].damage >= DEAD) for it in battles]
     both, lost = died.count((True, True)), died.count((True, False))
-    return Score(died.count((False, True)), died.count((False, False)), lost + both, both)
+    return died.count((False, True)), died.count((False, False)), lost + both, both
+
+
+@functools.lru_cache(1 << 14)
+def by_seat(seat: int, against: int, won: int, tied: int, lost: int, both: int) -> BySeat:
+    """A score by seat. In a large league many are equal, so they are one."""
+    return BySeat(seat, against, Score(won, tied, lost, both))
+
+
+def with_more(seats: tuple[BySeat, ...], more: BySeat) -> tuple[BySeat, ...]:
+    """The scores by seat, with one more, in the order of the seats."""
+    same = [it for it in seats if (it.seat, it.against) == (more.seat, more.against)]
+    total = added(it.score for it in (*same, more))
+    one = by_seat(more.seat, more.against, total.won, total.tied, total.lost, total.both)
+    return tuple(sorted([*(it for it in seats if it not in same), one], key=lambda it: (it.seat, it.against)))
 
 
 def added(scores: Iterable[Score]) -> Score:

@@ -3,11 +3,14 @@
 from __future__ import annotations
 
 from dataclasses import replace
+from typing import NamedTuple
 
 from . import links, places
-from .facts import Battle, BySeat, Facts, Pair, Place, RobotId, Standing, Version
+from .addresses import is_page
+from .facts import Battle, BySeat, Facts, Pair, Place, RobotId, Standing, Table, Version
 from .markup import Markup, name_of, tag
 from .shares import turned
+from .verdicts import from_other_side as turned_verdict
 
 
 class Lookup:
@@ -19,7 +22,6 @@ class Lookup:
         self.standings = {it.robot: it for it in facts.standings}
         self._rows = {it.robot: row for row, it in enumerate(facts.standings)}
         self._pairs = {(it.one, it.other): it for it in facts.pairs}
-        self._versions = {(it.id, version.sha256): version for it in facts.robots for version in it.versions}
         self._links: dict[tuple[RobotId, str], Markup] = {}
         self._opponents: dict[RobotId, list[RobotId]] = {}
         for it in facts.pairs:
@@ -35,25 +37,17 @@ class Lookup:
 
     def pair(self, one: RobotId, other: RobotId) -> Pair | None:
         """What two robots did to each other, from this one's side."""
-        found = self._pairs.get((one, other))
-        if found is None and (other, one) in self._pairs:
-            found = self._pairs[one, other] = from_other_side(self._pairs[other, one])
-        return found
+        found, turned_one = self._pairs.get((one, other)), self._pairs.get((other, one))
+        return from_other_side(turned_one) if found is None and turned_one else found
 
     def opponents(self, robot: RobotId) -> list[Pair]:
         """The pairs of a robot from its side, in the order of the table."""
         others = sorted(self._opponents.get(robot, ()), key=lambda it: (self.row(it), it))
         return [pair for other in others if (pair := self.pair(robot, other))]
 
-    def better(self, pair: Pair) -> Pair:
-        """A pair from the side of the robot that is higher in the table."""
-        one, other = (self.row(it) for it in (pair.one, pair.other))
-        return from_other_side(pair) if other < one else pair
-
     def versions(self, battle: Battle) -> list[Version]:
         """The versions that played a match."""
-        return [self._versions[seat.robot, seat.version] if seat.version else self.robots[seat.robot].versions[-1]
-                for seat in battle.seats]
+        return [self.robots[seat.robot].versions[-1] for seat in battle.seats]
 
     def sources(self, battle: Battle) -> list[tuple[str, bytes]]:
         """The names and sources of a match's robots; none if one isn't known any more."""
@@ -73,7 +67,7 @@ class Lookup:
     def browser(self, battle: Battle) -> str:
         """The address that opens a match in the browser's page; nothing if there is none."""
         sources = self.sources(battle)
-        if not self.facts.page or not sources:
+        if not is_page(self.facts.page) or not sources:
             return ""
         return self.facts.page.split("#")[0] + links.fragment(self.facts.settings, battle, sources)
 
@@ -83,19 +77,32 @@ class Lookup:
             self._links[robot, up] = tag("a", name_of(self.robots[robot].name), href=up + places.robot_page(robot))
         return self._links[robot, up]
 
-    def history(self, robot: RobotId) -> list[tuple[str, Place]]:
+    def history(self, robot: RobotId) -> list[Stay]:
         """Where a robot was in all tables, this one last."""
-        found = [(it.day, it.places[robot]) for it in self.facts.earlier if robot in it.places]
+        found = [Stay(it.day, it.season, it.places[robot]) for it in self.facts.earlier if robot in it.places]
         now = self.standing(robot)
-        return found + ([(self.facts.day, place_of(now))] if now else [])
+        return found + ([Stay(self.facts.day, self.facts.season, place_of(now))] if now else [])
+
+    def before(self) -> Table | None:
+        """The last earlier table of the same season, with which this one is compared."""
+        same = [it for it in self.facts.earlier if it.season == self.facts.season]
+        return same[-1] if same else None
+
+
+class Stay(NamedTuple):
+    """Where a robot was on a day, in a season."""
+
+    day: str
+    season: str
+    place: Place
 
 
 def place_of(it: Standing) -> Place:
-    return Place(it.rank, it.rating, it.low, it.high)
+    return Place(it.rank, it.rating, it.low, it.high, it.division)
 
 
 def from_other_side(pair: Pair) -> Pair:
     """The same pair with its robots exchanged."""
     seats = tuple(BySeat(it.against, it.seat, turned(it.score)) for it in pair.seats)
     return replace(pair, one=pair.other, other=pair.one, score=turned(pair.score), low=1 - pair.high, high=1 - pair.low,
-                   seats=seats)
+                   seats=seats, verdict=turned_verdict(pair.verdict))

@@ -6,11 +6,13 @@ import functools
 import hashlib
 import re
 
+from tools import shells
+
+UNSEEN = shells.UNSEEN
 PLAIN = re.compile(rb"[a-z0-9-]")
 MOST = 80
 # Names of devices, which no file of Windows may have, and the page that a server takes for its folder's.
 TAKEN = re.compile(r"(con|prn|aux|nul|com[0-9]|lpt[0-9]|index)(?![^.])")
-UNSEEN = re.compile("[\x00-\x08\x0a-\x1f\x7f-\x9f\u2028\u2029\ud800-\udfff]")
 
 
 @functools.cache

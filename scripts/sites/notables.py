@@ -2,7 +2,7 @@
 
 from __future__ import annotations
 
-from typing import Iterable
+from typing import Iterable, Iterator
 
 from tournaments import records
 
@@ -11,20 +11,18 @@ from .facts import Battle, Notable, RobotId
 DEAD = records.DEAD
 
 
-def damage(battle: Battle, robot: RobotId) -> int:
-    """With which damage a robot ended."""
-    return next(seat.damage for seat in battle.seats if seat.robot == robot)
-
-
-def winner(battle: Battle, one: RobotId, other: RobotId) -> RobotId:
-    """Which of two robots survived the other, if one did."""
-    died = [it for it in (one, other) if damage(battle, it) >= DEAD]
-    return {one: other, other: one}[died[0]] if len(died) == 1 else ""
-
-
 def shortness(battle: Battle) -> tuple[int, int, int]:
     """The order in which shorter matches come first."""
     return battle.cycles, battle.seed, battle.number
+
+
+def decided(battles: Iterable[Battle], one: RobotId, other: RobotId) -> Iterator[tuple[bool, int, Battle]]:
+    """The matches that one of two robots survived, and not both: whether it was the first, and how it was damaged."""
+    for battle in battles:
+        damage = {seat.robot: seat.damage for seat in battle.seats}
+        mine, theirs = damage[one], damage[other]
+        if (mine < DEAD) != (theirs < DEAD):
+            yield mine < DEAD, min(mine, theirs), battle
 
 
 def notables(battles: Iterable[Battle], better: RobotId, worse: RobotId) -> tuple[Notable, ...]:
@@ -33,19 +31,15 @@ def notables(battles: Iterable[Battle], better: RobotId, worse: RobotId) -> tupl
     They are chosen from the matches that one of both survived. In the closest one it was damaged most. An upset is one
     that the worse robot survived, the greatest is that in which it was damaged least. Of equal ones the shorter goes,
     at last that of the lower seed and number: so the order of the matches makes no difference."""
-    decided = [it for it in battles if winner(it, better, worse)]
-
-    def hurt(battle: Battle) -> int:
-        return damage(battle, winner(battle, better, worse))
-
-    if not decided:
+    rows = [*decided(battles, better, worse)]
+    if not rows:
         return ()
     found = [
-        Notable("closest", min(decided, key=lambda it: (-hurt(it), it.cycles, it.seed, it.number))),
-        Notable("shortest", min(decided, key=shortness)),
-        Notable("longest", min(decided, key=lambda it: (-it.cycles, it.seed, it.number))),
+        Notable("closest", min(rows, key=lambda it: (-it[1], *shortness(it[2])))[2]),
+        Notable("shortest", min((it for _, _, it in rows), key=shortness)),
+        Notable("longest", min((it for _, _, it in rows), key=lambda it: (-it.cycles, it.seed, it.number))),
     ]
-    upsets = [it for it in decided if winner(it, better, worse) == worse]
+    upsets = [it for it in rows if not it[0]]
     if upsets:
-        found.append(Notable("greatest upset", min(upsets, key=lambda it: (hurt(it), *shortness(it)))))
+        found.append(Notable("greatest upset", min(upsets, key=lambda it: (it[1], *shortness(it[2])))[2]))
     return tuple(found)

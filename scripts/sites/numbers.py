@@ -26,6 +26,11 @@ def decimal(number: Decimal) -> str:
     return f"{number:.3f}"
 
 
+def tenth(number: float) -> float:
+    """A number with one digit after its point, which has no sign if it is 0."""
+    return round(number, 1) + 0.0
+
+
 def percent(part: float) -> str:
     """A part as a percentage with one digit after its point."""
     return f"{100 * part:.1f}{SPACE}%"

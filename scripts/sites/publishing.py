@@ -3,10 +3,11 @@
 from __future__ import annotations
 
 import os
+from dataclasses import dataclass
 from functools import partial
-from typing import Callable, Iterator
+from typing import Callable, Iterator, Sequence
 
-from . import colours, data, films, places
+from . import colours, data, films, places, robot_data
 from .facts import Battle, Facts
 from .folders import Folder
 from .heat import heat_map
@@ -14,6 +15,7 @@ from .index import index
 from .lookups import Lookup
 from .pairs import pair_page
 from .robots import robot_page
+from .seasons import season_page
 from .settings import settings_page
 
 HERE = os.path.dirname(os.path.abspath(__file__))
@@ -26,19 +28,40 @@ def publish(facts: Facts, folder: str, replays: int = 0, jobs: int = 1) -> None:
     Replays that the folder has from before are kept. Raises Foreign if a file is in the way, and OSError."""
     lookup, site = Lookup(facts), Folder(folder)
     with site.open():
-        wanted = {lookup.replay(battle): battle for battle in battles(lookup)}
-        there = {place for place in wanted if site.has(place)}
-        given = {place: partial(str.encode, it.replay, "utf-8", "replace") for place, it in wanted.items() if it.replay}
-        new = orders(lookup, {place: it for place, it in wanted.items() if place not in there | {*given}}, replays)
-        there |= {*given, *new}
-        contents = files(lookup, there)
-        site.announce([*contents, *given, *new])
-        for place, text in films.made(new, jobs) if new else ():
+        wanted = chosen(lookup, site, replays if replays and films.can_film() else 0)
+        there = {*wanted.kept, *wanted.given, *wanted.orders}
+        older = older_archives(site, facts)
+        contents = files(lookup, there, older)
+        site.announce([*contents, *there])
+        for place, text in films.made(wanted.orders, jobs) if wanted.orders else ():
             site.write(place, text)
-        there = {place for place in there if place in given or site.has(place)}
-        contents = files(lookup, there)
-        site.fill({**given, **contents})
-        site.keep({*contents, *there})
+        there = {place for place in there if place in wanted.given or site.has(place)}
+        contents = files(lookup, there, older)
+        site.fill({**wanted.given, **contents})
+        site.keep({*contents, *there, *older})
+
+
+@dataclass(frozen=True)
+class Wanted:
+    """The replays of matches that the site names, by their places: those that are kept, those that are given, and orders for new ones."""
+
+    kept: set[str]
+    given: dict[str, Content]
+    orders: dict[str, films.Order]
+
+
+def chosen(lookup: Lookup, site: Folder, most: int) -> Wanted:
+    """Chooses the replays, of which at most so many are new: those of the first matches that have none."""
+    found = Wanted(set(), {}, {})
+    for battle in battles(lookup):
+        place = lookup.replay(battle)
+        if battle.replay:
+            found.given[place] = partial(str.encode, battle.replay, "utf-8", "replace")
+        elif site.has(place):
+            found.kept.add(place)
+        elif len(found.orders) < most and (robots := lookup.sources(battle)):
+            found.orders[place] = films.order(lookup.facts.settings, battle, robots)
+    return found
 
 
 def battles(lookup: Lookup) -> Iterator[Battle]:
@@ -50,26 +73,31 @@ def battles(lookup: Lookup) -> Iterator[Battle]:
         yield from (it.battle for it in pair.notable)
 
 
-def orders(lookup: Lookup, wanted: dict[str, Battle], most: int) -> dict[str, films.Order]:
-    """The orders for the first of the matches that have no page yet."""
-    if not most or not films.can_film():
-        return {}
-    found = ((place, lookup.sources(it), it) for place, it in wanted.items())
-    known = ((place, films.order(lookup.facts.settings, it, sources)) for place, sources, it in found if sources)
-    return dict(it for it, _ in zip(known, range(most)))
+def older_archives(site: Folder, facts: Facts) -> list[str]:
+    """The archives that were published before, which stay: whoever has one can see what was changed since."""
+    now = places.archive_file(facts.archive) if facts.archive else ""
+    return sorted(it for it in site.before if it.startswith(places.ARCHIVES) and it != now and site.has(it))
 
 
-def files(lookup: Lookup, replays: set[str]) -> dict[str, Content]:
+def files(lookup: Lookup, replays: set[str], older: Sequence[str]) -> dict[str, Content]:
     """All files of the site but the replays, each made when it is written."""
     facts = lookup.facts
     pages: dict[str, Callable[[], str]] = {
         places.STYLE: style, places.TABLE: partial(data.table, lookup), places.PAIRS: partial(data.pairs, lookup),
-        places.EVERYTHING: partial(data.everything, lookup), places.SETTINGS: partial(settings_page, lookup),
+        places.EVERYTHING: partial(data.everything, lookup), places.SETTINGS: partial(settings_page, lookup, older),
+        **(data_pages(lookup, replays) if facts.pairs else {}),
         **{places.robot_page(it.id): partial(robot_page, lookup, replays, it) for it in facts.robots},
-        **{places.pair_page(it.one, it.other): partial(pair_page, lookup, replays, it) for it in facts.pairs},
+        **{places.season_page(it.name): partial(season_page, lookup, it) for it in facts.seasons},
         places.MAP: partial(heat_map, lookup), places.INDEX: partial(index, lookup),
     }
     return {**sources(facts), **archive(facts), **{place: partial(encoded, make) for place, make in pages.items()}}
+
+
+def data_pages(lookup: Lookup, replays: set[str]) -> dict[str, Callable[[], str]]:
+    """The page of all pairs, its script, and the data that this shows."""
+    data = {places.data_file(it.id): partial(robot_data.robot_data, lookup, replays, it) for it in lookup.facts.robots}
+    return {places.SCRIPT: partial(text_of, "site.js"), **data, places.NAMES: partial(robot_data.names, lookup),
+            places.PAIR: partial(pair_page, lookup)}
 
 
 def sources(facts: Facts) -> dict[str, Content]:
@@ -94,4 +122,9 @@ def encoded(make: Callable[[], str]) -> bytes:
 
 def style() -> str:
     """The style of all pages."""
-    return read(os.path.join(HERE, "site.css")).decode() + colours.style()
+    return text_of("site.css") + colours.style()
+
+
+def text_of(name: str) -> str:
+    """A file of this folder."""
+    return read(os.path.join(HERE, name)).decode()

@@ -2,13 +2,16 @@
 
 from __future__ import annotations
 
+from itertools import compress
+from typing import Sequence
+
 from . import charts, places, sources, sums
 from .battles import Replays, card
-from .facts import Battle, Pair, Place, Robot, Standing
+from .facts import Battle, Pair, Robot, Standing
 from .frames import above, page, section, sentence
-from .lookups import Lookup
+from .lookups import Lookup, Stay
 from .markup import Markup, block, joined, name_of, separated, tag
-from .names import named
+from .names import file_name, named
 from .numbers import INTERVAL, count, counted, decimal, interval, percent
 from .shares import share
 from .tables import NUMBER, TEXT, Column, listed, scrolling, table
@@ -23,16 +26,26 @@ def robot_page(lookup: Lookup, replays: Replays, it: Robot) -> str:
     """The page of a robot."""
     place = places.robot_page(it.id)
     up = above(place)
-    return page(lookup, place, named(it.name), tag("h1", name_of(it.name)), author(it), standing(lookup, it),
-                history(lookup, it), opponents(lookup, it, up), summed(it), lost(lookup, replays, it, up),
-                versions(it, up), source(it))
+    return page(lookup, place, named(it.name), tag("h1", name_of(it.name)), author(it), copied(lookup, it, up), standing(lookup, it),
+                history(lookup, it), past(lookup, it, up), opponents(lookup, it, up), summed(it), lost(lookup, replays, it, up),
+                versions(lookup, it, up), source(lookup, it), scripted=is_long(lookup, it))
 
 
 def author(it: Robot) -> Markup:
-    """Who wrote it, and whether it still plays."""
+    """Who wrote it, and whether it still plays; its id, if its name is another."""
     parts = [joined("by ", tag("bdi", named(it.author)))] if it.author else []
+    parts += [joined(f"id {it.id}")] if it.id != it.name else []
     parts += [joined(f"withdrawn on {it.withdrawn}")] if it.withdrawn else []
     return tag("p", separated(" · ", parts), class_="lead") if parts else Markup("")
+
+
+def copied(lookup: Lookup, it: Robot, up: str) -> Markup:
+    """Whose code it has."""
+    if not it.copied:
+        return Markup("")
+    other = lookup.robots[it.copied]
+    by = joined(" by ", tag("bdi", named(other.author))) if other.author else ""
+    return sentence("It has the same code as ", lookup.robot_link(other.id, up), by, ", which had it before.", kind="lead")
 
 
 def standing(lookup: Lookup, it: Robot) -> Markup:
@@ -43,9 +56,10 @@ def standing(lookup: Lookup, it: Robot) -> Markup:
 
 def tiles(lookup: Lookup, row: Standing) -> list[tuple[str, Markup]]:
     """What is said of it at a glance."""
-    score, many = row.score, len(lookup.facts.standings)
+    score, many = row.score, sum(it.division == row.division for it in lookup.facts.standings)
+    within = f" of {many}" + (f" in division {row.division}" if lookup.facts.divisions > 1 else "")
     return [
-        ("Rank", joined(str(row.rank), tag("small", f" of {many}"))),
+        ("Rank", joined(str(row.rank), tag("small", within))),
         ("Rating", joined(charts.whole(row.rating), tag("small", f" {interval(row.low, row.high)}"))),
         (lookup.facts.points.capitalize(), joined(decimal(row.points))),
         ("Won", joined(count(score.won), tag("small", f" of {count(score.played)}"))),
@@ -62,26 +76,50 @@ def history(lookup: Lookup, it: Robot) -> Markup:
     found = lookup.history(it.id)
     if len(found) < 2:
         return Markup("")
-    days, ranked = [day for day, _ in found], [place for _, place in found]
-    first, last = (charts.whole(place.rating) for place in (ranked[0], ranked[-1]))
+    days = [stay.day for stay in found]
+    first, last = (charts.whole(stay.place.rating) for stay in (found[0], found[-1]))
     label = f"Rating from {days[0]} to {days[-1]}: from {first} to {last}"
     changes = [version.day for version in it.versions[1:] if version.day]
-    chart = scrolling(charts.over_time(days, ranked, changes, label), label)
+    chart = scrolling(charts.over_time(found, changes, label), label)
     note = " A dotted line is a new version." if charts.during(days, changes) else ""
+    note += " Each season has a line of its own: its matches and opponents are others." if len({stay.season for stay in found}) > 1 else ""
     return section("Rating over time", chart, sentence(f"The band is the {INTERVAL}.{note}", kind="note"),
                    tag("details", tag("summary", "As a table"), by_day(found)))
 
 
-def by_day(found: list[tuple[str, Place]]) -> Markup:
-    """The same as a table, the last day first."""
-    columns: list[Column] = [("Day", TEXT), ("Rank", NUMBER), ("Rating", NUMBER), (INTERVAL, TEXT)]
-    return table("Rating by day", columns, [
-        [day, str(it.rank), charts.whole(it.rating), interval(it.low, it.high)] for day, it in found[::-1]])
+def by_day(found: Sequence[Stay]) -> Markup:
+    """The same as a table, the last day first; with seasons and divisions if there are several."""
+    columns: list[Column] = [("Day", TEXT), ("Season", TEXT), ("Division", NUMBER), ("Rank", NUMBER), ("Rating", NUMBER), (INTERVAL, TEXT)]
+    shown = [True, len({it.season for it in found}) > 1, any(it.place.division > 1 for it in found), True, True, True]
+    rows = [[it.day, tag("bdi", named(it.season)), str(it.place.division), str(it.place.rank), charts.whole(it.place.rating),
+             interval(it.place.low, it.place.high)] for it in found[::-1]]
+    return table("Rating by day", [*compress(columns, shown)], [[*compress(row, shown)] for row in rows])
+
+
+def past(lookup: Lookup, it: Robot, up: str) -> Markup:
+    """Where it was at the end of each past season, the last one first."""
+    rows = [[tag("a", tag("bdi", named(season.name)), href=up + places.season_page(season.name)),
+             str(row.division) if season.divisions > 1 else "-", str(row.rank), decimal(row.points), charts.whole(row.rating),
+             interval(row.low, row.high), count(row.score.played), count(row.score.won), count(row.score.tied), count(row.score.lost)]
+            for season in reversed(lookup.facts.seasons) for row in season.standings if row.robot == it.id]
+    columns: list[Column] = [("Season", TEXT), ("Division", NUMBER), ("Rank", NUMBER), (lookup.facts.points.capitalize(), NUMBER), ("Rating", NUMBER), (INTERVAL, TEXT),
+               ("Played", NUMBER), ("Won", NUMBER), ("Tied", NUMBER), ("Lost", NUMBER)]
+    return section("Past seasons", table("At the end of each season", columns, rows)) if rows else Markup("")
+
+
+def played(lookup: Lookup, it: Robot) -> list[Pair]:
+    """Its pairs, in the order of the table."""
+    return [pair for pair in lookup.opponents(it.id) if pair.score.played]
+
+
+def is_long(lookup: Lookup, it: Robot) -> bool:
+    """Whether it has more opponents than its page lists without the script."""
+    return len(played(lookup, it)) > 2 * FEW
 
 
 def opponents(lookup: Lookup, it: Robot, up: str) -> Markup:
-    """What it did against others: the best and the worst ones first, if there are many."""
-    every = [pair for pair in lookup.opponents(it.id) if pair.score.played]
+    """What it did against others: the best and the worst ones, if there are many, and all of them from its data."""
+    every = played(lookup, it)
     if not every:
         return Markup("")
     best = sorted(every, key=lambda pair: -share(pair.score))
@@ -89,8 +127,7 @@ def opponents(lookup: Lookup, it: Robot, up: str) -> Markup:
         return section("Opponents", against(lookup, "Opponents, the best results first", best, up))
     return section("Opponents", against(lookup, "Its best opponents", best[:FEW], up),
                    against(lookup, "Its worst opponents", best[:-FEW - 1:-1], up),
-                   tag("details", tag("summary", f"All {len(every)} opponents"),
-                       against(lookup, "All opponents, in the order of the table", every, up)))
+                   tag("details", tag("summary", f"All {count(len(every))} opponents"), tag("div", data_opponents=file_name(it.id))))
 
 
 def against(lookup: Lookup, caption: str, pairs: list[Pair], up: str) -> Markup:
@@ -129,24 +166,26 @@ def beaten_by(lookup: Lookup, it: Robot, battle: Battle) -> Markup:
     return joined("Against ", separated(", ", others))
 
 
-def versions(it: Robot, up: str) -> Markup:
+def versions(lookup: Lookup, it: Robot, up: str) -> Markup:
     """All its versions, the last one first."""
-    rows = [[version.day or "-", tag("code", version.sha256[:16], title=version.sha256), download(it, at, up)]
+    rows = [[version.day or "-", tag("code", version.sha256[:16], title=version.sha256), download(lookup, it, at, up)]
             for at, version in reversed([*enumerate(it.versions)])]
     columns = [("From", TEXT), ("SHA-256", TEXT), ("Source", TEXT)]
     return section("Versions", table("Versions, the last one first", columns, rows)) if rows else Markup("")
 
 
-def download(it: Robot, at: int, up: str) -> Markup:
+def download(lookup: Lookup, it: Robot, at: int, up: str) -> Markup:
     """A link to a version's source."""
     version = it.versions[at]
     if version.source is None:
-        return joined("not kept")
+        return joined("hidden" if lookup.facts.hidden else "not kept")
     said = counted(len(version.source), "byte")
     return tag("a", said, href=up + places.source_file(it.id, version), type="text/plain")
 
 
-def source(it: Robot) -> Markup:
+def source(lookup: Lookup, it: Robot) -> Markup:
     """The source of its last version."""
     last = it.versions[-1].source if it.versions else None
-    return section("Source", scrolling(sources.coloured(last), "Source", "listing")) if last is not None else Markup("")
+    if last is None:
+        return section("Source", sentence(lookup.facts.hidden)) if lookup.facts.hidden else Markup("")
+    return section("Source", scrolling(sources.coloured(last), "Source", "listing"))

@@ -5,6 +5,7 @@ from __future__ import annotations
 import hashlib
 import os
 import shlex
+from typing import Sequence
 
 from tournaments.settings import SIZE_NAMES
 
@@ -18,10 +19,16 @@ from .tables import command_line, listed
 
 
 
-def settings_page(lookup: Lookup) -> str:
-    """The page of settings."""
+def settings_page(lookup: Lookup, older: Sequence[str] = ()) -> str:
+    """The page of settings, with the archives that were published before."""
     title = "Settings"
-    return page(lookup, places.SETTINGS, title, tag("h1", title), rules(lookup), program(lookup), archive(lookup))
+    return page(lookup, places.SETTINGS, title, tag("h1", title), rules(lookup), program(lookup), archive(lookup), before(older))
+
+
+def before(older: Sequence[str]) -> Markup:
+    """Links to the archives that were published before, the last one first."""
+    items = [tag("li", tag("a", it.rpartition("/")[2], href=it, download=it.rpartition("/")[2])) for it in reversed(older)]
+    return section("Older archives", tag("ul", *items, class_="links")) if items else Markup("")
 
 
 def rules(lookup: Lookup) -> Markup:
@@ -42,12 +49,13 @@ def archive(lookup: Lookup) -> Markup:
     """The archive, and how it is checked."""
     facts = lookup.facts
     if not facts.archive:
-        return Markup("")
+        return section("Archive", sentence(facts.hidden)) if facts.hidden else Markup("")
     with open(facts.archive, "rb") as file:
         digest = hashlib.file_digest(file, "sha256").hexdigest()
     name, size = os.path.basename(facts.archive), counted(os.path.getsize(facts.archive), "byte")
     link = tag("a", name, href=places.archive_file(facts.archive), download=name)
-    rows = [("File", joined(link, f" ({size})")), ("SHA-256", tag("code", digest))]
+    rows = [("File", joined(link, f" ({size})")), ("SHA-256", tag("code", digest)),
+            ("Hash of the publication", tag("code", facts.hash) if facts.hash else "")]
     said = sentence("All sources, the settings and all results, in one file.")
     return section("Archive", said, listed(rows), *verify(facts.verify))
 

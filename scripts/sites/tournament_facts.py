@@ -16,7 +16,7 @@ from tournaments.standings import Standing as TournamentStanding
 
 from .facts import Battle, Facts, Program, Score, Seat, Settings, Standing, Version
 from .facts import Robot as SiteRobot
-from .gathering import Gathering
+from .gathering import Gathering, Losses
 
 # A robot's page has at most this number of lost matches.
 LOST = 5
@@ -28,11 +28,15 @@ def facts_of_tournament(
         page: str = "") -> Facts:
     """What the site of a tournament shows. The sources of robots are found by their hashes."""
     names = {it.robot: it.name for it in standings}
-    gathering = Gathering({it.name: row for row, it in enumerate(standings)})
+    places = {it.name: row for row, it in enumerate(standings)}
+    gathering, losses = Gathering(places), Losses(places)
     for record in records:
-        gathering.add([*battles(record, names)])
+        fought = [*battles(record, names)]
+        gathering.add(fought)
+        for battle in fought:
+            losses.add(battle)
     versions = [Version(it.sha256, sources.get(it.sha256)) for it in among]
-    robots = [SiteRobot(names[at], names[at], (it,), lost=gathering.lost(names[at], LOST))
+    robots = [SiteRobot(names[at], names[at], (it,), lost=losses.of(names[at], LOST))
               for at, it in enumerate(versions)]
     return Facts(
         title, rules(settings, scoring), Program(version(settings.program), settings.program), tuple(robots), tuple(map(standing, standings)),
@@ -57,6 +61,8 @@ def rules(settings: TournamentSettings, scoring: Scoring) -> Settings:
     if scoring.weights:
         weights = ", ".join(f"{SIZE_NAMES[size]} {weight}" for size, weight in scoring.weights.items())
         more.append(("Weights of points a match", weights))
+    if settings.those:
+        more.append(("Sides", f"{settings.robots - len(settings.those)} robots against {len(settings.those)}"))
     if settings.sample:
         more.append(("Sample", f"{settings.sample} groups"))
     return Settings(settings.matches, settings.cycles, settings.seed, settings.profile, settings.sizes, tuple(more))

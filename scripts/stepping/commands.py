@@ -3,9 +3,10 @@
 from __future__ import annotations
 
 import re
-import shlex
 from dataclasses import dataclass
 from typing import Callable, Sequence
+
+from tools import shells
 
 from . import telling
 from .marks import Mark, breakpoint_of, watch_of
@@ -153,14 +154,14 @@ def info(session: Session, text: str) -> list[str]:
 def trace(session: Session, _: str) -> list[str]:
     """The command line that reports this moment."""
     words = session.asked.robot("--at", str(session.moment.cycle))
-    return [shlex.join(["crobots-trace", *words])]
+    return [shells.line(["crobots-trace", *words])]
 
 
 def replay(session: Session, _: str) -> list[str]:
     """The command line that makes a page of this moment, and where it is on the page."""
     cycle = session.moment.cycle
     span = ["--from", str(max(0, cycle - PAGE)), "--to", str(cycle + PAGE), "-o", "match.html"]
-    line = shlex.join(["crobots-replay", *session.asked.match(*span)])
+    line = shells.line(["crobots-replay", *session.asked.match(*span)])
     return [line, f"then open match.html#{cycle}"]
 
 

@@ -2,11 +2,10 @@
 
 from __future__ import annotations
 
-import sys
-from typing import Iterable
+from typing import Iterable, Iterator
 
-from tools.faults import UNWRITTEN, Fault, plain
-from tools.output import OUTPUT, write_all
+from tools.faults import UNWRITTEN, Fault, file_word, plain
+from tools.output import INPUT, OUTPUT, write_all
 from tools.programs import found, number
 from tools.running import run as begin
 
@@ -25,6 +24,8 @@ def write(text: str) -> None:
     """Writes a text on standard output at once."""
     try:
         write_all(OUTPUT, text.encode(errors="replace"))
+    except BrokenPipeError:
+        raise
     except OSError as why:
         raise Fault("cannot write", UNWRITTEN) from why
 
@@ -32,12 +33,21 @@ def write(text: str) -> None:
 def script(asked: Asked) -> Iterable[bytes]:
     """The lines of commands, from the script or from standard input."""
     if asked.script is None:
-        return sys.stdin.buffer if sys.stdin else []
+        return typed()
     try:
         with open(asked.script, "rb") as file:
             return file.read().splitlines()
     except OSError as why:
-        raise Fault(f"cannot open {asked.script}", UNREAD) from why
+        raise Fault(f"cannot open {file_word(asked.script)}", UNREAD) from why
+
+
+def typed() -> Iterator[bytes]:
+    """The lines of standard input, as they come."""
+    try:
+        with open(INPUT, "rb", closefd=False) as lines:
+            yield from lines
+    except OSError as why:
+        raise Fault("cannot read standard input", UNREAD) from why
 
 
 def talk(session: Session, lines: Iterable[bytes]) -> None:

@@ -9,6 +9,8 @@ import textwrap
 import unicodedata
 from dataclasses import dataclass
 
+from tools.faults import plain
+
 from . import telling
 from .sessions import Session
 
@@ -55,7 +57,7 @@ def prompt(typed: str, columns: int) -> str:
 
 def title(session: Session) -> str:
     """The robot that is stepped, and where it is."""
-    return f"{telling.place(session.moment)}   {session.asked.file().rpartition('/')[2]} ({session.robot})"
+    return f"{telling.place(session.moment)}   {plain(session.asked.file().rpartition('/')[2])} ({session.robot})"
 
 
 def panes(session: Session, columns: int, rows: int) -> list[Row]:

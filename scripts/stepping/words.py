@@ -54,5 +54,5 @@ class Asked:
 
 def read(words: list[str]) -> Asked:
     """Reads the words. What is wrong with values and files `crobots-debug` says."""
-    it = given(words, OPTIONS)
+    it = given(words, OPTIONS).some_files()
     return Asked(it, it.once("-x"))

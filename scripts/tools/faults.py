@@ -39,13 +39,25 @@ class Ended(Fault):
 
 
 def plain(word: str) -> str:
-    """A word on a line: each control character is shown as a question mark."""
-    return "".join("?" if ord(c) < 32 or 127 <= ord(c) < 160 else c for c in word)
+    """A word on a line: each control character is shown as a question mark, and each byte that is no text by its code."""
+    return "".join(visible(letter) for letter in word)
+
+
+def visible(letter: str) -> str:
+    """A letter as a line shows it."""
+    if "\udc80" <= letter <= "\udcff":
+        return f"\\x{ord(letter) - 0xdc00:02x}"
+    return "?" if letter < " " or "\x7f" <= letter < "\xa0" else letter
 
 
 def unreadable(path: str, why: OSError) -> NoReturn:
-    raise Fault(f"cannot read {path}: {why.strerror}", FILE) from why
+    raise Fault(f"cannot read {file_word(path)}: {why.strerror}", FILE) from why
 
 
 def unwritable(path: str, why: OSError) -> NoReturn:
-    raise Fault(f"cannot write {path}: {why.strerror}", FILE) from why
+    raise Fault(f"cannot write {file_word(path)}: {why.strerror}", FILE) from why
+
+
+def file_word(path: str) -> str:
+    """The word of a file on a line: one without a letter is two quotes."""
+    return path or "''"

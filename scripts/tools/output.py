@@ -52,13 +52,22 @@ def show(pieces: Iterable[str]) -> None:
         raise Fault(f"cannot write: {why.strerror}", FILE) from why
 
 
+def written_over(path: str, files: Iterable[str]) -> str:
+    """What is wrong with a file that is to be written, if it is one of those that are read, whichever names these have."""
+    for file in files:
+        with contextlib.suppress(OSError):
+            if os.path.samefile(path, file):
+                return f"{path}: this file is read, so it is not written"
+    return ""
+
+
 def open_standard_files() -> bool:
     """Puts the null device where a standard file is closed, so that no other file gets its number; standard output still
-    takes nothing then. Reports whether it was open."""
+    takes nothing then, and standard input gives nothing. Reports whether standard output was open."""
     closed = []
     for file in (INPUT, OUTPUT, ERRORS):
         try:
             os.fstat(file)
         except OSError:
-            closed.append(os.open(os.devnull, os.O_RDONLY if file == OUTPUT else os.O_RDWR))
+            closed.append(os.open(os.devnull, os.O_RDONLY if file == OUTPUT else os.O_WRONLY))
     return OUTPUT not in closed

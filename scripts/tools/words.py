@@ -12,7 +12,7 @@ FLAGS = ("-h", "--help", "--version")
 
 @dataclass(frozen=True)
 class Option:
-    """An option with its value, and the words that gave it."""
+    """An option with its value, and the words that gave it: one, or two."""
 
     name: str
     value: str
@@ -42,6 +42,13 @@ class Given:
             raise Misuse(f"{name} is given twice")
         return self.last(name)
 
+    def some_files(self) -> Given:
+        """The same words, if they name files; else a value may be the file that is missing."""
+        taken = [it for it in self.options if len(it.words) > 1 and not (it.value.isascii() and it.value.isdigit())]
+        if not self.files and not self.flags & {*FLAGS}:
+            raise Misuse(f"no file: {taken[-1].name} took {taken[-1].value} for its value" if taken else "")
+        return self
+
 
 def given(words: list[str], valued: Collection[str], flags: Collection[str] = ()) -> Given:
     """Reads the words; these options have values, and these don't."""
@@ -51,7 +58,7 @@ def given(words: list[str], valued: Collection[str], flags: Collection[str] = ()
         if word == "--":
             it.files += rest
             return it
-        if word.startswith("-"):
+        if word.startswith("-") and word != "-":
             take_option(it, word, rest, valued, (*FLAGS, *flags))
         else:
             it.files.append(word)
@@ -62,15 +69,18 @@ def take_option(it: Given, word: str, rest: list[str], valued: Collection[str], 
     """Takes the word of an option, and the next one if that is its value."""
     name, value = parted(word)
     if name in flags and value is None:
+        if name in it.flags and name not in FLAGS:
+            raise Misuse(f"{name} is given twice")
         it.flags.add(name)
     elif name not in valued:
         raise Misuse(f"unknown option {word}{' (the match is -k)' if name == '-m' else ''}")
-    elif value is not None:
-        it.options.append(Option(name, value, (word,)))
-    elif rest:
-        it.options.append(Option(name, rest[0], (word, rest.pop(0))))
-    else:
+    elif value is None and not rest:
         raise Misuse(f"{name} lacks its value")
+    else:
+        words = (word,) if value is not None else (word, rest.pop(0))
+        it.options.append(Option(name, words[-1] if value is None else value, words))
+        if not it.options[-1].value:
+            raise Misuse(f"{name} has an empty value")
 
 
 def parted(word: str) -> tuple[str, str | None]:

@@ -6,10 +6,11 @@ two matches with one opponent, seat and number are independent of each other."""
 from __future__ import annotations
 
 import argparse
+import json
 import os
 import statistics
 from dataclasses import dataclass
-from typing import Iterator
+from typing import Any, Iterator
 
 from tools.faults import Fault
 from tools.output import show
@@ -24,8 +25,11 @@ from .robots import Robot
 from .seats import keys, seatings
 from .sessions import session
 from .settings import Settings
-from .tables import RESULTS, aligned
+from .tables import RESULTS, aligned, comma_separated
 from .versions import CHALLENGER, NEW, OLD, Place, Versions
+
+
+AGAINST = "against"
 
 
 @dataclass
@@ -37,10 +41,18 @@ class Worth:
     def change(self) -> Mean:
         return mean([[new - old for new, old in zip(*both)] for both in self.of_each])
 
-    def cells(self) -> list[str]:
-        new, old = (statistics.fmean(points for both in self.of_each for points in both[version]) for version in (NEW, OLD))
+    def mean(self, version: int) -> float:
+        """What a match was worth to a version."""
+        return statistics.fmean(points for both in self.of_each for points in both[version])
+
+    def values(self) -> dict[str, float]:
+        """All of it by name."""
         change = self.change()
-        return [f"{new:.2f}", f"{old:.2f}", *map(signed, (change.value, change.low, change.high))]
+        return {"new": self.mean(NEW), "old": self.mean(OLD), "change": change.value, "low": change.low, "high": change.high}
+
+    def cells(self) -> list[str]:
+        new, old, *change = self.values().values()
+        return [f"{new:.2f}", f"{old:.2f}", *map(signed, change)]
 
 
 def signed(value: float) -> str:
@@ -69,18 +81,39 @@ class Challenge:
     def add(self, record: Record) -> None:
         self._it.add(record)
 
-    def text(self) -> str:
+    def text(self, form: str) -> str:
+        """The answer in a form."""
+        worth = {opponent: self._worth(opponent) for opponent in self._it.opponents}
+        best_first = dict(sorted(worth.items(), key=lambda it: -it[1].change().value))
+        whole = Worth([both for it in worth.values() for both in it.of_each])
+        return {"csv": self._comma_separated, "json": self._everything, "table": self._told}[form](best_first, whole)
+
+    def _told(self, worth: dict[int, Worth], whole: Worth) -> str:
         """What the change is worth, on which opponents, how both played each other, what was lost, and what changed if that is
         asked for."""
         names = self._it.names
-        worth = {opponent: self._worth(opponent) for opponent in self._it.opponents}
-        whole = Worth([both for it in worth.values() for both in it.of_each])
-        best_first = sorted(worth.items(), key=lambda it: -it[1].change().value)
-        rows = [[names[opponent], *it.cells()] for opponent, it in best_first]
-        head = ["against", "new", "old", "change", "low", "high"]
-        table = aligned([head, *rows, ["all", *whole.cells()]], (0,))
+        rows = [[names[opponent], *it.cells()] for opponent, it in worth.items()]
+        table = aligned([[AGAINST, *whole.values()], *rows, ["all", *whole.cells()]], (0,))
         changed = self._changed() if self._all else ""
         return table + self._said(worth, whole) + self._both() + self._lost() + changed
+
+    def _comma_separated(self, worth: dict[int, Worth], whole: Worth) -> str:
+        """The rows as comma-separated values, that of all opponents last."""
+        rows = [*((self._it.full_names[opponent], it) for opponent, it in worth.items()), ("all", whole)]
+        return comma_separated([[AGAINST, *whole.values()], *([name, *it.values().values()] for name, it in rows)])
+
+    def _everything(self, worth: dict[int, Worth], whole: Worth) -> str:
+        """All of it as JSON."""
+        it, did = self._it, [self._it.did(NEW, OLD, place) for place in self._it.places(OLD)]
+        names = it.full_names
+        said: dict[str, Any] = {
+            "new": names[NEW], "old": names[OLD], "matches": len(whole.of_each[0][NEW]),
+            "opponents": [{AGAINST: names[opponent], **of_one.values()} for opponent, of_one in worth.items()],
+            "all": whole.values(), "each_other": {how: did.count(how) for how in RESULTS.values()},
+        }
+        if self._all:
+            said["changed"] = [{AGAINST: names[opponent], **it.row(opponent, place)} for _, opponent, place in self._changes()]
+        return json.dumps(said, indent=1) + "\n"
 
     def _said(self, worth: dict[int, Worth], whole: Worth) -> str:
         """The same in words."""
@@ -120,10 +153,13 @@ class Challenge:
 
     def _changed(self) -> str:
         """All matches that changed, those first that cost most, each with the commands that show it."""
-        matches = self._it.matches()
-        changed = sorted((self._it.gain(*match), *match) for match in matches if self._it.has_changed(*match))
+        matches, changed = self._it.matches(), self._changes()
         lines = [line for number, (_, opponent, place) in enumerate(changed, 1) for line in self._change(number, opponent, place)]
         return "\n".join([f"{len(changed)} of {len(matches)} matches changed", *lines, ""])
+
+    def _changes(self) -> list[tuple[float, int, Place]]:
+        """The matches that changed, each with its gain, those first that cost most."""
+        return sorted((self._it.gain(*match), *match) for match in self._it.matches() if self._it.has_changed(*match))
 
     def _change(self, number: int, opponent: int, place: Place) -> list[str]:
         """A match that changed, in words, and the commands that play it with both versions, compare these, and show it."""
@@ -137,12 +173,14 @@ class Challenge:
 
 def challenge(name: str, arguments: list[str]) -> None:
     """Does what the words ask for."""
-    given = words.challenge(name).parse_intermixed_args(arguments)
+    given = words.challenge(name).read(arguments)
     words.settle(given)
     both = [given.new, given.old]
     field = [path for path in given.field if os.path.abspath(path) not in {os.path.abspath(it) for it in both}]
     if not field:
-        raise Fault("there is no robot to play against")
+        raise Fault("NEW and OLD are the only robots; `tournament` plays them against each other, and a challenge needs another one")
+    if given.all and given.form == "csv":
+        raise Fault("--all lists matches in words or with --json, so it takes no --csv")
     program = programs.program(given.crobots)
     with robots.private() as folder:
         copies = robots.copied([*both, *field], folder)
@@ -155,4 +193,4 @@ def challenge(name: str, arguments: list[str]) -> None:
         it = Challenge(given, [robot.path for robot in among])
         done = session(given, Player(program, given.jobs, folder), plans.Plan(settings, among, most, only), it.add)
     with stopping(f"stopped while the answer was made: {done}"):
-        show([it.text()])
+        show([it.text(given.form)])

@@ -6,7 +6,7 @@ import argparse
 from decimal import Decimal
 
 from tools.faults import Fault
-from tools.output import say, show
+from tools.output import say, show, written_over
 from tools.signals import stopping
 
 from . import plans, programs, robots, words
@@ -41,14 +41,19 @@ def check(given: argparse.Namespace) -> None:
         raise Fault("--title, --page and --replays go with --html")
     if given.against and not given.merge:
         raise Fault("--against goes with --merge")
+    for form, path in given.write:
+        if why := written_over(path, [*given.robots, *(given.those or ())]):
+            raise Fault(f"--write {form}={why}")
     check_files(given.write)
 
 
 def enough(given: argparse.Namespace) -> None:
     """Refuses too few robots."""
     size = max(sizes(given))
-    if len(given.robots) < size:
+    if len(given.robots) + len(given.those) < size:
         raise Fault(f"matches of {size} need at least {size} robots")
+    if given.those and not given.robots:
+        raise Fault("--those takes the robots of one side, and none is left for the other; give the others before it")
 
 
 def weighed(given: argparse.Namespace, settings: Settings) -> None:
@@ -80,10 +85,12 @@ def merge(given: argparse.Namespace) -> None:
 
 def planned(given: argparse.Namespace, program: Program, folder: str) -> plans.Plan:
     """The plan of the words; the robots compile."""
-    copies = robots.copied(given.robots, folder)
+    copies = robots.copied([*given.robots, *given.those], folder)
     robots.compiled(program, given.profile, copies, folder)
     among = robots.in_order(copies)
-    settings = Settings(given.matches, given.cycles, given.seed, given.profile, program.sha256, len(among), sizes(given), given.sample)
+    those = tuple(at for at, it in enumerate(among) if it.path in given.those)
+    settings = Settings(given.matches, given.cycles, given.seed, given.profile, program.sha256, len(among), sizes(given), given.sample,
+                        those)
     if given.sample:
         check_sample(settings, keys([it.sha256 for it in among]))
     most = given.piece or plans.busy(settings, given.jobs)
@@ -103,7 +110,7 @@ def tell_rounded(given: argparse.Namespace, sizes: tuple[int, ...]) -> None:
 
 def tournament(name: str, arguments: list[str]) -> None:
     """Does what the words ask for."""
-    given = words.tournament(name).parse_intermixed_args(arguments)
+    given = words.tournament(name).read(arguments)
     check(given)
     if given.merge:
         with stopping("stopped while records were merged"):

@@ -1,9 +1,8 @@
-"""Systems of linear equations with a symmetric positive matrix."""
+"""Symmetric positive matrices: taken apart (Cholesky), inverted, and systems of equations with them."""
 
 from __future__ import annotations
 
 import math
-from dataclasses import dataclass
 from operator import mul
 from typing import Sequence
 
@@ -11,64 +10,51 @@ Vector = Sequence[float]
 Matrix = list[list[float]]
 
 
-@dataclass(frozen=True)
-class Half:
-    """Rows of a triangle beside the diagonal, as tuples, with the sum of each one's squares."""
-
-    rows: list[tuple[float, ...]]
-    squares: list[float]
-
-
-@dataclass(frozen=True)
-class Factors:
-    """A matrix taken apart into a lower one with ones on its diagonal, a diagonal one, and the first one turned over.
-
-    The diagonal is kept as its inverse. The rows of the last one are given from their ends, the last one first."""
-
-    lower: Half
-    inverse: list[float]
-    upper: Half
-
-
 def product(one: Vector, other: Vector) -> float:
-    """The sum of what two vectors' numbers come to, multiplied."""
+    """The sum of what two vectors' numbers come to, multiplied, as far as the shorter one goes."""
     found: float = sum(map(mul, one, other))
     return found
 
 
-def half(rows: list[tuple[float, ...]]) -> Half:
-    return Half(rows, [product(it, it) for it in rows])
+def factored(matrix: Sequence[Vector]) -> Matrix:
+    """The lower factor, row by row up to the diagonal; of the matrix the lower half is read."""
+    rows: Matrix = []
+    for at, given in enumerate(matrix):
+        made: list[float] = []
+        for row, wanted in zip(rows, given):
+            made.append((wanted - product(made, row)) / row[-1])
+        made.append(math.sqrt(given[at] - product(made, made)))
+        rows.append(made)
+    return rows
 
 
-def factored(matrix: Matrix) -> Factors:
-    """Takes a matrix apart, of which the lower half is given with its diagonal."""
-    lower = Half([], [])
-    inverse: list[float] = []
-    for given in matrix:
-        made = solved_lower(lower, given[:-1])
-        unit = *map(mul, made, inverse),
-        inverse.append(1 / (given[-1] - product(made, unit)))
-        lower.rows.append(unit)
-        lower.squares.append(product(unit, unit))
-    turned = [tuple(lower.rows[row][column] for row in range(len(matrix) - 1, column, -1)) for column in range(len(matrix))]
-    return Factors(lower, inverse, half(turned[::-1]))
-
-
-def solved_lower(lower: Half, right: Vector) -> list[float]:
-    """Solves a system whose matrix has ones on its diagonal, and these rows beside it.
-
-    A product of two vectors is half of their squares less that of their distance: what works that out is a loop in C."""
+def solved(factor: Matrix, right: Vector) -> list[float]:
+    """Solves a system of equations by the lower factor of its matrix."""
     found: list[float] = []
-    squares, distance = 0.0, math.dist
-    for row, square, wanted in zip(lower.rows, lower.squares, right):
-        apart = distance(row, found)
-        value = wanted - (square + squares - apart * apart) / 2
-        squares += value * value
-        found.append(value)
+    for row, wanted in zip(factor, right):
+        found.append((wanted - product(found, row)) / row[-1])
+    for at in range(len(found) - 1, -1, -1):
+        row = factor[at]
+        found[at] /= row[at]
+        for before in range(at):
+            found[before] -= row[before] * found[at]
     return found
 
 
-def solved(factors: Factors, right: Vector) -> list[float]:
-    """Solves a system."""
-    found = solved_lower(factors.lower, right)
-    return solved_lower(factors.upper, [*map(mul, found, factors.inverse)][::-1])[::-1]
+def inverse(factor: Matrix) -> Matrix:
+    """The inverse of the matrix with this lower factor."""
+    columns = [column(factor, at) for at in range(len(factor))]
+    found = [[0.0] * len(factor) for _ in factor]
+    for one, long in enumerate(columns):
+        for other, short in enumerate(columns[one:], one):
+            found[one][other] = found[other][one] = product(long[other - one:], short)
+    return found
+
+
+def column(factor: Matrix, begin: int) -> list[float]:
+    """A column of the factor's inverse, from the diagonal on: all before is 0."""
+    found: list[float] = []
+    for at in range(begin, len(factor)):
+        row = factor[at]
+        found.append(((1.0 if at == begin else 0.0) - product(found, row[begin:at])) / row[at])
+    return found

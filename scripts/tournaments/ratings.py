@@ -1,21 +1,29 @@
-"""Bradley-Terry ratings: a robot of rating a beats one of rating b with the odds 10 ** ((a - b) / 400)."""
+"""Ratings with 95 % intervals: a rating is a strength on the capped scale, by which 400 more are odds of ten to one.
+
+The interval holds the rating that endless play against these same robots would give. It comes from formulas: how sure each share
+is shows in how its matches differ, and the fit says how a robot's strength moves with each share. What a robot's own matches do is a
+sum, whose skewness moves the interval (Johnson), and whose variance is known as well as its matches are many (Student). A tenth of an
+upset that it may have had, but didn't, widens it. What others' matches do adds by squares."""
 
 from __future__ import annotations
 
 import math
 from dataclasses import dataclass
-from typing import Callable, Iterable, Sequence, TypeVar
+from operator import mul
+from typing import Iterator, NamedTuple, Sequence
 
-from .bootstrap import ROUNDS
-from .resampling import SCOUTS, Left, Round, Steps, Whole, left_by, left_of, resampled
-from .sharing import processors, shared
-from .tallies import Tally
+from .evidence import Evidence
+from .intervals import NORMAL, quantile
+from .matrices import Matrix, Vector, product
+from .parts import Rows, parts, rows
+from .strengths import REAL, TIES, Fit, chances, fitted
 
+# The version of the scale. The first one wasn't capped, and its intervals were drawn by chance.
+VERSION = 2
 SCALE = 400 / math.log(10)
-OUTSIDE = ROUNDS // 40
-# A process is worth its start if its rounds have this number of pairs together.
-WORTH = 200_000
-Found = TypeVar("Found")
+UNSEEN = 0.1
+SKEWED = (1 + 2 * NORMAL**2) / 6
+STEPS_MAX, STEP_MAX, EXACT = 60, 1.0, 1e-9
 
 
 @dataclass(frozen=True)
@@ -26,119 +34,134 @@ class Rating:
     low: float
     high: float
 
-    def meets(self, other: Rating) -> bool:
-        """Reports whether the intervals overlap, as a table shows them: in whole numbers."""
-        return round(self.low) <= round(other.high) and round(other.low) <= round(self.high)
+
+# The rating of a robot of which nothing is known: its interval ends before it begins.
+NOTHING = Rating(0.0, 1.0, -1.0)
 
 
-def ratings(tally: Tally, robots: int, anchor: int | None = None, processes: int = 0) -> list[Rating]:
-    """The ratings of the robots by their positions, with intervals from the bootstrap.
+def ratings(those: Evidence, anchor: int | None = None) -> list[Rating]:
+    """The ratings of all robots by their positions.
 
-    With an anchor they say how far a robot is above the one with this position, whose own rating is 0 in all rounds. They are
-    worked out by this number of processes, or by as many as there are processors and work for; all digits are the same."""
-    whole = Whole(tally, robots)
-    rounds = Rounds([*resampled(tally, whole)], len(tally.pairs), processes)
-    left = rounds.begin(whole.is_firm())
-    found: dict[int, Rating] = {}
-    while True:
-        far = [(it.left(left.of_any), it.left(left.of_one)) for it in rounds.all]
-        unsure = set[int]()
-        for robot in {*range(robots)} - found.keys():
-            column = Column(rounds.all, far, robot, anchor)
-            if those := column.unsure():
-                unsure |= those
-            else:
-                found[robot] = column.rating(rated(whole.strengths, robot, anchor))
-        if not unsure:
-            return [found[robot] for robot in range(robots)]
-        rounds.go_on(unsure)
+    The robots of each part are rated by themselves: their mean is 0, and ratings of different parts can't be compared. With an
+    anchor a rating says how far a robot is above that one; then those of other parts have none."""
+    found = [NOTHING] * those.robots
+    for part in parts(those.shares):
+        if anchor is None or anchor in part:
+            rated = Part(rows(those, part)).ratings(None if anchor is None else part.index(anchor))
+            for robot, it in zip(part, rated):
+                found[robot] = it
+    return found
 
 
-class Rounds:
-    """All rounds. Each is fitted by itself, but for what is known from the first ones, so any process may fit any of them."""
+class Own(NamedTuple):
+    """What a robot's own matches do to its strength, if chance were a straight line of strengths: the variance and the third moment
+    of what was seen, and what unseen upsets add to both, on the side on which they are thought of; `among_all` is the part that its
+    matches have in the variance by all matches."""
 
-    def __init__(self, every: list[Round], pairs: int, processes: int) -> None:
-        self.all = every
-        self._pairs = pairs
-        self._processes = processes
+    seen: float
+    third: float
+    unseen: float
+    more: float
+    among_all: float
 
-    def begin(self, is_firm: bool) -> Left:
-        """Fits all rounds to the end, or so far that it is known what is left after a step."""
-
-        def fit(at: int) -> tuple[float, float]:
-            it = self.all[at]
-            it.begin()
-            if is_firm and at < SCOUTS:
-                return left_of(it)
-            if is_firm:
-                it.go_on()
-            else:
-                it.finish()
-            return 0.0, 0.0
-
-        parts = self._each(fit, range(len(self.all)))
-        return left_by(parts[:SCOUTS]) if is_firm else Left()
-
-    def go_on(self, places: Iterable[int]) -> None:
-        """Goes a step on in these rounds."""
-        self._each(lambda at: self.all[at].go_on(), sorted(places))
-
-    def _each(self, does: Callable[[int], Found], places: Sequence[int]) -> list[Found]:
-        """Does something with each of these rounds; answers what it came to."""
-
-        def work(at: int) -> tuple[Found, Steps]:
-            return does(at), self.all[at].steps()
-
-        most = self._processes or min(processors(), len(places) * self._pairs // WORTH)
-        found = []
-        for at, (answer, steps) in zip(places, shared(work, places, most)):
-            self.all[at].resume(steps)
-            found.append(answer)
-        return found
+    def moved(self, side: int, quantile: float) -> float:
+        """How far they may have moved it on a side."""
+        variance = self.seen + self.unseen
+        if not variance:
+            return 0.0
+        skewness = (self.third + side * self.more) / variance
+        return max(0.0, REAL * (quantile * math.sqrt(variance) + side * SKEWED * skewness))
 
 
-class Column:
-    """A robot's ratings in all rounds, each with how far it may be from the fit.
+class Part:
+    """The ratings of connected robots."""
 
-    What may be left of a round's strengths is given: of any of them, and of one that is fitted alone."""
+    def __init__(self, those: Rows) -> None:
+        self._rows = those
+        self._fit: Fit = fitted(those.met, those.scores())
+        self._variances = doubted(those)
+        covariances = covariance(those, self._variances)
+        # of each robot's weights the products with all covariances
+        self._with_all = [[product(row, weights) for row in covariances] for weights in self._fit.inverse]
 
-    def __init__(self, rounds: Sequence[Round], left: Sequence[tuple[float, float]], robot: int, anchor: int | None) -> None:
-        # both strengths that make a rating may be as far
-        each = SCALE * (1 if anchor is None else 2 if anchor != robot else 0)
-        self._values = [rated(it.strengths, robot, anchor) for it in rounds]
-        self._far = [each * of_any for of_any, _ in left]
-        for at in self.unsure():
-            self._values[at] = alone(rounds[at], robot, anchor)
-            self._far[at] = each * left[at][1]
+    def ratings(self, anchor: int | None) -> list[Rating]:
+        """All ratings, or how far they are above that of the anchor."""
+        found = [self._rating(robot) for robot in range(self._rows.many)]
+        return found if anchor is None else [*self._above(found, anchor)]
 
-    def rating(self, value: float) -> Rating:
-        """The rating with this value."""
-        return interval(value, sorted(self._values))
+    def _rating(self, robot: int) -> Rating:
+        weights, value = self._fit.inverse[robot], self._fit.strengths[robot]
+        own = self._own(weights, robot)
+        others = NORMAL * REAL * math.sqrt(max(0.0, product(weights, self._with_all[robot]) - own.among_all))
+        by = quantile(max(1, self._rows.freedom[robot]))
+        low, high = (value + side * math.hypot(self._bent(robot, side * own.moved(side, by)), others) for side in (-1, 1))
+        return Rating(SCALE * value, SCALE * low, SCALE * high)
 
-    def unsure(self) -> set[int]:
-        """The rounds that have to be fitted better before the interval is known in whole numbers."""
-        lows, highs = ([value + sign * far for value, far in zip(self._values, self._far)] for sign in (-1, 1))
-        least, most = interval(0, sorted(lows)), interval(0, sorted(highs))
-        ends = [(one, other) for one, other in ((least.low, most.low), (least.high, most.high)) if not are_alike(one, other)]
-        return {at for at, (low, high) in enumerate(zip(lows, highs))
-                if low < high and any(low <= other and high >= one for one, other in ends)}
+    def _own(self, weights: Vector, robot: int) -> Own:
+        """What a robot's own matches do."""
+        those = self._rows
+        far = [weights[robot] - it for it in weights]
+        squares = [it * it for it in far]
+        spreads = [it.moments(weights) for it in those.spreads[robot]]
+        more = sum(variance for variance, _ in spreads)
+        seen = product(squares, those.variances[robot]) + more
+        third = product([*map(mul, squares, far)], those.thirds[robot]) + sum(it for _, it in spreads)
+        upsets = [those.size(robot) / 2 * abs(it) * each for it, each in zip(far, those.each[robot])]
+        unseen = [UNSEEN / those.opponents(robot) * it * it for it in upsets]
+        return Own(seen, third, sum(unseen), product(unseen, upsets), product(squares, self._variances[robot]) + more)
+
+    def _bent(self, robot: int, moved: float) -> float:
+        """How far a robot's strength moves if its score does as it would for this way on a straight line.
+
+        The others stay where they are to each other. So if it moves by some way, they move back, since the mean is 0."""
+        met, strengths = self._rows.met[robot], self._fit.strengths
+        ours, many, back = chances(strengths, robot), self._rows.opponents(robot), len(strengths) / (len(strengths) - 1)
+        score, bend, least = product(met, ours), product(met, [it * (1 - it) for it in ours]), many * TIES / 2
+        wanted = min(max(score + bend * back * moved, least), many - least)
+        return (alone(met, strengths, strengths[robot], wanted) - strengths[robot]) / back
+
+    def _above(self, those: Sequence[Rating], anchor: int) -> Iterator[Rating]:
+        """How far ratings are above that of the anchor. Squares add up; what both have in common counts where that is wider."""
+        base = those[anchor]
+        for robot, it in enumerate(those):
+            common = min(0.0, product(self._fit.inverse[robot], self._with_all[anchor]))
+            both = 2 * (SCALE * REAL * NORMAL) ** 2 * common
+            value = it.value - base.value
+            low = math.sqrt((it.value - it.low) ** 2 + (base.high - base.value) ** 2 - both)
+            high = math.sqrt((it.high - it.value) ** 2 + (base.value - base.low) ** 2 - both)
+            yield Rating(0.0, 0.0, 0.0) if robot == anchor else Rating(value, value - low, value + high)
 
 
-def rated(strengths: Sequence[float], robot: int, anchor: int | None) -> float:
-    """A robot's rating."""
-    return SCALE * (strengths[robot] - (0 if anchor is None else strengths[anchor]))
+def doubted(those: Rows) -> Matrix:
+    """The variances of shares with what unseen upsets of others do: where each has met all others, these hardly count."""
+    all_others = 1 / (those.many - 1)
+    few = [UNSEEN * (1 / those.opponents(robot) - all_others) for robot in range(those.many)]
+    return [[it + (mine + theirs) * part * part for it, part, theirs in zip(row, each, few)]
+            for mine, row, each in zip(few, those.variances, those.each)]
 
 
-def alone(it: Round, robot: int, anchor: int | None) -> float:
-    """A robot's rating in a round, if the strengths of all others stay, but for the one with the anchor."""
-    return SCALE * (it.alone(robot) - (0 if anchor is None else it.alone(anchor)))
+def covariance(those: Rows, variances: Matrix) -> Matrix:
+    """How the robots' scores vary together, by the variances of pairs and by matches of more robots."""
+    found = [[-it for it in row] for row in variances]
+    for at, row in enumerate(variances):
+        found[at][at] = sum(row)
+    for robot, spreads in enumerate(those.spreads):
+        for it in spreads:
+            place = it.group.index(robot)
+            for scores, squares, _ in it.changes:
+                for other, score in zip(it.group, scores):
+                    found[robot][other] += squares * scores[place] * score
+    return found
 
 
-def interval(value: float, rounds: list[float]) -> Rating:
-    """A rating whose interval leaves out one round of forty on each side."""
-    return Rating(value, rounds[OUTSIDE], rounds[-1 - OUTSIDE])
-
-
-def are_alike(one: float, other: float) -> bool:
-    """Reports whether two numbers are the same whole number in a table."""
-    return math.isfinite(one) and math.isfinite(other) and round(one) == round(other)
+def alone(met: Vector, strengths: Vector, begin: float, wanted: float) -> float:
+    """The strength by which a robot has the score that is wanted, if all others stay, by Newton's method."""
+    others = [math.exp(it) for it, is_met in zip(strengths, met) if is_met]
+    for _ in range(STEPS_MAX):
+        power = math.exp(begin)
+        shares = [power / (power + it) for it in others]
+        step = (wanted - sum(shares)) / (sum(shares) - product(shares, shares))
+        begin += max(-STEP_MAX, min(STEP_MAX, step))
+        if abs(step) < EXACT:
+            break
+    return begin

@@ -12,6 +12,7 @@ from tools.faults import Fault, unwritable
 from tools.output import say, show, write
 
 from . import robots, tables
+from .parts import parts
 from .publishing import write_site
 from .records import Record
 from .robots import Robot
@@ -46,6 +47,7 @@ class Results:
     def write(self, settings: Settings, among: list[Robot]) -> None:
         """Writes the form for standard output, after those for files. A file that can't be written keeps nothing from the rest."""
         forms = Forms(self._given, settings, among, self._tally, self._spool)
+        self._tell_apart()
         faults: list[Fault] = []
         for form, path in self._given.write:
             try:
@@ -62,6 +64,13 @@ class Results:
             say(self._given.script, str(fault))
         for fault in faults[-1:]:
             raise fault
+
+
+    def _tell_apart(self) -> None:
+        """Says if there are robots whose ratings can't be compared."""
+        many = len(parts((seats[0], other) for seats in self._tally.seatings for other in seats[1:]))
+        if many > 1 and {self._given.form, *(form for form, _ in self._given.write)} - {"matrix", "long"}:
+            say(self._given.script, f"the robots are in {many} parts that haven't met: ratings of different parts can't be compared")
 
 
 class Forms:

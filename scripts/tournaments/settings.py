@@ -23,12 +23,19 @@ class Settings:
     robots: int
     sizes: tuple[int, ...]
     sample: int = 0
+    # the positions of one side, if only robots of both sides play each other
+    those: tuple[int, ...] = ()
 
     @cached_property
     def text(self) -> str:
         """The settings as a record has them."""
+        sides = f" those={sum(1 << at for at in self.those):x}" if self.those else ""
         return (f"m={self.matches} l={self.cycles} s={self.seed} p={self.profile} program={self.program} "
-                f"robots={self.robots} sizes={','.join(map(str, self.sizes))} sample={self.sample}")
+                f"robots={self.robots} sizes={','.join(map(str, self.sizes))} sample={self.sample}{sides}")
+
+    def has(self, group: Group) -> bool:
+        """Reports whether a group is played: if there are sides it has robots of both."""
+        return not self.those or 0 < len({*group} & {*self.those}) < len(group)
 
     @cached_property
     def _each(self) -> dict[int, int]:
@@ -45,19 +52,20 @@ class Settings:
 
 NUMBER = r"\d{1,20}"
 PATTERN = (rf"m={NUMBER} l={NUMBER} s={NUMBER} p={NUMBER} program=[0-9a-f]{{64}} "
-           rf"robots={NUMBER} sizes=[2-4](?:,[2-4]){{0,2}} sample={NUMBER}")
+           rf"robots={NUMBER} sizes=[2-4](?:,[2-4]){{0,2}} sample={NUMBER}(?: those=[0-9a-f]+)?")
 
 
 @cache
 def parsed(text: str) -> Settings:
     """The settings of a text that PATTERN finds."""
-    m, l, s, p, program, robots, sizes, sample = (field.partition("=")[2] for field in text.split(" "))
-    several = tuple(map(int, sizes.split(",")))
-    return Settings(int(m), int(l), int(s), int(p), program, int(robots), several, int(sample))
+    m, l, s, p, program, robots, sizes, sample, *sides = (field.partition("=")[2] for field in text.split(" "))
+    several, those = tuple(map(int, sizes.split(","))), int(sides[0], 16) if sides else 0
+    places = tuple(at for at in range(those.bit_length()) if those >> at & 1)
+    return Settings(int(m), int(l), int(s), int(p), program, int(robots), several, int(sample), places)
 
 
 NAMES = {"matches": "matches", "cycles": "limit", "seed": "seed", "profile": "profile", "program": "program",
-         "robots": "number of robots", "sizes": "size", "sample": "sample"}
+         "robots": "number of robots", "sizes": "size", "sample": "sample", "those": "sides"}
 
 
 def difference(one: Settings, other: Settings) -> str:

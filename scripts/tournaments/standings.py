@@ -3,11 +3,18 @@
 from __future__ import annotations
 
 import itertools
-from dataclasses import dataclass
+from dataclasses import dataclass, replace
 from decimal import Decimal
+from functools import cache
+from typing import Mapping
 
+from .closeness import Closeness, Weight
+from .evidence import evidence
 from .ratings import Rating, ratings
 from .tallies import Score, Tally
+
+# The scores of robots in matches of each size.
+Scores = Mapping[int, Mapping[int, Score]]
 
 
 @dataclass(frozen=True)
@@ -20,6 +27,10 @@ class Scoring:
 
     def points(self, score: Score) -> Decimal:
         return self.won * score.won + self.tied * score.tied
+
+    def worth(self) -> dict[str, float]:
+        """What a match that ended so is worth."""
+        return {"w": float(self.won), "t": float(self.tied), "l": 0.0}
 
     def mean(self, score: Score) -> Decimal:
         """Points a match."""
@@ -41,21 +52,34 @@ class Standing:
 
 
 def standings(tally: Tally, names: list[str], scoring: Scoring) -> list[Standing]:
-    """The robots, best first; equal points have an equal rank. One whose interval overlaps that of the one above is close."""
-    rated = ratings(tally, len(names))
-    unranked = [unplaced(tally, robot, name, scoring, rated[robot]) for robot, name in enumerate(names)]
+    """The robots, best first; equal points have an equal rank. One whose points may be those of the one above is close."""
+    scores, rated = tally.scores(), ratings(evidence(tally, len(names)))
+    closeness = Closeness(tally, scoring.worth(), weights(scores, scoring))
+    unranked = [unplaced(scores, robot, name, scoring, rated[robot]) for robot, name in enumerate(names)]
     found: list[Standing] = []
     for place, it in enumerate(sorted(unranked, key=lambda it: (-it.points, it.name)), 1):
         above = found[-1] if found else None
         rank = above.rank if above and above.points == it.points else place
-        close = above is not None and above.rating.meets(it.rating)
-        found.append(Standing(rank, it.robot, it.name, it.score, it.by_size, it.points, it.rating, close))
+        close = above is not None and closeness.are_close(above.robot, it.robot, float(above.points - it.points))
+        found.append(replace(it, rank=rank, close=close))
     return found
 
 
-def unplaced(tally: Tally, robot: int, name: str, scoring: Scoring, rating: Rating) -> Standing:
+def weights(scores: Scores, scoring: Scoring) -> Weight:
+    """How much a match counts in a robot's points a match."""
+
+    @cache
+    def of_size(robot: int, size: int) -> float:
+        if scoring.weights is None:
+            return 1 / sum(of_robot[robot].played for of_robot in scores.values() if robot in of_robot)
+        return float(scoring.weights.get(size, Decimal(0))) / scores[size][robot].played
+
+    return lambda robot, group: of_size(robot, len(group))
+
+
+def unplaced(all_scores: Scores, robot: int, name: str, scoring: Scoring, rating: Rating) -> Standing:
     """A robot's standing before its place is known."""
-    scores = {size: scores.get(robot, Score()) for size, scores in tally.scores.items()}
+    scores = {size: scores.get(robot, Score()) for size, scores in all_scores.items()}
     total = Score(*(sum(getattr(it, what) for it in scores.values()) for what in ("won", "tied", "lost")))
     by_size = {size: scoring.mean(it) for size, it in sorted(scores.items())}
     if scoring.weights is None:
@@ -76,8 +100,9 @@ class Faced:
 def faced(tally: Tally, robots: int) -> list[list[Faced | None]]:
     """Head to head: what each robot did against each other. A robot that died has lost, even if the other died too."""
     rows: list[list[Faced | None]] = [[None] * robots for _ in range(robots)]
+    pairs = tally.pairs()
     for one, other in itertools.combinations(range(robots), 2):
-        pair = tally.pairs.get((one, other))
+        pair = pairs.get((one, other))
         if pair:
             for side, (mine, theirs) in enumerate(((one, other), (other, one))):
                 won = pair.beaten[side]

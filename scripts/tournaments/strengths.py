@@ -1,121 +1,77 @@
-"""Strengths that fit matches best: a robot of strength a beats one of strength b with the odds exp(a - b).
+"""Strengths on a capped scale: a robot of strength a is expected to have the share s of a pair with one of strength b, where the
+logarithm of s / (1 - s) is a - b.
 
-A tie counts as half a win for each. Each robot has also tied once with an imagined robot of strength 0, so that one that
-won all or lost all has a strength too. The robots' mean chance against that one is exactly a half."""
+Two of a hundred matches of each pair are imagined ties. So a robot that won all has a strength, and what endless play would
+show is known of it as well. All pairs that have met count alike: each robot's expected shares add up to those that it has. The
+mean of all strengths is 0. The robots have to be connected: by pairs that have met each is led to each other one."""
 
 from __future__ import annotations
 
-import itertools
 import math
 from dataclasses import dataclass
-from operator import add, itemgetter, truediv
-from typing import Callable, Iterator, Sequence
+from typing import Sequence
 
-from . import matrices
-from .matrices import Factors, Matrix, Vector
+from .matrices import Matrix, Vector, factored, inverse, product, solved
 
-Numbers = Sequence[int]
-Picker = Callable[[list[float]], Sequence[float]]
+# The part of a pair's matches that are imagined ties, and of the others.
+TIES = 0.02
+REAL = 1 - TIES
 STEP_MAX, STEPS_MAX, EXACT = 1.5, 200, 1e-10
 # After a step that is shorter the curvature stays as it is.
-NEAR = 0.01
+NEAR = 0.05
 
 
-class Opponents:
-    """Whom each robot has met, by their positions."""
-
-    def __init__(self, robots: int, pairs: Sequence[tuple[int, int]]) -> None:
-        self.met: list[list[int]] = [[] for _ in range(robots)]
-        for one, other in pairs:
-            self.met[one].append(other)
-            self.met[other].append(one)
-        for others in self.met:
-            others.sort()
-        self.pickers = [picker(at, others, robots) for at, others in enumerate(self.met)]
-        places = {pair: place for place, pair in enumerate(pairs)}
-        # which pair each robot is with each that it has met: so each pair twice
-        self.places = [[places[min(at, other), max(at, other)] for other in others] for at, others in enumerate(self.met)]
-
-
-def picker(robot: int, others: list[int], robots: int) -> Picker:
-    """What picks the values of these other robots."""
-    if len(others) == robots - 1:
-        return lambda values: values[:robot] + values[robot + 1:]
-    if len(others) > 1:
-        return itemgetter(*others)
-    return lambda values: [values[other] for other in others]
-
-
-@dataclass(frozen=True)
-class Matches:
-    """Some matches: how often each robot met each opponent, and how many it has beaten, each tie counted as a half.
-
-    The scores and the sums of what was played have the tie with the imagined robot, the rows don't."""
-
-    opponents: Opponents
-    rows: Sequence[Numbers]
-    scores: list[float]
-    played: list[int]
-
-    def slope(self, strengths: Vector) -> list[float]:
-        """The slope of the likelihood: what each robot's score is more than expected."""
-        powers = [*map(math.exp, strengths)]
-        return [self.slope_of(robot, powers) for robot in range(len(powers))]
-
-    def slope_of(self, robot: int, powers: list[float]) -> float:
-        """What a robot's score is more than expected. A power is the exponential of a strength."""
-        power, others = powers[robot], self.opponents.pickers[robot](powers)
-        parts: float = sum(map(truediv, self.rows[robot], map(add, itertools.repeat(power), others)))
-        return self.scores[robot] - power * (parts + 1 / (1 + power))
-
-    def chances(self, strengths: Vector) -> Iterator[tuple[float, ...]]:
-        """Each robot's chance against each that it has met."""
-        powers = [*map(math.exp, strengths)]
-        for power, pick in zip(powers, self.opponents.pickers):
-            yield tuple([power / (power + other) for other in pick(powers)])
-
-    def curvature(self, strengths: Vector) -> Matrix:
-        """The curvature of the likelihood, below the diagonal and on it."""
-        powers = [*map(math.exp, strengths)]
-        return [curved(at, powers, others, row) for at, (others, row) in enumerate(zip(self.opponents.met, self.rows))]
-
-    def fitted(self, begin: Vector) -> Fit:
-        """The strengths of the greatest likelihood, by Newton's method with steps of limited length."""
-        strengths, longest = [*begin], math.inf
-        for _ in range(STEPS_MAX):
-            if longest > NEAR:
-                curvature = self.curvature(strengths)
-                factors = matrices.factored(curvature)
-            steps = matrices.solved(factors, self.slope(strengths))
-            longest = length(steps)
-            scale = min(1.0, STEP_MAX / longest) if longest else 1.0
-            strengths = [it + scale * step for it, step in zip(strengths, steps)]
-            if longest < EXACT:
-                break
-        return Fit(strengths, factors, [row[-1] for row in curvature])
+def capped(share: float) -> float:
+    """A share with the imagined ties."""
+    return REAL * share + TIES / 2
 
 
 @dataclass(frozen=True)
 class Fit:
-    """Strengths that fit, and the curvature near them: taken apart, and its diagonal."""
+    """Strengths that fit, and the inverse of the curvature there: how much each strength moves with each robot's score."""
 
     strengths: list[float]
-    factors: Factors
-    diagonal: list[float]
+    inverse: Matrix
 
 
-def curved(robot: int, powers: list[float], others: Numbers, row: Numbers) -> list[float]:
-    """A robot's row of the curvature."""
-    found, own = [0.0] * robot, powers[robot]
-    bent = own / (1 + own) ** 2
-    for other, matches in zip(others, row):
-        bend = matches * own * powers[other] / (own + powers[other]) ** 2
-        bent += bend
-        if other < robot:
-            found[other] = -bend
-    return [*found, bent]
+def fitted(met: Sequence[Vector], scores: Vector) -> Fit:
+    """The strengths by which each robot's capped shares add up to its score, by Newton's method with steps of limited length.
+
+    A row of `met` has 1 for each robot that was met, and else 0."""
+    strengths = [math.log(it / (sum(row) - it)) for it, row in zip(scores, met)]
+    longest = math.inf
+    for _ in range(STEPS_MAX):
+        if longest > NEAR:
+            factor = factored(curvature(met, strengths))
+        step = solved(factor, [it - expected(row, strengths, at) for at, (it, row) in enumerate(zip(scores, met))])
+        longest = max(abs(it) for it in step)
+        part = min(1.0, STEP_MAX / longest) if longest else 1.0
+        strengths = [it + part * more for it, more in zip(strengths, step)]
+        if longest < EXACT:
+            break
+    mean = sum(strengths) / len(strengths)
+    return Fit([it - mean for it in strengths], inverse(factored(curvature(met, strengths))))
 
 
-def length(steps: Vector) -> float:
-    """How far a step moves at most."""
-    return max(abs(it) for it in steps)
+def chances(strengths: Vector, robot: int) -> list[float]:
+    """The shares that are expected of a robot against each one."""
+    power = math.exp(strengths[robot])
+    return [power / (power + math.exp(it)) for it in strengths]
+
+
+def expected(met: Vector, strengths: Vector, robot: int) -> float:
+    """The score that is expected of a robot."""
+    return product(met, chances(strengths, robot))
+
+
+def curvature(met: Sequence[Vector], strengths: Vector) -> Matrix:
+    """How the scores change with the strengths. What is added to each of its numbers keeps the strengths' mean."""
+    one = 1 / len(met)
+    found = []
+    for at, row in enumerate(met):
+        bends = [it * chance * (1 - chance) for it, chance in zip(row, chances(strengths, at))]
+        own = sum(bends)
+        bends = [one - it for it in bends]
+        bends[at] = own + one
+        found.append(bends)
+    return found

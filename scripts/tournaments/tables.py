@@ -98,11 +98,12 @@ def everything(
 ) -> Iterator[str]:
     """All of it as JSON."""
     names = {it.robot: it.name for it in standings}
-    weights = scoring.weights
+    weights, those = scoring.weights, [names[at] for at in settings.those]
     said: dict[str, Any] = {
         "settings": {
             "matches": settings.matches, "cycles": settings.cycles, "seed": settings.seed, "profile": settings.profile,
             "program": settings.program, "sizes": settings.sizes, "sample": settings.sample,
+            **({"those": those} if those else {}),
             "points": {"won": float(scoring.won), "tied": float(scoring.tied)},
             "weights": {SIZE_NAMES[size]: float(weight) for size, weight in weights.items()} if weights else None,
         },

@@ -1,17 +1,17 @@
-"""Adds up matches: what each robot did, what each pair did to each other, and the same in each round of the bootstrap."""
+"""Adds up matches: of each seating how many ended in each way, and what each robot and each pair did by that."""
 
 from __future__ import annotations
 
 import itertools
-from collections import defaultdict
+from collections import Counter, defaultdict
 from dataclasses import dataclass, field
+from typing import Sequence
 
-from .bootstrap import Packed, weights
 from .records import Record
 from .settings import Group
 
-# A robot, and the letter of what it did.
-Did = tuple[int, str]
+# How matches ended: a letter w, t or l for the robot of each seat.
+Ended = str
 
 
 @dataclass
@@ -26,6 +26,12 @@ class Score:
     def played(self) -> int:
         return self.won + self.tied + self.lost
 
+    def add(self, letter: str, matches: int) -> None:
+        """Adds matches that ended so for the robot."""
+        self.won += matches * (letter == "w")
+        self.tied += matches * (letter == "t")
+        self.lost += matches * (letter == "l")
+
 
 @dataclass
 class Pair:
@@ -34,51 +40,67 @@ class Pair:
     played: int = 0
     tied: int = 0
     beaten: list[int] = field(default_factory=lambda: [0, 0])
-    rounds: Packed = 0
+
+    def add(self, one: str, other: str, matches: int) -> None:
+        """Adds matches that ended so for both."""
+        died = one == "l", other == "l"
+        self.played += matches
+        if died[0] != died[1]:
+            self.beaten[1 if died[0] else 0] += matches
+        elif not died[0]:
+            self.tied += matches
 
 
 class Tally:
-    """All matches of a tournament, added up. A robot's rounds are twice its score against all others."""
+    """All matches of a tournament, added up by their seatings."""
 
-    def __init__(self) -> None:
-        self.scores: defaultdict[int, defaultdict[int, Score]] = defaultdict(lambda: defaultdict(Score))
-        self.pairs: defaultdict[tuple[int, int], Pair] = defaultdict(Pair)
-        self.rounds: defaultdict[int, Packed] = defaultdict(int)
+    def __init__(self, seatings: dict[Group, Counter[Ended]] | None = None) -> None:
+        self.seatings: dict[Group, Counter[Ended]] = seatings or {}
 
     def add(self, record: Record) -> None:
         """Adds the matches of a record."""
-        series = record.series
-        cells: defaultdict[str, list[Packed]] = defaultdict(list)
-        for ended, rounds in zip(record.ended, weights(series.seed + series.first, series.matches)):
-            cells[ended].append(rounds)
-        for ended, those in cells.items():
-            self._add_scores(series.seats, ended, len(those))
-            rounds = those[0] if len(those) == 1 else sum(those)
-            for one, other in itertools.combinations(sorted(zip(series.seats, ended)), 2):
-                self._add_pair(one, other, len(those), rounds)
+        self.seatings.setdefault(record.series.seats, Counter()).update(record.ended)
 
-    def _add_scores(self, seats: Group, ended: str, matches: int) -> None:
-        of_size = self.scores[len(seats)]
-        for robot, letter in zip(seats, ended):
-            score = of_size[robot]
-            if letter == "w":
-                score.won += matches
-            elif letter == "t":
-                score.tied += matches
-            else:
-                score.lost += matches
+    def scores(self) -> dict[int, dict[int, Score]]:
+        """What each robot did in matches of each size."""
+        found: defaultdict[int, defaultdict[int, Score]] = defaultdict(lambda: defaultdict(Score))
+        for seats, endings in self.seatings.items():
+            of_size = found[len(seats)]
+            for ended, matches in endings.items():
+                for robot, letter in zip(seats, ended):
+                    of_size[robot].add(letter, matches)
+        return {size: dict(of_size) for size, of_size in found.items()}
 
-    def _add_pair(self, one: Did, other: Did, matches: int, rounds: Packed) -> None:
-        """Adds matches of two robots, and how often each round has them: one or both of them died, or none."""
-        pair = self.pairs[one[0], other[0]]
-        pair.played += matches
-        pair.rounds += rounds
-        died = one[1] == "l", other[1] == "l"
-        if died[0] != died[1]:
-            winner = 1 if died[0] else 0
-            pair.beaten[winner] += matches
-            self.rounds[(one, other)[winner][0]] += 2 * rounds
-        else:
-            pair.tied += 0 if died[0] else matches
-            self.rounds[one[0]] += rounds
-            self.rounds[other[0]] += rounds
+    def pairs(self) -> dict[Group, Pair]:
+        """What each pair did, its first robot having the lower number."""
+        found: defaultdict[Group, Pair] = defaultdict(Pair)
+        for seats, endings in self.seatings.items():
+            for one, other in itertools.combinations(sorted(range(len(seats)), key=seats.__getitem__), 2):
+                pair = found[seats[one], seats[other]]
+                for ended, matches in endings.items():
+                    pair.add(ended[one], ended[other], matches)
+        return dict(found)
+
+    def groups(self) -> dict[Group, list[Counter[Ended]]]:
+        """Of each group of robots how matches of each of its seatings ended, with the letters in the group's order."""
+        found: defaultdict[Group, list[Counter[Ended]]] = defaultdict(list)
+        for seats, endings in self.seatings.items():
+            found[tuple(sorted(seats))].append(ordered(seats, endings))
+        return dict(found)
+
+
+def ordered(seats: Group, endings: Counter[Ended]) -> Counter[Ended]:
+    """How matches ended, with the letters in the order of the robots' numbers."""
+    places = sorted(range(len(seats)), key=seats.__getitem__)
+    if places == [*range(len(seats))]:
+        return endings
+    return Counter({"".join([ended[at] for at in places]): matches for ended, matches in endings.items()})
+
+
+# Matches of a seating that are so many are compared with each other. If they are fewer all of a group are.
+FEW = 3
+
+
+def strata(seatings: Sequence[Counter[Ended]]) -> Sequence[Counter[Ended]]:
+    """The matches of a group that are compared with each other to see how much chance there is in them."""
+    return seatings if all(it.total() >= FEW for it in seatings) else [sum(seatings, Counter[Ended]())]

@@ -6,7 +6,7 @@ from __future__ import annotations
 
 import argparse
 from decimal import Decimal
-from typing import Collection, Sequence
+from typing import Any, Collection, Sequence
 
 from sites import commands
 from sites.facts import Battle
@@ -32,7 +32,8 @@ class Versions:
         self._worth = dict(zip("wtl", (*given.points, Decimal(0))))
         self._settings = SiteSettings(given.matches, given.cycles, given.seed, given.profile)
         self._paths = paths
-        self.names = [*map(plain, robots.names(paths))]
+        self.full_names = robots.names(paths)
+        self.names = [*map(plain, self.full_names)]
         self.opponents = range(2, len(paths))
         self._played: dict[tuple[int, int], dict[Place, Match]] = {}
         self._seeds: dict[tuple[int, ...], int] = {}
@@ -76,6 +77,13 @@ class Versions:
         """Which match it is, in words."""
         seat, number = place
         return f"{number} against {self.names[opponent]} in seat {seat + 1}"
+
+    def row(self, opponent: int, place: Place) -> dict[str, Any]:
+        """A match that changed, as data."""
+        seat, number = place
+        did = {name: {"did": self.did(version, opponent, place), "cycles": self.cycles(version, opponent, place)}
+               for name, version in (("new", NEW), ("old", OLD))}
+        return {"match": number, "seat": seat + 1, **did, "seed": str(self._battle(NEW, opponent, place)[0].seed)}
 
     def again(self, version: int, opponent: int, place: Place) -> str:
         """The command line that plays a match of a version again."""

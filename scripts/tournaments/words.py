@@ -8,6 +8,7 @@ import re
 from decimal import Decimal
 from typing import Any, Callable, NoReturn
 
+from sites.addresses import page as address
 from tools.faults import Fault
 from tools.output import show
 from tools.programs import number
@@ -16,8 +17,8 @@ from tools.programs import number
 MATCHES_MAX, CYCLES_MAX, SEED_MAX = 1_000_000, 1_000_000_000, 2**64 - 1
 
 # The settings of matches that weren't given: what each is then.
-DEFAULTS = {"matches": 100, "cycles": 500_000, "seed": 1, "profile": 1, "size": 2, "sample": 0}
-WORDS = {"matches": "-m", "cycles": "-l", "seed": "-s", "profile": "-p", "size": "--size", "sample": "--sample", "piece": "--piece"}
+DEFAULTS = {"matches": 100, "cycles": 500_000, "seed": 1, "profile": 1, "size": 2, "sample": 0, "those": ()}
+WORDS = {"matches": "-m", "cycles": "-l", "seed": "-s", "profile": "-p", "size": "--size", "sample": "--sample", "those": "--those", "piece": "--piece"}
 
 
 def settle(given: argparse.Namespace) -> None:
@@ -37,7 +38,7 @@ def within(least: int, most: int) -> Callable[[str], int]:
 
     def read(text: str) -> int:
         if not re.fullmatch(r"[0-9]{1,30}", text) or not least <= int(text) <= most:
-            raise argparse.ArgumentTypeError(f"{text!r} is no number from {least} to {most}")
+            raise argparse.ArgumentTypeError(f"'{text}' is no number from {least} to {most}")
         return int(text)
 
     return read
@@ -49,7 +50,7 @@ def decimals(count: int) -> Callable[[str], list[Decimal]]:
     def read(text: str) -> list[Decimal]:
         one = r"[0-9]{1,6}(?:\.[0-9]{1,3})?"
         if not re.fullmatch(",".join([one] * count), text):
-            raise argparse.ArgumentTypeError(f"{text!r} is not {count} numbers with commas between them")
+            raise argparse.ArgumentTypeError(f"'{text}' is not {count} numbers with commas between them")
         return [Decimal(it) for it in text.split(",")]
 
     return read
@@ -62,8 +63,42 @@ def target(text: str) -> tuple[str, str]:
     """Reads a form and a file, as csv=FILE."""
     form, _, path = text.partition("=")
     if form not in FORMS or not path:
-        raise argparse.ArgumentTypeError(f"{text!r} is not FORM=FILE with a form of {', '.join(FORMS)}")
+        raise argparse.ArgumentTypeError(f"'{text}' is not FORM=FILE with a form of {', '.join(FORMS)}")
     return form, path
+
+
+class Once(argparse.Action):
+    """Takes the value of an option, which may be given once, by any of its names, and is empty only if it is a text for readers."""
+
+    def __call__(self, parser: argparse.ArgumentParser, given: argparse.Namespace, values: Any, name: str | None = None) -> None:
+        if name and isinstance(parser, Parser):
+            parser.once(self, name)
+        check_text(self, values, name)
+        setattr(given, self.dest, values)
+
+
+def check_text(option: argparse.Action, value: Any, name: str | None) -> None:
+    """Refuses a value without a letter, unless it is a text for readers. A file has no option's name."""
+    if name and "" in (value if isinstance(value, list) else [value]) and name not in TEXTS:
+        raise argparse.ArgumentError(option, "an empty value")
+
+
+class Flag(Once):
+    """Takes an option without a value, which stands for a constant: True, if it isn't another one."""
+
+    def __init__(self, option_strings: list[str], dest: str, const: Any = True, default: Any = False, **how: Any) -> None:
+        super().__init__(option_strings, dest, nargs=0, const=const, default=default, **how)
+
+    def __call__(self, parser: argparse.ArgumentParser, given: argparse.Namespace, values: Any, name: str | None = None) -> None:
+        super().__call__(parser, given, self.const, name)
+
+
+class Often(Once):
+    """Takes the value of an option that may be given often, behind those before it."""
+
+    def __call__(self, parser: argparse.ArgumentParser, given: argparse.Namespace, values: Any, name: str | None = None) -> None:
+        check_text(self, values, name)
+        setattr(given, self.dest, [*getattr(given, self.dest), values])
 
 
 class Version(argparse.Action):
@@ -74,10 +109,23 @@ class Version(argparse.Action):
         parser.exit()
 
 
+# Stands before a word behind `--`, while argparse reads it. No word has it.
+HIDDEN = "\0"
+# The options whose values are texts for readers, and may be empty.
+TEXTS = ("--title", "--page", "--author")
+
+
+def seen(value: Any) -> Any:
+    """A value without what hid how it begins."""
+    return value.removeprefix(HIDDEN) if isinstance(value, str) else value
+
+
 class Help(argparse.HelpFormatter):
     """A page of help on which an option's value stands once, behind all its names."""
 
     def _format_action_invocation(self, action: argparse.Action) -> str:
+        if action.option_strings and action.nargs == "+":
+            return f"{', '.join(action.option_strings)} {action.metavar} ..."
         if len(action.option_strings) < 2 or not action.metavar:
             return super()._format_action_invocation(action)
         return f"{', '.join(action.option_strings)} {action.metavar}"
@@ -88,13 +136,30 @@ class Parser(argparse.ArgumentParser):
 
     def __init__(self, **how: Any) -> None:
         super().__init__(formatter_class=Help, **how)
+        self._names: dict[argparse.Action, str] = {}
+        for kind, action in {None: Once, "store": Once, "append": Often, "store_true": Flag, "store_const": Flag}.items():
+            self.register("action", kind, action)
+
+    def once(self, option: argparse.Action, name: str) -> None:
+        """Refuses an option that was given before."""
+        if before := self._names.get(option):
+            self.error(f"{name} is given twice" if before == name else f"{before} and {name} are one option, given twice")
+        self._names[option] = name
+
+    def read(self, words: list[str]) -> argparse.Namespace:
+        """What the words ask for, files among options. To what stands behind `--` argparse isn't shown how it begins."""
+        at = words.index("--") if "--" in words else len(words)
+        given = self.parse_intermixed_args(words[:at] + [f"{HIDDEN}{word}" for word in words[at + 1:]])
+        for name, value in vars(given).items():
+            setattr(given, name, [*map(seen, value)] if isinstance(value, list) else seen(value))
+        return given
 
     def add_version(self) -> None:
         """Takes `--version`, too."""
         self.add_argument("--version", action=Version, nargs=0, help="show the version and exit")
 
     def error(self, message: str) -> NoReturn:
-        raise Fault(message)
+        raise Fault(message.replace(HIDDEN, ""))
 
     def print_help(self, _: object = None) -> None:
         show([self.format_help()])
@@ -124,6 +189,7 @@ def tournament(name: str) -> Parser:
     it.add_argument("--size", metavar="2|3|4", type=within(2, 4), help="robots of a match (default 2)")
     it.add_argument("--by-size", metavar="A,B,C", type=decimals(3), help="play pairs, threes and fours, and add up their points a match with these weights")
     it.add_argument("--sample", metavar="N", type=within(1, 10_000_000), help="play only N groups, drawn by the seed")
+    it.add_argument("--those", metavar="ROBOT", nargs="+", help="one side: only groups with robots of both sides play")
     it.add_argument("--piece", metavar="MATCHES", type=within(1, MATCHES_MAX), help="most matches of one series (default: so that all processors are busy)")
     it.add_argument("--plan", action="store_true", help="print the command lines of all series, one a line, and play nothing")
     it.add_argument("--merge", action="store_true", help="read what such command lines wrote from files, or from standard input")
@@ -136,7 +202,7 @@ def tournament(name: str) -> Parser:
                     help="write a form (table, csv, matrix, long, json) into a file, too; may be given often")
     it.add_argument("--html", metavar="FOLDER", help="write a site into this folder: the table, pairs, robots and matches")
     it.add_argument("--title", metavar="TEXT", help="with --html: the site's title (default Tournament)")
-    it.add_argument("--page", metavar="URL", help="with --html: the page that plays battles in a browser")
+    it.add_argument("--page", metavar="URL", type=address, help="with --html: the page that plays battles in a browser")
     it.add_argument("--replays", metavar="N", type=within(0, 100_000),
                     help="with --html: make at most N new pages of matches, if crobots-trace is there (default 100)")
     it.add_argument("robots", metavar="ROBOT", nargs="*", help="source files; with --merge, outputs")
@@ -149,6 +215,9 @@ def challenge(name: str) -> Parser:
                       "and says what the change is worth.")
     it.add_argument("--old", metavar="OLD", required=True, help="the older version")
     it.add_argument("--all", action="store_true", help="list all matches that changed, with the commands that show them")
+    forms = it.add_mutually_exclusive_group()
+    for form, does in {"csv": "the rows as comma-separated values", "json": "everything as JSON"}.items():
+        forms.add_argument(f"--{form}", dest="form", action="store_const", const=form, default="table", help=f"print {does}")
     it.add_argument("new", metavar="NEW", help="the newer version")
     it.add_argument("field", metavar="ROBOT", nargs="+", help="the robots that they play against")
     return it

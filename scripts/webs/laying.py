@@ -16,7 +16,7 @@ import zipfile
 import zlib
 from string import Template
 
-from replays.modules import script_of
+from replays.modules import script_of, waiting_script
 from replays.pages import framed_script, put_together
 
 from .helping import functions, panel, steps, text_of, whole
@@ -58,13 +58,36 @@ def packed(data: bytes) -> str:
     return base64.b64encode(packer.compress(data) + packer.flush()).decode()
 
 
-def data_of(module: str, manual: Page) -> str:
-    """What the page is built with, as a script."""
+def data_of(module: str, manual: Page) -> dict[str, object]:
+    """What the page is built with."""
     with open(module, "rb") as file:
         coded = packed(file.read())
-    data = {"robots": samples(), "steps": steps(WEB), "functions": functions(manual), "editor": os.path.isdir(EDITOR),
+    return {"robots": samples(), "steps": steps(WEB), "functions": functions(manual), "editor": os.path.isdir(EDITOR),
             "player": put_together(player()), "worker": short(script_of(os.path.join(WEB, "worker.js"))), "module": coded}
+
+
+def data_script(data: dict[str, object]) -> str:
+    """What the page is built with, as a script."""
     return f"globalThis.CROBOTS = {json.dumps(data, indent=1)};\n"
+
+
+def page_script() -> str:
+    """The page's script: a function whose text can be looked at before it is called; it answers what the page exports."""
+    text = short(waiting_script(os.path.join(WEB, "page.js")))
+    return f"globalThis.CROBOTS_PAGE={text};\n"
+
+
+def start_script(data: dict[str, object], page: str, module: str) -> str:
+    """The script that starts the page, with the SHA-256 of what it looks at: the data as JSON, the function's text, the module."""
+    with open(module, "rb") as file:
+        bytes_of_module = file.read()
+    function = page.removeprefix("globalThis.CROBOTS_PAGE=").removesuffix(";\n")
+    parts = {"data": json.dumps(data, ensure_ascii=False, separators=(",", ":")).encode(), "page": function.encode(), "module": bytes_of_module}
+    text = script_of(os.path.join(WEB, "start.js"))
+    for name, part in parts.items():
+        assert text.count(f'"${name}"') == 1, name
+        text = text.replace(f'"${name}"', f'"{hashlib.sha256(part).hexdigest()}"')
+    return short(text)
 
 
 def player() -> str:
@@ -139,8 +162,10 @@ def lay(folder: str, module: str) -> None:
         put(folder, name, short_style(text_of(WEB, name)))
     if licence():
         shutil.copy(os.path.join(TOP, licence()), os.path.join(folder, f"{licence()}.txt"))
-    put(folder, "page.js", short(script_of(os.path.join(WEB, "page.js"))))
-    put(folder, "data.js", data_of(module, manuals[0]))
+    data, page = data_of(module, manuals[0]), page_script()
+    put(folder, "page.js", page)
+    put(folder, "data.js", data_script(data))
+    put(folder, "start.js", start_script(data, page, module))
     pack(folder)
     if os.path.abspath(module) != f"{folder}.wasm":
         shutil.copy(module, f"{folder}.wasm")

@@ -114,7 +114,7 @@ class League:
     def __init__(self, tests: Base, name: str, *rules: str, robots: tuple[str, ...] = ()) -> None:
         self.tests = tests
         self.folder = tests.at(name)
-        self.run("init", "-l300", DAY, *rules)
+        self.run("init", *([] if any(it.startswith("-l") for it in rules) else ["-l300"]), DAY, *rules)
         if robots:
             self.run("add", *robots, DAY)
 

@@ -2,14 +2,22 @@
 
 from __future__ import annotations
 
+import csv
+import functools
+import io
+import json
 import math
+import os
 import random
+import sqlite3
+import statistics
 from collections import Counter
+from contextlib import closing
 
-from leagues import sequential
+from leagues import sequential, stopped, verdicts
 from leagues.sequential import EVEN, FIRST, SECOND, Count
 
-from .base import Base
+from .base import Base, League
 
 # The most matches of a made pair, as a league's default.
 MOST = 100
@@ -21,15 +29,17 @@ def played(source: random.Random, chance: float, ties: float, favour: float) -> 
 
     If it isn't a tie the first robot wins by this chance, more by the favour from one seat, less from the other.
     """
-    parts = []
-    for _ in range(MOST // sequential.LOOK):
-        won = even = lost = 0
-        for seat in (favour, -favour) * (sequential.LOOK // 2):
-            drawn = source.random()
-            is_won = ties <= drawn < ties + (1 - ties) * (chance + seat)
-            won, even, lost = won + is_won, even + (drawn < ties), lost + (drawn >= ties and not is_won)
-        parts.append(Count(won, even, lost))
-    return sequential.decision(parts)
+    return sequential.decision([look(source, chance, ties, favour) for _ in range(MOST // sequential.LOOK)])
+
+
+def look(source: random.Random, chance: float, ties: float, favour: float) -> Count:
+    """A made pair's matches from one look to the next."""
+    won = even = lost = 0
+    for seat in (favour, -favour) * (sequential.LOOK // 2):
+        drawn = source.random()
+        is_won = ties <= drawn < ties + (1 - ties) * (chance + seat)
+        won, even, lost = won + is_won, even + (drawn < ties), lost + (drawn >= ties and not is_won)
+    return Count(won, even, lost)
 
 
 class Decisions(Base):
@@ -95,3 +105,140 @@ class Decisions(Base):
         source = random.Random(6)
         means = [sum(played(source, chance, 0.0, 0.0)[1] for _ in range(300)) / 300 for chance in (0.95, 0.75, 0.5)]
         return [] if means[0] < 16 and means[1] < 60 and means[2] > 95 else [f"after {means} matches"]
+
+    def intervals_by_hand(self) -> list[str]:
+        """Ten wins: the average of (p / m)**10 is 1 / (11 m**10), which is 40 at m = 440**-0.1. Nine and one: 1 / (110 m**9 (1 - m)) is
+        39.93 at 0.41823. 30 halves: with a = 1 / (2 - 2m) and b = 1 / (2m) it is (b**31 - a**31) / (31 (b - a)), 40.7 at 0.41 and
+        39.95 at 0.4103. The other side is the same, turned; nothing is known of no matches."""
+        wrong = []
+        for count, low, high in (
+            (Count(10), 440**-0.1, 1.0),
+            (Count(9, 0, 1), 0.41823, 0.9998),
+            (Count(0, 30), 0.41015, 0.58985),
+            (Count(), 0.0, 1.0),
+        ):
+            for it, wanted in ((count, (low, high)), (count.turned, (1 - high, 1 - low))):
+                found = sequential.interval(it)
+                if max(abs(one - other) for one, other in zip(found, wanted)) > 2e-4:
+                    wrong.append(f"{it}: {found}, not {wanted}")
+        return wrong
+
+    def intervals_agree_with_decisions(self) -> list[str]:
+        """Of all counts of up to 24 matches a half is outside of the interval just if a side is decided; the share is inside of it."""
+        wrong = []
+        for played in range(1, 25):
+            for won in range(played + 1):
+                for lost in range(0, played - won + 1, 3):
+                    it = Count(won, played - won - lost, lost)
+                    low, high = sequential.interval(it)
+                    side = FIRST if low >= 0.5 else SECOND if high <= 0.5 else ""
+                    decided = sequential.looked(it)
+                    share = (it.won + it.even / 2) / played
+                    if side != (decided if decided != EVEN else "") or not low <= share <= high:
+                        wrong.append(f"{it}: {low} to {high}, {decided}")
+        return wrong
+
+    def intervals_hold_whenever_one_looks(self) -> list[str]:
+        """Of pairs that are looked at after each ten of 200 matches at most one of twenty has an interval that ever leaves out its mean."""
+        source, wrong = random.Random(7), []
+        for chance, ties, favour in ((0.5, 0.0, 0.3), (0.75, 0.0, 0.0), (0.95, 0.3, 0.0), (0.6, 0.6, 0.1)):
+            mean, failed = 0.5 + (1 - ties) * (chance - 0.5), 0
+            for _ in range(60):
+                so_far, is_held = Count(), True
+                for _ in range(20):
+                    so_far = so_far.plus(look(source, chance, ties, favour))
+                    low, high = sequential.interval(so_far)
+                    is_held = is_held and low <= mean <= high
+                failed += not is_held
+            wrong += [] if failed <= 0.05 * 60 else [f"chance {chance}, ties {ties}, favour {favour}: {failed} of 60"]
+        return wrong
+
+    def shares_of_stopped_pairs_by_hand(self) -> list[str]:
+        """18 wins of 20: the first look had eight or nine, since ten would have stopped. Of 45 ways with eight and 100 with nine the mean
+        chance is (45 * 0.8 + 100 * 0.9) / 145, and of two wins (45 * 56 / 90 + 100 * 72 / 90) / 145. Half of the first look being
+        ties, half of what is above a half counts, and the variance has (p - 1/2)**2 / 4 / 9 more."""
+        chance, both = 126 / 145, 108 / 145
+        own = chance**2 - both
+        cases = (
+            (Count(10), Count(10), 1.0, 0.0),
+            (Count(18, 0, 2), Count(9, 0, 1), chance, own),
+            (Count(2, 0, 18), Count(1, 0, 9), 1 - chance, own),
+            (Count(0, 30), Count(0, 10), 0.5, 0.0),
+            (Count(6, 0, 4), Count(6, 0, 4), 0.6, 0.6**2 - 30 / 90),
+            (Count(3, 5, 2), Count(3, 5, 2), 0.55, 0.25 * (0.36 - 0.3) + 0.01 * 0.25 / 9),
+        )
+        wrong = []
+        for count, first, value, variance in cases:
+            found = stopped.share(count, first)
+            if not math.isclose(found.value, value) or not math.isclose(found.variance, variance, abs_tol=1e-12):
+                wrong.append(f"{count}: {found}, not {value} and {variance}")
+        return wrong
+
+    def shares_of_stopped_pairs_have_no_bias(self) -> list[str]:
+        """Their mean over many pairs is the true one, where that of the shares of all matches isn't, and the variances' mean is right."""
+        source, wrong = random.Random(8), []
+        for chance, ties in ((0.75, 0.0), (0.9, 0.2)):
+            found, plain = [], []
+            for _ in range(3000):
+                parts: list[Count] = []
+                while len(parts) < 10 and not sequential.decision(parts)[0]:
+                    parts.append(look(source, chance, ties, 0.0))
+                every = functools.reduce(Count.plus, parts)
+                found.append(stopped.share(every, parts[0]))
+                plain.append((every.won + every.even / 2) / every.played)
+            mean = 0.5 + (1 - ties) * (chance - 0.5)
+            values = [it.value for it in found]
+            spread = statistics.variance(values)
+            is_fine = abs(statistics.fmean(values) - mean) < 4 * (spread / 3000) ** 0.5 < statistics.fmean(plain) - mean
+            if not is_fine or not 0.9 < statistics.fmean(it.variance for it in found) / spread < 1.1:
+                wrong.append(f"{mean}: {statistics.fmean(values)}, by all matches {statistics.fmean(plain)}; variance {spread}")
+        return wrong
+
+    def verdicts_in_words(self) -> list[str]:
+        """Of both sides, and as fields."""
+        count = Count(18, 0, 2)
+        it = verdicts.Told(FIRST, count, *sequential.interval(count))
+        even, open_ = (verdicts.Told(decision, Count(0, 30), 0.41, 0.59) for decision in (EVEN, ""))
+        said = [verdicts.said(one, "a", "b") for one in (it, it.turned, even, open_)]
+        wanted = ["a is better, by the test after 20 matches", "b is better, by the test after 20 matches",
+                  "even, by the test after 30 matches", "not decided after 30 matches"]
+        fields = verdicts.data(it.turned)
+        right = (fields["verdict"], fields["tested"], round(fields["share"], 9)) == ("worse", 20, 0.1)
+        right = right and math.isclose(fields["high"], 1 - it.low) and math.isclose(fields["low"], 1 - it.high)
+        return [] if said == wanted and right else [f"{said} {fields}"]
+
+    def verdicts_of_all_pairs(self) -> list[str]:
+        """a loses ten to b and to c, whose matches are 30 ties: in each form, and in status; a league without the test has none. Ten to
+        none is at least 440**-0.1 of a share, 30 ties are 41 to 59 % of it."""
+        it = League(self, "told", "--until=sure", "-l100", robots=("a.r", "b.r", "c.r"))
+        before = it.run("table", "--csv", "--pairs")
+        it.run("play", "-j1")
+        rows = ["robot,against,tested,won,even,lost,share,low,high,verdict", "a,b,10,0,0,10,0.0000,0.0000,0.4560,worse",
+                "a,c,10,0,0,10,0.0000,0.0000,0.4560,worse", "b,c,30,0,30,0,0.5000,0.4103,0.5897,even"]
+        wrong = [] if it.run("table", "--csv", "--pairs").splitlines() == rows else [it.run("table", "--csv", "--pairs")]
+        words = it.run("table", "--pairs").splitlines()
+        ends = ["b is better, by the test after 10 matches", "c is better, by the test after 10 matches", "even, by the test after 30 matches"]
+        wrong += [] if [line.endswith(end) for line, end in zip(words[1:], ends, strict=True)] == [True] * 3 else [f"{words}"]
+        status = "verdicts: of 3 pairs 2 better, 1 even, 0 not decided\n"
+        wrong += [] if status in it.run("status") else [it.run("status")]
+        pairs = json.loads(it.run("table", "--json"))["pairs"]
+        wrong += [] if [one["verdict"] for one in pairs] == ["worse", "worse", "even"] and pairs[2]["tested"] == 30 else [f"{pairs}"]
+        wrong += [] if before.count(",0,0,0,0,0.5000,0.0000,1.0000,not decided\n") == 3 else [before]
+        plain = League(self, "plain", "-m2", "-l100", robots=("a.r", "b.r"))
+        ran = self.ran("table", plain.folder, "--pairs")
+        said = "league: --pairs shows what the sequential test says, and this season has none\n"
+        return wrong + ([] if (ran.returncode, ran.stderr) == (2, said) and "pairs" not in json.loads(plain.run("table", "--json")) else [f"{ran}"])
+
+    def old_tables_keep_their_numbers(self) -> list[str]:
+        """A table of the first scale is shown as it was, close by its intervals; one of this scale says which rows are close."""
+        it = League(self, "older", "-m10", "-l100", robots=("a.r", "b.r", "c.r"))
+        it.run("play", "-j1")
+        it.run("season", "end", "--day=2026-03-02")
+        now = it.run("table")
+        wrong = [] if [row["close"] for row in csv.DictReader(io.StringIO(it.run("table", "--csv")))] == ["", "close", ""] else [now]
+        with closing(sqlite3.connect(os.path.join(self._folder, it.folder, "league.db"))) as database, database:
+            database.execute("UPDATE publication SET scale = 1, hash = ''")
+            database.execute("UPDATE standing SET close = NULL, rating = 10 * rank, low = 10 * rank - 8, high = 10 * rank + 3")
+        rows = [*csv.DictReader(io.StringIO(it.run("table", "--csv")))]
+        shown = [(row["rating"], row["low"], row["high"], row["close"]) for row in rows]
+        return wrong + ([] if shown == [("10", "2", "13", ""), ("10", "2", "13", "close"), ("30", "22", "33", "")] else [f"{shown}"])

@@ -2,8 +2,16 @@
 
 from __future__ import annotations
 
+import itertools
+import os
 import re
+import shutil
+import subprocess
+import time
+from typing import Any
 
+from harness import skip
+from packages import lacking
 from tournaments.records import checksum
 
 from .base import DAY, Base, League, write
@@ -22,8 +30,8 @@ class Farms(Base):
         # 6 pairs of 2 seatings of 3 matches: 2 series each, so 24 series
         wrong = (
             []
-            if [line.count("series 2 ") for line in plan.splitlines()] == [5, 5, 5, 5, 4]
-            else ["the chunks are of another size"]
+            if [line.split(" ")[-1] for line in plan.splitlines()] == ["5", "5", "5", "5", "4"]
+            else [f"the chunks are of another size: {plan}"]
         )
         records = self._farmed(plan)
         lines = records.splitlines(keepends=True)
@@ -39,6 +47,71 @@ class Farms(Base):
         if it.battles() != home.battles() or it.run("play", "--plan"):
             wrong.append("other matches than at home")
         return wrong + self._refused_records(it, lines)
+
+    def plans_are_short(self) -> list[str]:
+        """At any chunk a line is short and names nothing of this machine, and all lines come to the same, by sh, xargs and parallel, from
+        any folder, also beside a newer plan; a name with blanks and quotes makes no difference."""
+        robots = ("a.r", "b.r", "r5.r", "r10.r", "r15.r")
+        home = League(self, "plans-home", "-m4", robots=robots)
+        home.run("play", "-j2")
+        wanted, wrong = home.battles(), []
+        ways = {"sh": "sh plan", "xargs": "xargs -P 4 -d '\\n' -n 1 sh -c < plan", "parallel": "parallel -j 4 < plan"}
+        if why := lacking(["parallel"]):
+            skip("plans of leagues by parallel", why)
+            del ways["parallel"]
+        for at, (chunk, (way, command)) in enumerate(itertools.product((1, 7, 100, 10_000), ways.items())):
+            name = f"a 'league' {at}"
+            it = League(self, name, "-m4", robots=robots)
+            plan = self.ran("play", name, "--plan", f"--chunk={chunk}", "--piece=1").stdout
+            if max(map(len, plan.splitlines())) > 80 or self._folder in plan or len(plan.splitlines()) != -(-40 // chunk):
+                wrong.append(f"a plan with {chunk} series a line: {plan:.300}")
+            write(self.at("plan"), plan)
+            # a newer plan doesn't change the older one
+            self.ran("play", name, "--plan", "--piece=2")
+            records = self._shell(command)
+            if (told := it.run("take", input=records, stdin=None)) != "40 matches are new, 0 were there\n" or it.battles() != wanted:
+                wrong.append(f"{way}, {chunk} series a line: {told}")
+        return wrong + self._elsewhere(wanted, robots)
+
+    def _elsewhere(self, wanted: list[tuple[Any, ...]], robots: tuple[str, ...]) -> list[str]:
+        """The folder of plans and that of sources are all that another machine needs, beside a program with the same bytes."""
+        it = League(self, "here", "-m4", f"--crobots={self._counting}", robots=robots)
+        plan = self.ran("play", "here", "--plan", "--chunk=9", f"--crobots={self._counting}").stdout
+        wrong = []
+        os.makedirs(self.at("there/here"))
+        for part in ("plans", "sources"):
+            shutil.move(self.at(f"here/{part}"), self.at(f"there/here/{part}"))
+        away = self.at("counting-away")
+        os.rename(self._counting, away)
+        try:
+            write(self.at("there/plan"), plan)
+            if (ran := self._shell("cd there; sh plan 2>&1; echo $?")).count("the program is not the one of the plan") != 20 or ran[-2:] != "1\n":
+                wrong.append(f"with another program on the path: {ran:.300}")
+            records = self._shell(f"cd there; CROBOTS={away} sh plan")
+        finally:
+            os.rename(away, self._counting)
+        it.run("take", f"--crobots={self._counting}", input=records, stdin=None)
+        found = [row[2:] for row in it.battles()]
+        return wrong + ([] if found == [row[2:] for row in wanted] else [f"elsewhere {len(found)} other matches were played"])
+
+    def old_plans_are_removed(self) -> list[str]:
+        """A plan is kept for a month after it was made."""
+        it = League(self, "old", "-m2", robots=("a.r", "b.r"))
+        it.run("play", "--plan")
+        first = {*os.listdir(self.at("old/plans"))} - {"run", "series"}
+        now = time.time()
+        for name, days in ((min(first), 29), ("older", 31)):
+            write(self.at(f"old/plans/{name}"), "")
+            os.utime(self.at(f"old/plans/{name}"), (now - days * 86400,) * 2)
+        it.run("add", "r5.r")
+        it.run("play", "--plan")
+        found = {*os.listdir(self.at("old/plans"))} - {"run", "series"}
+        return [] if first < found and len(found) == 2 else [f"of {first} and one that is older {found} are left"]
+
+    def _shell(self, command: str) -> str:
+        """What a command of a shell writes, in the folder of the tests."""
+        return subprocess.run(["sh", "-c", command], cwd=self._folder, env=self._environment, stdin=subprocess.DEVNULL,
+                              stdout=subprocess.PIPE, text=True, check=False).stdout
 
     def _refused_records(self, it: League, lines: list[str]) -> list[str]:
         """Records that are wrong are refused by line, what is right beside them is kept, and what is there stays."""
@@ -78,6 +151,9 @@ class Farms(Base):
         lost = next(line for line in lines if re.search(r"results=90:", line))
         write(self.at("false"), summed(re.sub(r"results=90:(\d+):(\d+)", r"results=90:\2:\1", lost)))
         ran = it.ran("take", "false")
-        if ran.returncode != 2 or "with another result" not in ran.stderr or it.battles() != before:
+        if ran.returncode != 2 or "was not played as it says: match" not in ran.stderr or it.battles() != before:
             wrong.append(f"a false result: {ran.returncode}, {ran.stderr}")
+        ran = it.ran("take", "--unchecked", "false")
+        if ran.returncode != 2 or "with another result" not in ran.stderr or it.battles() != before:
+            wrong.append(f"a false result that isn't checked: {ran.returncode}, {ran.stderr}")
         return wrong

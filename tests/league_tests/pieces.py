@@ -1,8 +1,8 @@
-"""Ladders, divisions, gaps and chunks, by hand."""
+"""Ladders, divisions and gaps, by hand."""
 
 from __future__ import annotations
 
-from leagues import farm, ladders, missing, seasons
+from leagues import ladders, missing, seasons
 from tournaments.records import Series
 
 from .base import Base
@@ -55,7 +55,7 @@ class Pieces(Base):
                 wrong.append(f"{before} becomes {it}, and not {after}")
         return wrong
 
-    def gaps_and_chunks_by_hand(self) -> list[str]:
+    def gaps_by_hand(self) -> list[str]:
         wrong = []
         cases: list[tuple[list[int], int, list[tuple[int, int]]]] = [
             ([], 3, [(1, 3)]),
@@ -66,14 +66,9 @@ class Pieces(Base):
         for numbers, most, runs in cases:
             if (it := missing.gaps(numbers, most)) != runs:
                 wrong.append(f"of {numbers} {it} are missing up to {most}")
-        if (cut := [*farm.chunks(["a\n", "b\n", "c\n"], 2)]) != ["a; b\n", "c\n"]:
-            wrong.append(f"chunks of two are {cut}")
         series = [Series(seats, 1, 1, 1) for seats in ((0, 1), (3, 0), (2, 1), (0, 2))]
         worth = [9, 4, 3, 0]
         near = missing.nearest(series, lambda group: max(worth[at] for at in group) - min(worth[at] for at in group))
         if [it.seats for it in near] != [(2, 1), (0, 1), (0, 2), (3, 0)]:
             wrong.append(f"the nearest first are {near}")
-        long = [*farm.chunks(["x" * 60_000] * 3, 100)]
-        if [*map(len, long)] != [60_001] * 3:
-            wrong.append("lines become longer than a shell takes")
         return wrong

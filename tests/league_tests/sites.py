@@ -33,7 +33,7 @@ class Sites(Base):
         for words, said in ((("5",), "5 of 24"), (("--all",), "24 of 24"), ((), "24 of 24")):
             if (
                 ran := self.ran("verify", "-j1", *words, archive)
-            ).returncode or ran.stdout != f"{said} matches were replayed, no differences\n":
+            ).returncode or not re.fullmatch(f"{said} matches were replayed, no differences\npublication 1 has .*\n", ran.stdout):
                 wrong.append(f"verify {words}: status {ran.returncode}, {ran.stdout}{ran.stderr}")
         names = [read(self.at(f"site/robots/{name}.html")) for name in ("a", "r25")]
         if not all(re.search(r"\brank", page, re.IGNORECASE) for page in names):
@@ -44,6 +44,8 @@ class Sites(Base):
         it.run("publish", "site", "--day=2026-03-03", "--replays=0", "--sums=0")
         if it.rows("SELECT day FROM publication ORDER BY number") != [("2026-03-02",), ("2026-03-03",)]:
             wrong.append("a table of one day is kept twice, or none is")
+        if sorted(os.listdir(self.at("site/archive"))) != [f"site-league-2026-03-0{day}.zip" for day in (2, 3)]:
+            wrong.append("an older archive is gone")
         return wrong + self._tampered(kept)
 
     def the_version_of_the_program(self) -> list[str]:

@@ -11,6 +11,7 @@ import subprocess
 import tempfile
 from typing import Any
 
+import packages
 from replays.films import Film
 
 from .made import BEGIN, END, FILM, INSIDE, tabbed
@@ -53,7 +54,7 @@ WINDOWS = HEAD + """\
 
 def lacking() -> str:
     """What is lacking for these tests."""
-    return "" if shutil.which("node") else "there is no Node"
+    return packages.lacking(["node"])
 
 
 class Films:

@@ -3,22 +3,30 @@
 from __future__ import annotations
 
 import contextlib
+import json
 import os
 import tempfile
 import time
+from dataclasses import replace
 from typing import Iterator
 
 from browsers import Browser, chromium
+from harness import skip
+from packages import lacking
+from sites.facts import Verdict
 from sites.publishing import publish
 
 from . import made
 from .filming import replays, stand_in
+from .pages import HUNTER_FILE, many
+from .reading import Element, links, parsed, rows
+from .units import unpacked
 
 Results = Iterator[tuple[str, bool]]
 WIDTHS = (360, 768, 1366)
 PAGES = ("index.html", "map.html", "settings.html", "robots/hunter.r.html",
-         "robots/_3cscript_3ealert_281_29_3c_2fscript_3e.r.html", "pairs/_2e_2e/hunter.r.html",
-         "pairs/folder_2fhunter.r/hunter.r.html")
+         "robots/_3cscript_3ealert_281_29_3c_2fscript_3e.r.html", "pair.html#_2e_2e/hunter.r",
+         "pair.html#folder_2fhunter.r/hunter.r")
 # What is wider than the page, though it is in no box that scrolls.
 WIDE = """[...document.querySelectorAll("main *")].filter(it => !it.closest(".scroll, .listing, .unseen, .skip")
     && it.getBoundingClientRect().right > innerWidth + 1).map(it => it.outerHTML.slice(0, 80))"""
@@ -29,13 +37,17 @@ def results() -> Results:
     """Each test with whether it passed."""
     program = chromium()
     if program is None:
-        print("left out: the site in a browser, since there is no chromium")
+        skip("the site in a browser", lacking(["chromium"]))
         return
     with tempfile.TemporaryDirectory() as place, stand_in(place), Browser(program) as browser:
         site = os.path.join(place, "site")
         publish(made.league(), site, replays=1)
         yield from looks(browser, site)
         yield from keys(browser, site)
+        yield from a_pair(browser, site)
+        yield from verdicts(browser, place)
+        yield from opponents(browser, site)
+        yield from the_dense_map(browser, place)
         yield from replay(browser, os.path.join(site, *sorted(replays(site))))
 
 
@@ -45,7 +57,7 @@ def looks(browser: Browser, site: str) -> Results:
         for dark in (False, True):
             browser.look(width, 800, dark)
             for page in PAGES if not dark else PAGES[:1]:
-                browser.load(os.path.join(site, page))
+                load(browser, site, page)
                 wide = browser.value("document.documentElement.scrollWidth")
                 yield f"{page} at {width}: {wide} {browser.value(WIDE)}", wide <= width and not browser.value(WIDE)
             ground = browser.value("getComputedStyle(document.body).backgroundColor")
@@ -66,6 +78,114 @@ def keys(browser: Browser, site: str) -> Results:
     browser.load(os.path.join(site, "map.html"))
     browser.value("document.querySelector('td a').click()")
     yield "a cell leads to its pair", has_heading(browser, f"hunter.r against {made.SCRIPT}")
+
+
+def load(browser: Browser, site: str, page: str) -> None:
+    """Loads a page of the site, and waits until its script has shown the pair that its address names, if it names one."""
+    place, mark, files = page.partition("#")
+    browser.load(os.path.join(site, place), mark + files)
+    if mark:
+        browser.value("new Promise((done, fail) => { setTimeout(() => fail(new Error('no pair is shown')), 10000);"
+                      " const look = () => document.getElementById('pair').dataset.shown === location.hash ? done() : setTimeout(look, 2); look(); })")
+
+
+def rendered(browser: Browser, site: str, page: str) -> Element:
+    """A page as the browser shows it."""
+    load(browser, site, page)
+    # the links to the browser's page are packed meanwhile
+    browser.value("new Promise(done => setTimeout(done, 20))")
+    return parsed(browser.value("document.documentElement.outerHTML"), page)
+
+
+def a_pair(browser: Browser, site: str) -> Results:
+    """The page of a pair says what the facts say, from the side of the robot that is higher in the table."""
+    page = rendered(browser, site, "pair.html#_2e_2e/hunter.r")
+    facts = {it.one("dt").text(): it.one("dd").text().replace("\u00a0", " ") for it in page.one("dl").all("div")}
+    yield "the heading", page.one("h1").text() == "hunter.r against .."
+    yield "the title", page.one("title").text() == "hunter.r against .. · A league of <robots>"
+    yield "the score", facts == {
+        "Matches": "10", "Won, tied, lost": "6 won, 1 tied, 3 lost, of which both lost 1",
+        "Share": "70.0 %, 95 % interval 39.8 % to 89.2 %", "Verdict": "which of them is better may be chance"}
+    yield "by seat", rows(page.one("table")) == [
+        ["Seat of hunter.r", "Seat of ..", "Played", "Won", "Tied", "Lost", "Share", "Results"],
+        ["1", "2", "5", "4", "0", "1", "80.0\u00a0%", ""], ["2", "1", "5", "2", "1", "2", "60.0\u00a0%", ""]]
+    cards = [*page.all("article")]
+    yield "matches", [it.one("h3").text() for it in cards] == ["Closest, longest", "Shortest", "Greatest upset"]
+    seats = [[part.text() for part in it.all("span") if "unseen" not in part.classes()] for it in cards[2].all("li")]
+    yield "its seats", seats == [["..", "won", " 12 % damage"], ["hunter.r", "lost", " 100 % damage"]]
+    words = cards[1].one("pre").text().split(" ")
+    yield "its command line", words[:7] == ["crobots", "-f1", "-m1", "-l500000", f"-s{2**64 - 1}", "-p1", HUNTER_FILE]
+    yield "its files", os.path.isfile(os.path.join(site, words[7])) and words[7].startswith("sources/_2e_2e-")
+    link = next(href for href in links(cards[1]) if href.startswith(made.PAGE))
+    battle = json.loads(unpacked(link[len(made.PAGE):]))
+    yield "its link", [it["name"] for it in battle["robots"]] == ["hunter.r", ".."] and battle["settings"] == {
+        "matches": 1, "limit": 500000, "seed": str(2**64 - 1), "first": 1, "profile": 1}
+    yield "its link's sources", battle["robots"][0]["source"] == made.SOURCE.decode() + "/* 0 */\n"
+    yield from bad_addresses(browser, site)
+
+
+def bad_addresses(browser: Browser, site: str) -> Results:
+    """An address that names no pair says so, whatever it is; the order of the robots makes no difference."""
+    for mark in ("", "#", "#hunter.r", "#hunter.r/hunter.r", "#hunter.r/gone.r", "#../robots/hunter.r", "#constructor/hunter.r",
+                 "#hunter.r/__proto__", "#<b>/hunter.r", "#a/b/c"):
+        browser.load(os.path.join(site, "pair.html"), mark)
+        yield f"the address {mark!r}", has_text(browser, "There is no such pair on this site.")
+    browser.load(os.path.join(site, "pair.html"), "#hunter.r/_2e_2e")
+    yield "the robots exchanged", has_heading(browser, "hunter.r against ..")
+    browser.value("location.hash = '#_43_4f_4e/hunter.r'")
+    yield "another pair", has_heading(browser, "hunter.r against CON")
+    yield f"the console of pairs {browser.messages}", not browser.messages
+
+
+def has_text(browser: Browser, wanted: str) -> bool:
+    """Waits, five seconds at most, for a text in the main part."""
+    for _ in range(100):
+        if wanted in browser.value("document.querySelector('main').textContent"):
+            return True
+        time.sleep(0.05)
+    return False
+
+
+def verdicts(browser: Browser, place: str) -> Results:
+    """Each verdict in words, from the side of the robot that is higher in the table: the second robot of each pair is it."""
+    facts = made.league(2)
+    said = {("better", 30): f"{made.SCRIPT} is better, by the test after 30 matches", ("worse", 1010): "hunter.r is better, by the test after 1,010 matches",
+            ("even", 40): "even: neither is better by much, by the test after 40 matches", ("not decided", 20): "not decided after 20 matches",
+            ("better", 0): f"{made.SCRIPT} is better", ("not decided", 0): "which of them is better may be chance"}
+    pair = replace(facts.pairs[0], one=made.SCRIPT, other="hunter.r")
+    for at, ((what, matches), wanted) in enumerate(said.items()):
+        site = os.path.join(place, f"verdict {at}")
+        publish(replace(facts, pairs=(replace(pair, verdict=Verdict(what, matches)),)), site)
+        page = rendered(browser, site, "pair.html#_3cscript_3ealert_281_29_3c_2fscript_3e.r/hunter.r")
+        found = next(it.one("dd").text() for it in page.one("dl").all("div") if it.one("dt").text() == "Verdict")
+        yield f"the verdict {what} {matches}: {found}", found == wanted
+
+
+def opponents(browser: Browser, site: str) -> Results:
+    """All opponents of a robot, when they are asked for; each leads to its pair."""
+    browser.load(os.path.join(site, "robots", "hunter.r.html"))
+    browser.value("document.querySelector('[data-opponents]').closest('details').open = true")
+    yield "all opponents are shown", has_text(browser, "All opponents, in the order of the table")
+    page = parsed(browser.value("document.documentElement.outerHTML"), "hunter")
+    table = next(it for it in page.all("table") if it.one("caption").text().startswith("All opponents"))
+    found = rows(table)
+    yield "their rows", len(found) == len(made.NAMES) and found[1][:6] == [
+        made.SCRIPT, "70.0\u00a0%", "39.8\u00a0% to 89.2\u00a0%", "6", "1", "3"]
+    hrefs = links(table)
+    yield "their links", hrefs[1] == "../pair.html#_3cscript_3ealert_281_29_3c_2fscript_3e.r/hunter.r" and all(
+        os.path.isfile(os.path.join(site, "robots", href.partition("#")[0])) for href in hrefs)
+
+
+def the_dense_map(browser: Browser, place: str) -> Results:
+    """A cell of a large map leads to its pair, and is named where the pointer is."""
+    site = os.path.join(place, "many")
+    publish(many(25), site)
+    browser.load(os.path.join(site, "map.html"))
+    cell = "document.querySelectorAll('tbody tr')[3].cells[8]"
+    browser.value(f"{cell}.dispatchEvent(new MouseEvent('mouseover', {{bubbles: true}}))")
+    yield "a cell's name", browser.value(f"{cell}.title") == "3.r against 7.r"
+    browser.value(f"{cell}.click()")
+    yield "a cell of a large map leads to its pair", has_heading(browser, "3.r against 7.r")
 
 
 def has_heading(browser: Browser, wanted: str) -> bool:

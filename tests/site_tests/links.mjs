@@ -59,5 +59,5 @@ function kindsOf(source) {
 
 const {battles, fragments, sources} = JSON.parse(readFileSync(0, "utf8"));
 const read = await Promise.all(fragments.map(battleOf));
-const made = await Promise.all(battles.map(fragmentOf));
+const made = await Promise.all(battles.map(it => fragmentOf(it)));
 process.stdout.write(JSON.stringify({read, made, kinds: sources.map(kindsOf)}));

@@ -17,8 +17,7 @@ from sites.facts import BySeat, Facts, Pair, Robot, Score
 from sites.publishing import publish
 
 from . import made
-from .reading import Element, dangling, files, links, read, rows
-from .units import unpacked
+from .reading import Element, data, dangling, files, links, pairs, read, rows
 
 Results = Iterator[tuple[str, bool]]
 ROBOTS = len(made.NAMES)
@@ -39,12 +38,13 @@ def results() -> Results:
         yield from sane(folder)
         yield from the_table(folder)
         yield from the_map(folder)
-        yield from a_pair(folder)
+        yield from a_pairs_data(folder)
         yield from a_robot(folder)
         yield from the_settings(folder)
         yield from the_data(folder)
         yield from the_other_side(folder, place)
         yield from with_less(place)
+        yield from trends(place)
 
 
 @functools.cache
@@ -58,23 +58,27 @@ def whole(folder: str) -> Results:
     found, wrong = dangling(folder)
     there = files(folder)
     yield f"links lead somewhere {wrong[:3]}", not wrong
-    yield "all files are found", there - found == {"site.list"}
-    yield "a page each", sum(it.startswith("pairs/") for it in there) == ROBOTS * (ROBOTS - 1) // 2 and sum(
-        it.startswith("robots/") for it in there) == ROBOTS
+    yield f"all files are found {there ^ found}", there - found == {"site.list"}
+    yield "all pairs", len(pairs(folder)) == ROBOTS * (ROBOTS - 1) // 2 and all(one < other for one, other in pairs(folder))
+    yield "a page each", sum(it.startswith("robots/") for it in there) == ROBOTS == sum(it.startswith("data/") for it in there)
     # four robots have an older version, which is the same bytes: yet each has its own file
     yield "a source each", sum(it.startswith("sources/") for it in there) == ROBOTS + 4
     yield "names for all systems", all(re.fullmatch(r"[a-z0-9._/-]+", it) for it in there)
 
 
 def safe(folder: str) -> Results:
-    """No script, and nothing from elsewhere."""
+    """No script but the site's own, and nothing from elsewhere."""
     for place, page in pages(folder).items():
         policy = next(it.attributes["content"] for it in page.all("meta")
                       if it.attributes.get("http-equiv") == "Content-Security-Policy")
-        begin = "default-src 'none'; style-src 'self'"
-        yield f"{place}: the policy", policy.startswith(begin) and "script" not in policy
-        yield f"{place}: no script", not any(it.name in ("script", "iframe", "object", "style") for it in page.all())
-        names = {name for it in page.all() for name in it.attributes}
+        scripts = [it for it in page.all("script")]
+        wanted = "default-src 'none'; style-src 'self'; img-src data:; base-uri 'none'; form-action 'none'"
+        yield f"{place}: the policy", policy == wanted + "; script-src 'self'" * bool(scripts)
+        own = {"src": "../" * place.count("/") + "site.js", "defer": ""}
+        yield f"{place}: no script but the site's", all(it.attributes == own and not it.children for it in scripts) and len(
+            scripts) == (place == "pair.html" or place.startswith("robots/"))
+        yield f"{place}: no frame", not any(it.name in ("iframe", "object", "style") for it in page.all())
+        names = {name for it in page.all() for name in it.attributes if it.name != "script"}
         yield f"{place}: no handler", not any(name.startswith("on") or name in ("style", "src") for name in names)
         out = [href for href in links(page) if re.match("[a-z]+:|//", href)]
         known = all(href.startswith(made.PAGE + "#battle=") or href == "data:," for href in out)
@@ -131,32 +135,25 @@ def the_map(folder: str) -> Results:
     cells = [it for it in page.all("td") if [*it.all("a")]]
     yield "colours", {(it.text(), *it.classes()) for it in cells} == {("70", "h14"), ("30", "h6")}
     first = cells[0].one("a").attributes
-    yield "a cell leads to its pair", first["href"] == "pairs/_3cscript_3ealert_281_29_3c_2fscript_3e.r/hunter.r.html"
+    yield "a cell leads to its pair", first["href"] == "pair.html#_3cscript_3ealert_281_29_3c_2fscript_3e.r/hunter.r"
     yield "a cell in words", first["title"] == f"hunter.r against {made.SCRIPT}: 70.0\u00a0%"
 
 
-def a_pair(folder: str) -> Results:
-    """The page of a pair."""
-    page = read(os.path.join(folder, "pairs", "_2e_2e", "hunter.r.html"))
-    facts = {it.one("dt").text(): it.one("dd").text().replace("\u00a0", " ") for it in page.one("dl").all("div")}
-    yield "the heading", page.one("h1").text() == "hunter.r against .."
-    yield "the score", facts == {
-        "Matches": "10", "Won, tied, lost": "6 won, 1 tied, 3 lost, of which both lost 1",
-        "Share": "70.0 %, 95 % interval 39.8 % to 89.2 %", "Verdict": "which of them is better may be chance"}
-    yield "by seat", rows(page.one("table")) == [
-        ["Seat of hunter.r", "Seat of ..", "Played", "Won", "Tied", "Lost", "Share", "Results"],
-        ["1", "2", "5", "4", "0", "1", "80.0\u00a0%", ""], ["2", "1", "5", "2", "1", "2", "60.0\u00a0%", ""]]
-    cards = [*page.all("article")]
-    yield "matches", [it.one("h3").text() for it in cards] == ["Closest, longest", "Shortest", "Greatest upset"]
-    seats = [[part.text() for part in it.all("span") if "unseen" not in part.classes()] for it in cards[2].all("li")]
-    yield "its seats", seats == [["..", "won", " 12 % damage"], ["hunter.r", "lost", " 100 % damage"]]
-    words = cards[1].one("pre").text().split(" ")
-    yield "its command line", words[:7] == ["crobots", "-f1", "-m1", "-l500000", f"-s{2**64 - 1}", "-p1", HUNTER_FILE]
-    yield "its files", os.path.isfile(os.path.join(folder, words[7])) and words[7].startswith("sources/_2e_2e-")
-    link = next(href for href in links(cards[1]) if href.startswith(made.PAGE))
-    battle = json.loads(unpacked(link[len(made.PAGE):]))
-    yield "its link", [it["name"] for it in battle["robots"]] == ["hunter.r", ".."] and battle["settings"] == {
-        "matches": 1, "limit": 500000, "seed": str(2**64 - 1), "first": 1, "profile": 1}
+def a_pairs_data(folder: str) -> Results:
+    """A robot's data: its source, its pairs from its side, and in full those whose other robot's file comes later."""
+    one, other = data(folder, "data/_2e_2e.js"), data(folder, "data/hunter.r.js")
+    yield "a robot's source", (other["file"], other["name"], other["source"]) == (
+        HUNTER_FILE, "hunter.r", made.SOURCE.decode() + "/* 0 */\n")
+    yield "a pair's score, by both", one["pairs"]["hunter.r"][:3] == [[2, 1, 7, 1], [0.108, 0.602], ["not decided"]] and (
+        other["pairs"]["_2e_2e"] == [[6, 1, 3, 1], [0.398, 0.892], ["not decided"]])
+    yield "a pair by seat, by one", one["pairs"]["hunter.r"][3] == [[1, 2, 1, 1, 3, 1], [2, 1, 1, 0, 4, 0]]
+    seed = 2**64
+    yield "its matches", one["pairs"]["hunter.r"][4] == [
+        [5, [1, 98, 0, 100], 6, str(seed - 6), 90], [2, [1, 5, 0, 100], 1, str(seed - 1), 15], [8, [0, 12, 1, 100], 7, str(seed - 7), 105]]
+    every = data(folder, "robots.js")
+    yield "what all have in common", {**every, "robots": ""} == {"limit": 500_000, "profile": 1, "page": made.PAGE, "robots": ""}
+    yield "the robots in the order of the table", every["robots"][:2] == [
+        ["hunter.r", "hunter.r"], ["_3cscript_3ealert_281_29_3c_2fscript_3e.r", made.SCRIPT]]
 
 
 def a_robot(folder: str) -> Results:
@@ -169,7 +166,7 @@ def a_robot(folder: str) -> Results:
     tables = {it.one("caption").text(): rows(it) for it in page.all("table")}
     versions = tables["Versions, the last one first"]
     yield "its versions", [row[0] for row in versions[1:]] == ["2026-11-10", "2026-10-01"]
-    yield "all opponents", len(tables["All opponents, in the order of the table"]) == ROBOTS
+    yield "all opponents", [it.attributes["data-opponents"] for it in page.all("div") if "data-opponents" in it.attributes] == ["hunter.r"]
     best = tables["Its best opponents"]
     yield "its best opponents", len(best) == 6
     yield "its best opponent", best[1][1:6] == ["70.0\u00a0%", "39.8\u00a0% to 89.2\u00a0%", "6", "1", "3"]
@@ -217,25 +214,24 @@ def the_data(folder: str) -> Results:
     with open(os.path.join(folder, "table.csv"), encoding="utf-8", newline="") as file:
         table = [*csv.DictReader(file)]
     yield "the table as CSV", len(table) == ROBOTS and {**table[2]} == {
-        "rank": "3", "robot": made.NAMES[2], "name": made.NAMES[2], "author": "", "played": "110", "won": "58",
+        "division": "1", "rank": "3", "robot": made.NAMES[2], "name": made.NAMES[2], "author": "", "played": "110", "won": "58",
         "tied": "11", "lost": "41", "points": "1.682", "rating": "200.0", "low": "140.0", "high": "260.0",
         "close": "close"}
     with open(os.path.join(folder, "pairs.csv"), encoding="utf-8", newline="") as file:
         pairs = [*csv.DictReader(file)]
     yield "the pairs as CSV", len(pairs) == ROBOTS * (ROBOTS - 1) and {**pairs[ROBOTS - 1]} == {
         "robot": made.SCRIPT, "against": "hunter.r", "played": "10", "won": "2", "tied": "1", "lost": "7",
-        "both_lost": "1", "share": "0.3", "low": "0.108", "high": "0.602"}
+        "both_lost": "1", "share": "0.3", "low": "0.108", "high": "0.602", "verdict": "not decided"}
     with open(os.path.join(folder, "site.json"), encoding="utf-8") as file:
         told = json.load(file)
     yield "settings as JSON", told["settings"] == {
         "matches": 10, "cycles": 500000, "seed": 7, "profile": 1, "sizes": [2], "Sample": "every pair"}
-    listed = [it["page"] for it in told["robots"] + told["pairs"]]
-    yield "places as JSON", all(os.path.isfile(os.path.join(folder, it)) for it in listed)
+    listed = [it["page"] for it in told["robots"] + told["pairs"]] + [it["data"] for it in told["robots"]]
+    yield "places as JSON", all(os.path.isfile(os.path.join(folder, it.partition("#")[0])) for it in listed)
     pair = told["pairs"][0]
-    yield "a pair as JSON", [pair[it] for it in ("won", "tied", "lost", "both_lost", "share")] == [6, 1, 3, 1, 0.7]
-    yield "a match as JSON", {**pair["notable"][1], "command": ""} == {
-        "what": "shortest", "robots": ["hunter.r", made.SCRIPT], "damage": [5, 100], "match": 1, "seed": 2**64 - 1,
-        "cycles": 15, "command": ""}
+    yield "a pair as JSON", [pair[it] for it in ("won", "tied", "lost", "both_lost", "share", "verdict")] == [6, 1, 3, 1, 0.7, "not decided"]
+    yield "a match as JSON", {**told["robots"][1]["lost"][0], "command": ""} == {
+        "robots": ["hunter.r", made.SCRIPT], "damage": [0, 100], "match": 4001, "seed": 2**64 - 4001, "cycles": 15, "command": ""}
     yield "names as JSON", [it["name"] for it in told["robots"]] == made.NAMES
 
 
@@ -246,7 +242,7 @@ def the_other_side(folder: str, place: str) -> Results:
     turned = tuple(Pair(it.other, it.one, Score(2, 1, 7, 1), 0.108, 0.602, seats, it.notable) for it in facts.pairs)
     other = os.path.join(place, "turned")
     publish(replace(facts, pairs=turned), other)
-    same = [one for one in files(folder) if one.endswith(".html") and one != "settings.html"]
+    same = [one for one in files(folder) if one.endswith((".html", ".js")) and one != "settings.html"]
     yield "a pair's other side", all(content(folder, it) == content(other, it) for it in same)
 
 
@@ -275,13 +271,25 @@ def with_less(place: str) -> Results:
         yield f"{name}: links lead somewhere", not wrong and files(folder) - found == {"site.list"}
     page = read(os.path.join(place, "a tournament", "index.html"))
     yield "no trend without an earlier table", rows(page.one("table"))[0][:2] == ["Rank", "Robot"]
-    yield "no link to a page that isn't given", not any("#battle" in it for it in links(read(os.path.join(
-        place, "a tournament", "pairs", "_3cscript_3ealert_281_29_3c_2fscript_3e.r", "hunter.r.html"))))
+    yield "no link to a page that isn't given", data(os.path.join(place, "a tournament"), "robots.js")["page"] == ""
     page = read(os.path.join(place, "a robot that was withdrawn", "index.html"))
     yield "a robot that isn't in the table", "gone.r, withdrawn on 2026-11-20" in page.text()
     page = read(os.path.join(place, "many robots", "map.html"))
-    cells = [it for it in page.one("tbody").all("a") if it.attributes["href"].startswith("pairs/")]
-    yield "many robots: cells have names", all(it.attributes.get("title") and not it.text() for it in cells)
+    cells = [it for it in page.one("tbody").all("td")]
+    yield "many robots: cells have their colours alone", len(cells) == 625 and all(
+        it.classes() == (["same"] if at % 26 == 0 else ["h10"]) and len(it.attributes) == 1 and not it.children for at, it in enumerate(cells))
+
+
+def trends(place: str) -> Results:
+    """A trend is one since a table of the same season, and within the division."""
+    facts = made.league(3)
+    site = os.path.join(place, "another season")
+    publish(replace(facts, season="two", earlier=tuple(replace(it, season="one") for it in facts.earlier)), site)
+    yield "no trend since another season", rows(read(os.path.join(site, "index.html")).one("table"))[0][:2] == ["Rank", "Robot"]
+    moved = replace(facts.earlier[-1], places={robot: replace(it, division=2) for robot, it in facts.earlier[-1].places.items()})
+    site = os.path.join(place, "another division")
+    publish(replace(facts, earlier=(moved,)), site)
+    yield "no trend from another division", [row[1] for row in rows(read(os.path.join(site, "index.html")).one("table"))[1:]] == ["new"] * 3
 
 
 def many(robots: int) -> Facts:

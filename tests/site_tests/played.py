@@ -16,6 +16,8 @@ from decimal import Decimal
 from typing import Iterator
 
 from browsers import Browser, chromium
+from harness import skip
+from packages import lacking
 from sites.facts import Facts
 from sites.publishing import publish
 from sites.tournament_facts import facts_of_tournament, kept_sources
@@ -24,8 +26,9 @@ from tournaments.robots import Robot, in_order, names
 from tournaments.standings import Scoring, standings
 from tournaments.tallies import Tally
 
+from .browser import rendered
 from .filming import replays
-from .reading import Element, dangling, files, links, read, rows
+from .reading import Element, dangling, files, links, pairs, read, rows
 from .writing import write
 
 Results = Iterator[tuple[str, bool]]
@@ -40,7 +43,7 @@ Row = dict[str, str]
 def results(trace: str = "", crobots: str = "") -> Results:
     """Each test with whether it passed."""
     if not crobots:
-        print("left out: the site of a tournament that is played, since no programs were given")
+        skip("the site of a tournament that is played", "no programs were given")
         return
     with tempfile.TemporaryDirectory() as place:
         paths = robots(place)
@@ -55,9 +58,15 @@ def results(trace: str = "", crobots: str = "") -> Results:
         yield "links lead somewhere", not wrong and files(site) - found == {"site.list"}
         yield from the_option(words, paths, site)
         yield from the_table(site, table)
-        yield from the_pairs(site, long)
-        yield from the_command_lines(site, crobots)
-        yield from the_replays(facts, site, trace)
+        program = chromium()
+        if program is None:
+            skip("pairs and replays", lacking(["chromium"]))
+            return
+        with Browser(program) as browser:
+            shown = {place: rendered(browser, site, f"pair.html#{'/'.join(place)}") for place in sorted(pairs(site))}
+            yield from the_pairs(shown, long)
+            yield from the_command_lines(site, crobots, shown)
+            yield from the_replays(facts, site, trace, browser)
 
 
 def robots(place: str) -> list[str]:
@@ -117,7 +126,7 @@ def the_table(site: str, table: list[Row]) -> Results:
     yield "all robots", len(found) == 12
 
 
-def the_pairs(site: str, long: list[Row]) -> Results:
+def the_pairs(shown: dict[tuple[str, str], Element], long: list[Row]) -> Results:
     """The pages of pairs, counted from all matches."""
     ended: dict[tuple[str, str], list[Row]] = defaultdict(list)
     for row in long:
@@ -128,9 +137,8 @@ def the_pairs(site: str, long: list[Row]) -> Results:
             died = [int(it["damage"]) >= 100 for it in (mine, theirs)]
             result = "lost" if died[0] else "won" if died[1] else "tied"
             counts[mine["robot"], theirs["robot"]][f"{result} {mine['seat']}"] += 1
-    pages = [read(os.path.join(site, it)) for it in sorted(files(site)) if it.startswith("pairs/")]
-    yield "all pairs", len(pages) == 66 == len(counts) // 2
-    for page in pages:
+    yield "all pairs", len(shown) == 66 == len(counts) // 2
+    for page in shown.values():
         one, other = page.one("h1").text().split(" against ")
         counted = counts[one, other]
         by_seat = [[f"{seat}", f"{3 - seat}", "2", *(str(counted[f"{it} {seat}"]) for it in ("won", "tied", "lost"))]
@@ -148,10 +156,11 @@ def survivor(card: Element) -> str:
     return next(it.one("bdi").text() for it in card.all("li") if "won" in it.text())
 
 
-def cards(site: str) -> list[tuple[str, Element]]:
-    """All matches that pages of pairs and robots show, each with its page."""
-    places = [it for it in sorted(files(site)) if it.startswith(("pairs/", "robots/"))]
-    return [(place, card) for place in places for card in read(os.path.join(site, place)).all("article")]
+def cards(site: str, pages: dict[tuple[str, str], Element]) -> list[tuple[str, Element]]:
+    """All matches that pages of robots and pairs show, each with its page."""
+    robots = [it for it in sorted(files(site)) if it.startswith("robots/")]
+    every = {it: read(os.path.join(site, it)) for it in robots} | {f"pair.html#{'/'.join(two)}": page for two, page in pages.items()}
+    return [(place, card) for place, page in every.items() for card in page.all("article")]
 
 
 def shown(card: Element) -> tuple[list[str], str, list[str]]:
@@ -160,9 +169,9 @@ def shown(card: Element) -> tuple[list[str], str, list[str]]:
     return shlex.split(card.one("pre").text()), cycles, re.findall(r" (\d+) % damage", card.text())
 
 
-def the_command_lines(site: str, crobots: str) -> Results:
+def the_command_lines(site: str, crobots: str, pages: dict[tuple[str, str], Element]) -> Results:
     """Command lines, run in the site's folder, play the matches that are shown."""
-    found = cards(site)
+    found = cards(site, pages)
     yield "many matches", len(found) > 150
     for place, card in found[::len(found) // COMMANDS]:
         words, cycles, damages = shown(card)
@@ -176,7 +185,7 @@ def the_command_lines(site: str, crobots: str) -> Results:
         yield f"{place}: {card.one('h3').text()}", " 100 % damage" in mine.text()
 
 
-def the_replays(facts: Facts, site: str, trace: str) -> Results:
+def the_replays(facts: Facts, site: str, trace: str, browser: Browser) -> Results:
     """Replays by the program, one of which opens in the browser with the damages that are shown."""
     folder = os.path.dirname(site)
     os.symlink(trace, os.path.join(folder, "crobots-trace"))
@@ -187,15 +196,10 @@ def the_replays(facts: Facts, site: str, trace: str) -> Results:
     finally:
         os.environ["PATH"] = before
     yield "replays are made", len(replays(site)) == REPLAYS and not dangling(site)[1]
-    program = chromium()
-    if program is None:
-        print("left out: replays in a browser, since there is no chromium")
-        return
-    linked = [(place, card, href) for place, card in cards(site) for href in links(card) if "replays/" in href]
-    with Browser(program) as browser:
-        for place, card, href in linked[:2]:
-            browser.load_replay(os.path.normpath(os.path.join(site, os.path.dirname(place), href)))
-            browser.value("document.querySelector('#to-end').click()")
-            percents = browser.value(PERCENTS)
-            yield f"{place}: the replay's damages {percents}", [str(it) for it in percents] == shown(card)[2]
-        yield f"the replays' console {browser.messages}", not browser.messages
+    linked = [(place, card, href) for place, card in cards(site, {}) for href in links(card) if "replays/" in href]
+    for place, card, href in linked[:2]:
+        browser.load_replay(os.path.normpath(os.path.join(site, os.path.dirname(place), href)))
+        browser.value("document.querySelector('#to-end').click()")
+        percents = browser.value(PERCENTS)
+        yield f"{place}: the replay's damages {percents}", [str(it) for it in percents] == shown(card)[2]
+    yield f"the replays' console {browser.messages}", not browser.messages

@@ -9,15 +9,17 @@ import os
 import random
 import re
 import shlex
-import shutil
 import subprocess
 import zlib
 from base64 import urlsafe_b64decode
 from pathlib import Path
 from typing import Any, Iterator
 
-from sites import colours, commands, links, names, notables, places, scales, shares, sources, sums
-from sites.facts import Battle, Score, Seat, Settings
+from harness import skip
+from packages import lacking
+from sites import addresses, charts, colours, commands, links, lookups, names, notables, places, robot_data, scales, shares, sources, sums
+from sites.facts import Battle, Place, Score, Seat, Settings
+from sites.lookups import Stay
 from sites.markup import Markup, block, tag
 
 from . import made
@@ -62,6 +64,8 @@ def results() -> Results:
     yield from source_lines()
     yield from colour_steps()
     yield from axes()
+    yield from days_of_changes()
+    yield from addresses_of_pages()
     yield "sums of two matches", dict(sums.rows(made.SUMS * 2)) == {
         "Shots fired": "20.0 a match", "Shots that hit": "5.0 a match (25.0 %)", "Damage to others": "12.0 % a match",
         "Damage by shots of others": "60.0 % a match", "Damage by its own shots": "20.0 % a match",
@@ -147,8 +151,8 @@ def battle_links() -> Results:
         "settings": {"matches": 1, "limit": 500_000, "seed": str(2**64 - number), "first": number, "profile": 1},
     } for number, robots in fought]
     yield "what links carry", [json.loads(unpacked(it)) for it in fragments] == battles
-    if shutil.which("node") is None:
-        print("left out: links and colours of the browser's page, since there is no node")
+    if why := lacking(["node"]):
+        skip("links and colours of the browser's page", why)
         return
     texts = [path.read_text("utf-8") for path in sorted(Path(TOP, "robots").glob("*.r"))]
     texts.append("a.b #x \"y\" 12ab _if /*/ x */ sqrt(/* */ $ '\n/* open")
@@ -229,3 +233,49 @@ def axes() -> Results:
     yield "a place beyond is the end", it.at(5000) == 100 and it.at(-5000) == 0
     yield "round numbers", it.ticks() == [0, 20, 40, 60]
     yield "one value", scales.scale([7.0], 0, 10).at(7) == 5
+
+
+# Which changes are drawn in a chart of the days from the 5th to the 20th: those after the first table, up to the day of the last one.
+CHANGES = {"2026-03-04": False, "2026-03-05": False, "2026-03-06": True, "2026-03-19": True, "2026-03-20": True, "2026-03-21": False}
+
+
+def days_of_changes() -> Results:
+    """Versions that are new since the first table, also on the last one's day."""
+    days = ["2026-03-05", "2026-03-12", "2026-03-20"]
+    for day, is_drawn in CHANGES.items():
+        yield f"a change on {day}", charts.during(days, [day]) == ([day] if is_drawn else [])
+    places_ = [Place(1, 10.0, 0.0, 20.0)] * 3
+    stays = [Stay(day, "1", place) for day, place in zip(days, places_)]
+    drawn = charts.over_time(stays, [*CHANGES], "a chart")
+    xs = [float(it) for it in re.findall(r'<line x1="([\d.]+)" x2="[\d.]+" y1="[\d.]+" y2="[\d.]+" class="change">', drawn)]
+    # the axis goes from 54 to 746 in 15 days
+    yield f"where changes are drawn {xs}", xs == [round(54 + 692 * days / 15, 1) for days in (1, 14, 15)]
+
+
+# Addresses, and whether a site leads to them.
+ADDRESSES = {
+    "https://example.org/crobots/": True, "http://example.org:8080/a?b=c:d#e": True, "file:///srv/page.html": True, "HTTPS://example.org": True,
+    "page/index.html": True, "../page.html#x:y": True, "//example.org/page": True, "/page": True, "?a:b": True, "": False,
+    "javascript:alert(1)": False, "JavaScript:alert(1)": False, " javascript:alert(1)": False, "java\nscript:alert(1)": False,
+    "java\tscript:alert(1)": False, "\x01javascript:alert(1)": False, "data:text/html,<script>alert(1)</script>": False,
+    "vbscript:x": False, "blob:https://example.org/1": False, "mailto:a@example.org": False, "https:\\\\example.org": False,
+    "http://[": False, "a:b": False, "javascript:": False, "view-source:javascript:1": False, "\x85javascript:1": False,
+}
+
+
+def addresses_of_pages() -> Results:
+    """A site leads to pages alone, and not to what runs; where a bad address is given nevertheless, there is no link."""
+    for address, is_page in ADDRESSES.items():
+        yield f"the address {address!r}", addresses.is_page(address) == is_page
+        facts = made.league(2, address)
+        found = lookups.Lookup(facts).browser(facts.robots[1].lost[0])
+        yield f"a link to {address!r}", found.startswith(address.split("#")[0] + "#battle=") if is_page else found == ""
+        said = json.loads(robot_data.names(lookups.Lookup(facts)).partition(", ")[2].removesuffix(");\n"))
+        yield f"the script's link to {address!r}", said["page"] == (address if is_page else "")
+    letters = random.Random(9)
+    for _ in range(2000):
+        word = "".join(letters.choice("javscript:JAVSCRIPT\t\n\r /#?&;%3a\\\x00") for _ in range(letters.randrange(14)))
+        bare = re.sub(r"[\t\n\r]", "", word).lstrip("".join(map(chr, range(33)))).lower()
+        if addresses.is_page(word) and re.match(r"(?!https?:|file:)[a-z][a-z0-9+.-]*:", bare):
+            yield f"the address {word!r} has another scheme", False
+    yield "2,000 addresses", True

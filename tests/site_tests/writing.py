@@ -68,11 +68,10 @@ def others(folder: str) -> Results:
     publish(made.league(2), folder)
     there = files(folder)
     yield "files of others stay", {".git/config", "robots/theirs.txt"} <= there
-    yield "what is gone is removed", not any("quoted" in it for it in there) and "pairs/hunter.r" not in there
+    yield "what is gone is removed", not any("quoted" in it for it in there)
     publish(replace(made.league(2), robots=(), standings=(), pairs=()), folder)
     yield "empty folders are removed", sorted(os.listdir(folder)) == [
-        ".git", "index.html", "map.html", "pairs.csv", "robots", "settings.html", "site.css", "site.json", "site.list",
-        "table.csv"]
+        ".git", "index.html", "map.html", "pairs.csv", "robots", "settings.html", "site.css", "site.json", "site.list", "table.csv"]
     write(folder, "robots/hunter.r.html", "theirs")
     before = state(folder)
     try:
@@ -158,7 +157,7 @@ def cut(place: str) -> Results:
         with ending_after(many):
             publish(after, folder)
         yield f"cut after {many} of {count[0]} files: something is missing", state(folder) != wanted
-        yield f"cut after {many} of {count[0]} files: links lead somewhere", not dangling(folder)[1]
+        yield f"cut after {many} of {count[0]} files: links lead somewhere", not dangling(folder, False)[1]
         publish(after, folder)
         yield f"cut after {many} of {count[0]} files: the next one has all", state(folder) == wanted
 
@@ -177,6 +176,6 @@ def killed(place: str) -> Results:
                 time.sleep(0.001)
             time.sleep(source.random() * 0.2)
             child.send_signal(signal.SIGKILL)
-        yield f"killed: links lead somewhere ({at})", not dangling(folder)[1]
+        yield f"killed: links lead somewhere ({at})", not dangling(folder, False)[1]
         publish(made.league(), folder)
         yield f"killed: the next one has all ({at})", state(folder) == wanted

@@ -94,7 +94,7 @@ class Refusals(Base):
         return differ((ran.stdout, ran.stderr, ran.returncode), (b"", SAID + b"crobots-debug is not there, or is no program; README.md says how it is built\n", 2))
 
     def output_that_nobody_takes(self) -> list[str]:
-        """A full device, a pipe that is closed, and no output at all: one line, and the status 4."""
+        """A full device, and no output at all: one line, and the status 4. A pipe that is closed ends it as it ends others."""
         wrong = []
         for way in (">/dev/full", "| true", ">&-"):
             script = f"(sleep 1; yes s | head -n 200) | ('{SCRIPT}' looker.r 2>said; echo $? >status) {way}"
@@ -102,7 +102,7 @@ class Refusals(Base):
                 script = f"(echo s; echo s) | '{SCRIPT}' looker.r 2>said {way}; echo $? >status"
             subprocess.run(["sh", "-c", script], cwd=self._folder, env=self._environment(), timeout=100, check=False)
             got = [Path(self._folder, name).read_text(encoding="ascii") for name in ("said", "status")]
-            wrong += differ((way, *got), (way, "crobots-step: cannot write\n", "4\n"))
+            wrong += differ((way, *got), (way, "", "141\n") if way == "| true" else (way, "crobots-step: cannot write\n", "4\n"))
         return wrong
 
     def interrupted(self) -> list[str]:

@@ -14,6 +14,8 @@ from pathlib import Path
 from .base import ROBOTS, SCRIPT, Base, differ
 
 sys.path.append(str(SCRIPT.parent))
+from harness import skip  # noqa: E402
+from packages import lacking  # noqa: E402
 from stepping.moments import Call, Moment, Question, Robot  # noqa: E402
 from stepping.screens import screen, width  # noqa: E402
 from stepping.sources import Source  # noqa: E402
@@ -75,8 +77,8 @@ class Terminals(Base):
 
     def in_a_terminal(self) -> list[str]:
         """In 80, 40 and 200 columns: commands, an empty line that repeats a move, a line called back, another size of the window, the end."""
-        if not shutil.which("tmux"):
-            print("left out: terminals, since tmux isn't installed")
+        if why := lacking(["tmux"]):
+            skip("terminals", why)
             return []
         wrong = []
         for columns, rows in ((80, 24), (40, 24), (200, 50)):
@@ -127,8 +129,8 @@ class Terminals(Base):
 
     def a_terminal_without_a_cursor(self) -> list[str]:
         """Lines are read and written as elsewhere."""
-        if not shutil.which("script"):
-            print("left out: a terminal without a cursor, since script isn't installed")
+        if why := lacking(["script"]):
+            skip("a terminal without a cursor", why)
             return []
         line = f"{SCRIPT} -l100 looker.r"
         ran = subprocess.run(["script", "-qec", line, "/dev/null"], cwd=self._folder, env=self._environment() | {"TERM": "dumb"}, input=b"print seen\nquit\n",

@@ -87,7 +87,7 @@ class Base:
         return os.path.join(self._folder, name)
 
     def _words(self, *words: str, script: str = "tournament") -> list[str]:
-        return [os.path.join(SCRIPTS, script), "--crobots", self._program, *words]
+        return [os.path.join(SCRIPTS, script), *([] if "--crobots" in words else ["--crobots", self._program]), *words]
 
     def _run(self, *words: str, script: str = "tournament", **how: Any) -> Ran:
         given: dict[str, Any] = {"capture_output": True, "text": True, "timeout": PATIENCE} | how

@@ -2,6 +2,7 @@
 
 from __future__ import annotations
 
+import json
 import re
 import statistics
 
@@ -89,6 +90,24 @@ a.r against b.r: won 0, tied 0, lost 2 of 2 matches
         gain = sum(worth[new] - worth[old] for _, old, _, new, _, _, _ in rows) / 40
         change = float(next(line.split()[3] for line in told.splitlines() if line.startswith("all ")))
         return wrong + ([] if abs(gain - change) <= 0.0051 else [f"{gain}, not {change}"])
+
+    def as_data(self) -> list[str]:
+        """The numbers of the table, as comma-separated values and as JSON; with --all the matches that changed, by JSON alone."""
+        words = ("-m2", "-l100", "-s7", "a.r", "--old", "b.r", "c.r", "one/x.r")
+        rows = "against,new,old,change,low,high\nc.r,0.0,1.0,-1.0,-1.0,-1.0\nx.r,0.0,3.0,-3.0,-3.0,-3.0\nall,0.0,2.0,-2.0,-2.0,-2.0\n"
+        wrong = self._answers(self._run(*words, "--csv", script="challenge"), rows)
+        said = json.loads(self._run(*words, "--json", script="challenge").stdout)
+        every = json.loads(self._run(*words, "--json", "--all", script="challenge").stdout)
+        one, two = ({"new": 0, "old": old, "change": -old, "low": -old, "high": -old} for old in (1, 3))
+        wanted = {"new": "a.r", "old": "b.r", "matches": 2, "opponents": [{"against": "c.r", **one}, {"against": "x.r", **two}],
+                  "all": {"new": 0, "old": 2, "change": -2, "low": -2, "high": -2}, "each_other": {"won": 0, "tied": 0, "lost": 2}}
+        wrong += [] if said == wanted else [f"{said}"]
+        first = {"against": "x.r", "match": 1, "seat": 1, "new": {"did": "lost", "cycles": 90}, "old": {"did": "won", "cycles": 90},
+                 "seed": str(seed_of(7, "challenger", sha256(SHOOTER)))}
+        if every.pop("changed")[0] != first or every != said:
+            wrong.append(f"{every}, not {first}")
+        refused = self._run(*words, "--csv", "--all", script="challenge")
+        return wrong + self._answers(refused, "", "challenge: --all lists matches in words or with --json, so it takes no --csv\n", 2)
 
     def only_sure_gains_are_named(self) -> list[str]:
         """An opponent whose own interval has 0 in it is in neither list."""

@@ -150,7 +150,8 @@ class Forms(Base):
         return [f"{paths}: {found[paths]}" for paths, wanted in cases.items() if found[paths] != wanted]
 
     def a_name_is_written_as_its_bytes(self) -> list[str]:
-        """Whatever encoding output has: of the letter that the encoding lacks, and of a byte that is no letter."""
+        """Whatever encoding output has: of the letter that the encoding lacks, and of a byte that is no letter. In forms for readers that
+        byte is shown by its code."""
         names = ["f\u00fcnf.r".encode(), b"\xff.r"]
         for name in names:
             with open(os.path.join(os.fsencode(self._folder), name), "w", encoding="ascii") as file:
@@ -160,10 +161,11 @@ class Forms(Base):
             options = [] if form == "table" else [f"--{form}"]
             ran = self._in_ascii("-m2", "-l15", *options, "--write", f"{form}=bytes", *map(os.fsdecode, names))
             with open(self._at("bytes"), "rb") as file:
-                fine = ran.stderr == b"" and ran.stdout == file.read() and all(name in ran.stdout for name in names)
+                shown = [name.replace(b"\xff", rb"\xff") if form in ("table", "matrix") else name for name in names]
+                fine = ran.stderr == b"" and ran.stdout == file.read() and all(name in ran.stdout for name in shown)
             wrong += [] if fine else [f"{form}: {ran}"]
         gone = self._in_ascii("a.r", os.fsdecode(b"\xfegone.r"))
-        return wrong + ([] if (gone.returncode, b"\xfegone.r: No such" in gone.stderr) == (3, True) else [f"{gone}"])
+        return wrong + ([] if (gone.returncode, rb"\xfegone.r: No such" in gone.stderr) == (3, True) else [f"{gone}"])
 
     def _in_ascii(self, *words: str) -> subprocess.CompletedProcess[bytes]:
         """Runs a tournament whose output has the letters of ASCII only."""

@@ -3,12 +3,17 @@
 from __future__ import annotations
 
 import hashlib
+import itertools
 import os
+import random
 import re
 import shutil
 import subprocess
+from collections import Counter
 
-from tournaments import records
+from harness import skip
+from packages import lacking
+from tournaments import merging, records
 
 from .base import COUNTER, FORMS, ROBOTS, TABLE, Base, read, write
 
@@ -33,7 +38,7 @@ class Merges(Base):
         if shutil.which("parallel"):
             self._sh("parallel -j 8 < threes > by_parallel")
         else:
-            print("skipped: GNU parallel is not installed")
+            skip("plans by parallel", lacking(["parallel"]))
             shutil.copy(self._at("by_xargs"), self._at("by_parallel"))
         for form in FORMS:
             alone = self._run(*form, *words).stdout
@@ -65,7 +70,7 @@ class Merges(Base):
     def wrong_sets(self) -> list[str]:
         self._pieces()
         for name, word in {"other": "-s2", "limit": "-l99", "profile": "-p2"}.items():
-            self._plan(name, "-m10", "-l100", word, "--piece", "5", "a.r", "b.r", "c.r")
+            self._plan(name, "-m10", *([] if name == "limit" else ["-l100"]), word, "--piece", "5", "a.r", "b.r", "c.r")
         self._program_of("another", f'exec {self._program} "$@"')
         self._plan("program", "-m10", "-l100", "--crobots", "./another", "--piece", "5", "a.r", "b.r", "c.r")
         self._sh("for it in other limit profile program; do sed -n 6p $it | sh > out.$it; done; head -c -1 out.6 > out.cut")
@@ -90,6 +95,38 @@ class Merges(Base):
         for files, (alone, against) in cases.items():
             wrong += self._answers(self._sh(f"tournament --merge {files}"), "", f"tournament: {alone}\n", 2)
             wrong += self._answers(self._sh(f"tournament --merge --against plan {files}"), "", f"tournament: {against}\n", 2)
+        return wrong
+
+    def each_match_that_is_missing(self) -> list[str]:
+        """Of records of one match each, one is left out, or two, or one is there twice: each is seen, the last ones too."""
+        self._plan("ones", "-m6", "-l100", "--piece", "1", "a.r", "b.r")
+        self._sh("sh ones > ones.records")
+        lines, wrong = self._lines("ones.records"), list[str]()
+        for left_out in (*itertools.combinations(range(6), 1), *itertools.combinations(range(6), 2)):
+            write(self._at("some"), "".join(line for at, line in enumerate(lines) if at not in left_out))
+            ran = self._sh("tournament --merge some")
+            said = "1 match is missing: match" if len(left_out) == 1 else "2 matches are missing, the first is match"
+            number = re.search(r" first=(\d+) ", lines[left_out[0]])
+            fine = number and f"{said} {number[1]} of " in ran.stderr and (ran.stdout, ran.returncode) == ("", 2)
+            wrong += [] if fine else [f"without {left_out}: {ran}"]
+        for line in lines:
+            write(self._at("some"), "".join([*lines, line]))
+            ran = self._sh("tournament --merge some")
+            wrong += [] if ran.returncode == 2 and "1 match is there twice or more" in ran.stderr else [f"{line} twice: {ran}"]
+        return wrong if len(lines) == 6 else [f"{lines}"]
+
+    def gaps_match_by_match(self) -> list[str]:
+        """Of runs of matches that are drawn by chance: what is missing and what is there more than once, by counting each match."""
+        source, wrong = random.Random(9), list[str]()
+        for _ in range(3000):
+            most = source.randrange(1, 7)
+            ends = [sorted(source.choices(range(1, most + 1), k=2)) for _ in range(source.randrange(4))]
+            runs = [(first, last) for first, last in ends]
+            times = Counter(number for first, last in runs for number in range(first, last + 1))
+            missing, twice = ([number for first, last in found for number in range(first, last + 1)] for found in merging.gaps(runs, most))
+            if missing != [it for it in range(1, most + 1) if not times[it]] or Counter(twice) != Counter(
+                    {number: many - 1 for number, many in times.items() if many > 1}):
+                wrong.append(f"{runs} of {most}: {missing} {twice}")
         return wrong
 
     def records_that_cannot_be(self) -> list[str]:

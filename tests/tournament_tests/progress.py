@@ -59,7 +59,7 @@ class Told(Base):
     def _on_a_terminal(self, columns: int, *words: str) -> str:
         ours, theirs = pty.openpty()
         fcntl.ioctl(theirs, termios.TIOCSWINSZ, struct.pack("HHHH", 24, columns, 0, 0))
-        words = ("-m400", "-l20000", "-j2", "--piece", "20", *words, *self._forty[:4])
+        words = (*(() if "-m2" in words else ("-m400",)), "-l20000", "-j2", "--piece", "20", *words, *self._forty[:4])
         with self._started(*words, stderr=theirs, stdout=subprocess.DEVNULL) as child:
             os.close(theirs)
             said = b"".join(self._said(ours))

@@ -15,7 +15,7 @@ from tools.faults import Fault
 from tournaments import groups, robots
 from tournaments.records import Record
 from tournaments.seats import keys
-from tournaments.settings import Settings
+from tournaments.settings import Settings, parsed
 
 from .base import COUNTER, FORMS, ROBOTS, SHOOTER, Base, seed_of, sha256, write
 
@@ -91,6 +91,44 @@ class Seats(Base):
             said = json.loads(self._run("-m4", "-l3000", "--json", *dict.fromkeys(among)).stdout)
             found.append([it for it in said["matches"] if {*it["robots"]} == {"sweeper.r", "runner.r"}])
         return [] if found[0] == found[1] and len(found[1]) == 4 else [f"{found}"]
+
+    # These against those.
+
+    def these_against_those(self) -> list[str]:
+        """Each of two robots meets the third alone, in each form, merged too; a threesome needs robots of both sides."""
+        words = ("-m2", "-l100", "b.r", "c.r", "--those", "a.r")
+        wanted = "rank,robot,played,won,tied,lost,points\n1,b.r,2,2,0,0,3.000\n1,c.r,2,2,0,0,3.000\n3,a.r,4,0,0,4,0.000\n"
+        wrong = self._unrated(self._run("--csv", *words), wanted)
+        self._plan("sides", *words)
+        merged = self._sh("sh sides > sides.records; tournament --merge --csv sides.records; head -n 3 sides.records | tournament --merge")
+        wrong += self._unrated(self._run("--merge", "--csv", "sides.records"), wanted)
+        wrong += [] if merged.returncode == 2 and "1 match is missing" in merged.stderr else [f"{merged}"]
+        matrix = self._run("--matrix", *words).stdout
+        wrong += [] if matrix == "           1      2      3\n1 b.r      -      -  2/0/0\n2 c.r      -      -  2/0/0\n3 a.r  0/0/2  0/0/2      -\n" else [matrix]
+        said = json.loads(self._run("--json", *words).stdout)["settings"]["those"]
+        return wrong + ([] if said == ["a.r"] else [f"{said}"])
+
+    def groups_of_two_sides(self) -> list[str]:
+        """Of each two sides of up to seven robots: the groups are those with robots of both, as many as are counted; records know them,
+        and a sample has no others."""
+        wrong = []
+        names = [sha256(f"{at}") for at in range(7)]
+        for many, size in itertools.product(range(4, 8), (2, 3, 4)):
+            for those in itertools.chain.from_iterable(itertools.combinations(range(many), side) for side in range(1, many)):
+                settings = Settings(12, 9, 1, 1, "0" * 64, many, (size,), 0, those)
+                wanted = [it for it in itertools.combinations(range(many), size) if {*it} & {*those} and {*it} - {*those}]
+                found = [*groups.groups(settings, names)]
+                some = groups.sample(1, tuple(names[:many]), size, 2, those)
+                if found != wanted or groups.count(settings, size) != len(wanted) or parsed(settings.text) != settings or not {*some} <= {*wanted}:
+                    wrong.append(f"{size} of {many}, {those}: {found}")
+        return wrong
+
+    def sides_that_cannot_be(self) -> list[str]:
+        other = "tournament: --those takes the robots of one side, and none is left for the other; give the others before it\n"
+        return (self._answers(self._run("--those", "a.r", "b.r"), "", other, 2)
+                + self._answers(self._run("a.r", "b.r", "--those", "./a.r"), "", "tournament: the robot ./a.r is given twice\n", 2)
+                + self._answers(self._run("--merge", "x", "--those", "a.r"), "",
+                                "tournament: --merge reads the settings from the records, so it takes no --those\n", 2))
 
     # Samples.
 

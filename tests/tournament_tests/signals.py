@@ -10,7 +10,7 @@ import signal
 import subprocess
 import time
 
-from .base import SCRIPTS, TOP, Base, read, write
+from .base import SCRIPTS, Base, read, write
 
 KILLS = 20
 
@@ -69,32 +69,6 @@ class Signals(Base):
             text, faults = child.communicate(timeout=20)
             got = (child.returncode, begun, text, faults)
             wrong += [] if got == (130, "rating", "", said) else [f"{got}, not {said}"]
-        return wrong
-
-    def a_signal_while_children_rate(self) -> list[str]:
-        """Three children, each of which says that it is there and waits; the signal comes to them too, or to their parent alone.
-        (If it comes just before the parent reads an answer, Python heeds it at the answer. So they don't wait for long.)"""
-        slow = ("import os, time\nprocessors, WORTH = lambda: 3, 1\n"
-                "Round.begin = lambda _: (os.write(1, b'child'), time.sleep(30))\n")
-        for package in ("tools", "tournaments", "sites", "replays"):
-            shutil.copytree(os.path.join(SCRIPTS, package), self._at(f"rating/{package}"))
-        shutil.copy(os.path.join(SCRIPTS, "tournament"), self._at("rating/tournament"))
-        with open(self._at("rating/tournaments/ratings.py"), "a", encoding="ascii") as module:
-            module.write(slow)
-        made = subprocess.run([os.path.join(TOP, "bench", "records"), "6", "0.5"], capture_output=True, text=True, check=True)
-        write(self._at("made.records"), made.stdout)
-        wrong = []
-        for number, send in itertools.product((signal.SIGINT, signal.SIGTERM, signal.SIGHUP), (os.kill, os.killpg)):
-            child = subprocess.Popen([self._at("rating/tournament"), "--merge", self._at("made.records")], start_new_session=True,
-                                     stdout=subprocess.PIPE, stderr=subprocess.PIPE, text=True)
-            assert child.stdout
-            begun = child.stdout.read(15)
-            send(child.pid, number)
-            text, faults = child.communicate(timeout=120)
-            left = [it for it in os.listdir("/proc") if it.isdigit() and session_of(it) == child.pid]
-            got = (child.returncode, begun, text, faults, left)
-            wanted = (128 + number, "child" * 3, "", "tournament: stopped while records were merged\n", [])
-            wrong += [] if got == wanted else [f"{send.__name__}: {got}"]
         return wrong
 
     def a_signal_while_the_modules_are_read(self) -> list[str]:

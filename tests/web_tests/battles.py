@@ -11,7 +11,7 @@ import subprocess
 import tempfile
 from dataclasses import dataclass, field
 
-from harness import loaded
+from harness import loaded, skip
 
 HERE = os.path.dirname(os.path.abspath(__file__))
 ROBOTS = os.path.join(HERE, "..", "..", "robots")
@@ -130,7 +130,7 @@ def vectors(*kinds: str) -> list[Battle]:
     """The vectors of these kinds, from the folder that CROBOTS_VECTORS names."""
     top = os.environ.get(VECTORS, "")
     if not top or not os.path.isdir(top):
-        print(f"left out: vectors, since {VECTORS} names no folder")
+        skip("vectors on the page", f"{VECTORS} names no folder")
         return []
     return [Vector.read(os.path.join(top, kind, name)) for kind in kinds for name in sorted(os.listdir(os.path.join(top, kind)))]
 

@@ -11,7 +11,7 @@ from typing import Any, Callable, ContextManager, Iterator
 
 from harness import loaded
 
-from . import everyone, helping, inside, keeping, paths, robust, seeing
+from . import everyone, helping, inside, keeping, paths, robust, seeing, seen
 from .battles import Battle, Mistake, Settings, mistakes, outcome, random_battles, sample_battles, samples, vectors
 from .pages import Page, as_loaded, chromium, console, served, without
 
@@ -183,7 +183,8 @@ def unset(page: Page) -> list[str]:
     wrong = []
     for name in ("matches", "limit", "seed", "first"):
         page.set(name, "")
-        page.js("document.getElementById('diagnostic').textContent = ''; document.getElementById('tab-1').click()")
+        page.js("document.getElementById('tab-0').click(); document.getElementById('diagnostic').textContent = '';"
+                "document.getElementById('tab-1').click()")
         page.wait("return document.getElementById('diagnostic').textContent")
         wrong += [] if page.text("diagnostic") == "No fault." else [f"without {name}: {page.text('diagnostic')}"]
         page.set(name, "1")
@@ -285,7 +286,7 @@ def keys(page: Page) -> list[str]:
     Watch it is in the film."""
     source = samples()[2][1].decode()
     page.show(Battle(samples()[2:4]))
-    page.js("document.getElementById('code').focus()")
+    page.js("document.getElementById('listing').open = true; document.getElementById('code').focus()")
     page.press("ARROW_DOWN", *["ARROW_DOWN"] * 20, "ENTER")
     chosen = page.js("return document.querySelector('#code [aria-selected=true]').dataset.line")
     mirror = "document.querySelector('.CodeMirror').CodeMirror"
@@ -316,7 +317,7 @@ def fought(page: Page, crobots: str, robots: list[tuple[str, bytes]], end: str) 
 
 def story(page: Page, crobots: str, folder: str, fresh: Callable[[], ContextManager[Any]]) -> list[str]:
     """What someone does who has only a browser, with the page as a file: a robot is changed, its fault seen and mended; it
-    loses, another one wins; and the link is opened by someone else."""
+    loses, another one wins; and the battle is sent as a file, which someone else opens."""
     other = Page(page.driver, "file://" + os.path.join(os.path.abspath(folder), "index.html"))
     other.open()
     other.fresh()
@@ -331,12 +332,16 @@ def story(page: Page, crobots: str, folder: str, fresh: Callable[[], ContextMana
     other.js("document.getElementById('sample').value = 'centre.r'; document.getElementById('replace').click()")
     battle = [(name, robots[name]) for name in ("centre.r", "sniper.r")]
     wrong += fought(other, crobots, battle, "won 1 tied 0 lost 0")
-    other.js("document.getElementById('link').click()")
-    other.wait("return document.getElementById('said').textContent.startsWith('The link')")
-    link = other.js("return location.hash")
+    other.js("window.texts = []; const Plain = Blob; window.Blob = class extends Plain { constructor(parts, ...more) { super(parts, ...more);"
+             "window.texts.push(parts[0]); } }; HTMLAnchorElement.prototype.click = () => {}; document.getElementById('link').click()")
+    other.wait("return document.getElementById('said').textContent.startsWith('This page is a file')")
+    other.choose("noted", "Save the battle as a file")
+    text = other.js("return window.texts.at(-1)")
     with fresh() as driver:
         reader = Page(driver, other.address)
-        reader.open(link)
+        reader.open()
+        keeping.dropped(reader, {"battle.json": text})
+        reader.wait("return !document.getElementById('linked').hidden")
         return wrong + fought(reader, crobots, battle, "won 1 tied 0 lost 0") + console(reader)
 
 
@@ -350,8 +355,9 @@ def stopped(page: Page, crobots: str) -> list[str]:
 
 # what an older browser lacks: all of WebAssembly, bulk memory or sign extension, numbers of 64 bits, streams that unpack
 OLDER = ("delete globalThis.WebAssembly", "WebAssembly.Module = function () { throw new WebAssembly.CompileError(); }", "delete globalThis.BigInt",
-         "delete globalThis.DecompressionStream")
-NEEDS = r"This page needs [^.]*\. Chrome and Edge have these from version \d+, Firefox from version \d+, and Safari from version \d+\."
+         "delete globalThis.DecompressionStream", "delete globalThis.Worker")
+NEEDS = r"This page needs [^.]*\. Chrome and Edge have these from version \d+, Firefox from version \d+, and Safari from version \d+\. " \
+    r"This browser lacks [\w ,]+\."
 
 
 def needs(page: Page, address: str) -> list[str]:
@@ -364,13 +370,16 @@ def needs(page: Page, address: str) -> list[str]:
 
 
 def older(page: Page, folder: str) -> list[str]:
-    """A browser that can't run the module gets two sentences, also if it can't read the script."""
+    """A browser that can't run the module is told what it lacks. One that can't read the script, or doesn't get it, is told of both."""
     wrong = console(page)
     for lacks in OLDER:
         with page.before(lacks):
             wrong += [f"{lacks}: {line}" for line in needs(page, page.address)]
-    with without(folder, "page.js") as address:
-        wrong += [f"without a script: {line}" for line in needs(page, address)]
+    with without(folder, "start.js") as address:
+        page.driver.get(address)
+        page.wait("return getComputedStyle(document.getElementById('lacking')).visibility === 'visible'")
+        told = page.text("lacking")
+        wrong += [] if told.endswith("a file of the page is missing or damaged: unpack or copy all of them once more.") else [told]
     console(page)
     return wrong
 
@@ -430,6 +439,7 @@ def results(crobots: str, _stages: str, folder: str) -> Iterator[tuple[str, list
         yield "keys", keys(page)
         yield "the page as a file", story(page, crobots, folder, chromium)
         yield from keeping.results(page)
+        yield from seen.results(page, folder)
         yield from seeing.results(page, crobots)
         yield from inside.results(page)
         yield from helping.results(page, crobots, folder)

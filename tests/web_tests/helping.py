@@ -131,7 +131,7 @@ def levels(page: Page) -> list[str]:
 def other_pages(page: Page, folder: str) -> list[str]:
     """The page links to the manual and to what it is; both are there, and say what they have to."""
     page.fresh()
-    links = page.js("return [...document.querySelectorAll('a[href]')].map(it => it.getAttribute('href'))")
+    links = page.js("return [...document.querySelectorAll('a[href]')].map(it => it.getAttribute('href')).filter(it => !it.startsWith('#'))")
     wrong = [f"no file {link}" for link in links if not os.path.isfile(os.path.join(folder, link))]
     wrong += [] if {"manual.html", "about.html", *(f"pages/{name}.html" for name in READ)} <= set(links) else [f"links: {links}"]
     wrong += lost_links(folder)

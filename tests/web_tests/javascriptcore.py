@@ -4,10 +4,11 @@ from __future__ import annotations
 
 import json
 import os
-import shutil
 import subprocess
 import tempfile
 from typing import Iterator
+
+import packages
 
 from .battles import Battle, random_battles, sample_battles
 from .module import HERE, SECONDS, Answer, compared, job
@@ -17,7 +18,7 @@ PROGRAM = "jsc"
 
 def lacking(_folder: str) -> str:
     """What is lacking for these tests."""
-    return "" if shutil.which(PROGRAM) else f"there is no {PROGRAM}"
+    return packages.lacking([PROGRAM])
 
 
 def answers(folder: str, battles: list[Battle]) -> list[Answer]:

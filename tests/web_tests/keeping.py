@@ -1,7 +1,8 @@
-"""Tests that the page loses nothing: samples, links, two tabs, removal, a storage that is full or blocked, undo, files."""
+"""Tests that the page loses nothing: samples, links, two tabs, removal, a storage that is full or blocked, undo, files, versions."""
 
 from __future__ import annotations
 
+import json
 import os
 import tempfile
 import time
@@ -12,7 +13,8 @@ from .pages import Page, fragment
 
 OWN = "main() { while (1) drive(10, 20); }"
 FRIEND = "main() { while (1) drive(30, 40); }"
-BLOCKED = "Object.defineProperty(window, 'localStorage', {get() { throw new DOMException('no', 'SecurityError'); }})"
+NO_DATABASE = "Object.defineProperty(window, 'indexedDB', {get() { return undefined; }});"
+BLOCKED = NO_DATABASE + "Object.defineProperty(window, 'localStorage', {get() { throw new DOMException('no', 'SecurityError'); }})"
 MIRROR = "document.querySelector('.CodeMirror').CodeMirror"
 
 
@@ -52,15 +54,18 @@ def a_link(page: Page) -> list[str]:
     page.js("document.getElementById('kept').open = true")
     page.wait("return document.getElementById('entries').children.length === 2")
     page.choose("entries", "friend.r")
+    page.wait("return document.getElementById('tab-0').textContent === 'friend.r'")
     return wrong + ([] if page.source == f" {FRIEND}" else ["the list doesn't lead to the friend's battle"])
 
 
 def a_link_in_the_open_page(page: Page) -> list[str]:
-    """A link that is followed in the open page displaces robots that nothing kept yet; the way back has them too."""
+    """A link that is followed in the open page displaces robots that nothing keeps, which is said before the first change; the way back
+    has them too."""
+    page.forget()
     with page.before(BLOCKED):
         page.open()
-        page.write(OWN)
         told = page.seen("unkept")
+        page.write(OWN)
         page.show(Battle([("friend.r", FRIEND.encode())]))
         page.choose("linked", "Back to my robots")
         wrong = [] if page.source == OWN else [page.source]
@@ -77,15 +82,21 @@ def next_day(page: Page) -> list[str]:
     return [] if page.source == OWN else [page.source]
 
 
-def twenty(page: Page) -> list[str]:
-    """The last twenty battles are kept, and the oldest ones go."""
+def many_steps(page: Page) -> list[str]:
+    """Unchanged samples, as the steps have them, are no battles of one's own, also if they are run; thirty of one's own all stay."""
     page.fresh()
-    for number in range(22):
+    for number in range(30):
         page.click("new")
         page.js(f"{MIRROR}.setValue('/* {number} */ main(){{}}')")
-        time.sleep(0.003)
-    numbers = sorted(int(source.split()[1]) for source in sources(page))
-    return [] if numbers == [*range(2, 22)] else [f"{numbers}"]
+    page.js("document.getElementById('start').open = true")
+    for _ in range(2):
+        page.js("document.querySelectorAll('#steps button').forEach(it => it.click())")
+        page.run()
+    page.js("document.getElementById('kept').open = true")
+    page.wait("return document.getElementById('entries').children.length >= 30")
+    numbers = sorted(int(source.split()[1]) for source in sources(page) if source.startswith("/* ") and source.split()[1].isdigit())
+    listed = page.js("return document.getElementById('entries').children.length")
+    return [] if sorted(set(numbers)) == [*range(30)] and listed == 30 else [f"{numbers}, {listed} listed"]
 
 
 def two_tabs(page: Page) -> list[str]:
@@ -103,6 +114,7 @@ def two_tabs(page: Page) -> list[str]:
         told = [page.seen("noted")]
         page.write("main() { /* first */ }")
         told.append(page.seen("noted"))
+        page.wait("return !document.getElementById('noted').hidden")
         kept = sources(page)
     finally:
         driver.switch_to.window(driver.window_handles[-1])
@@ -130,8 +142,15 @@ def removing(page: Page) -> list[str]:
 
 
 def full(page: Page) -> list[str]:
-    """The page says that the storage is full, and that there is room again."""
-    page.fresh()
+    """The page says that the storage is full, and that there is room again. It has no database here."""
+    page.forget()
+    with page.before(NO_DATABASE):
+        page.open()
+        return fills(page)
+
+
+def fills(page: Page) -> list[str]:
+    """Fills the storage, and frees it again."""
     page.write(OWN)
     page.js("let text = 'x'.repeat(1 << 20); while (text) try { localStorage.setItem('filler' + localStorage.length, text); }"
             " catch { text = text.slice(0, text.length >> 1); }")
@@ -140,7 +159,7 @@ def full(page: Page) -> list[str]:
     page.js("Object.keys(localStorage).filter(it => it.startsWith('filler')).forEach(it => localStorage.removeItem(it))")
     page.write(OWN)
     later = page.seen("unkept")
-    right = told.startswith("This browser keeps nothing of this page") and later == ""
+    right = told.startswith("The storage is full: your last changes aren't kept.") and later == ""
     return [] if right and OWN in sources(page) else [f"full: {told!r}, later {later!r}"]
 
 
@@ -204,14 +223,116 @@ def saving(page: Page) -> list[str]:
 
 def former(page: Page) -> list[str]:
     """What an earlier page kept is there as one of the battles."""
-    page.open()
-    page.js("localStorage.clear(); localStorage.setItem('crobots', JSON.stringify({robots: [{name: 'old.r', source: arguments[0]}]}))", OWN)
+    page.forget()
+    page.js("localStorage.setItem('crobots', JSON.stringify({robots: [{name: 'old.r', source: arguments[0]}]}))", OWN)
     page.open()
     return [] if page.names == ["old.r"] and page.source == OWN else [f"{page.names}"]
 
 
+def undo_leaves_newer(page: Page) -> list[str]:
+    """Undo of a removal brings that robot back, and leaves what was written and set since; after a link there is no such undo."""
+    page.fresh()
+    page.write(OWN)
+    page.js("document.getElementById('tab-1').click()")
+    page.click("remove")
+    page.choose("answers", "Remove it")
+    page.wait("return document.querySelectorAll('#tabs [role=tab]').length === 1")
+    page.click("add")
+    page.write(FRIEND)
+    page.set("matches", "7")
+    page.choose("noted", "Undo")
+    kept = page.names, page.js("return document.getElementById('matches').value"), page.js("document.getElementById('tab-2').click()"), page.source
+    wrong = [] if kept == (["hunter.r", "sniper.r", "robot1.r"], "7", None, FRIEND) else [f"{kept}"]
+    page.click("replace")
+    page.show(Battle([("friend.r", FRIEND.encode())]))
+    undo_there = page.js("return [...document.querySelectorAll('#noted button')].map(it => it.textContent)")
+    return wrong + ([] if page.names == ["friend.r"] and "Undo" not in undo_there else [f"{page.names} {undo_there}"])
+
+
+def replaced_is_found(page: Page) -> list[str]:
+    """A robot that a sample took the place of is among the battles after a reload, and comes back from there."""
+    page.fresh()
+    page.write(OWN)
+    page.click("replace")
+    page.open()
+    page.js("document.getElementById('kept').open = true; document.getElementById('wanted-battle').value = 'drive(10, 20)';"
+            "document.getElementById('wanted-battle').dispatchEvent(new Event('input'))")
+    page.wait("return document.querySelector('#entries button')")
+    page.js("document.querySelector('#entries button').click()")
+    page.wait("return document.querySelector('.CodeMirror').CodeMirror.getValue() === arguments[0]", OWN)
+    return []
+
+
+def versions(page: Page) -> list[str]:
+    """A robot's versions are compared with it by lines and brought back; a version is named, found, and deleted with the room told."""
+    page.fresh()
+    page.write("main() {\n  drive(1, 2);\n}\n")
+    page.run()
+    page.write("main() {\n  drive(3, 4);\n}\n")
+    page.js("document.getElementById('versions').open = true")
+    page.wait("return document.querySelector('#robot-versions button')")
+    page.choose("robot-versions", "Compare with now")
+    rows = page.js("return [...document.querySelectorAll('#robot-versions .diff span')].map(it => it.textContent)")
+    wrong = [] if rows == ["  main() {\n", "-   drive(1, 2);\n", "+   drive(3, 4);\n", "  }\n", "  \n"] else [f"{rows}"]
+    page.choose("robot-versions", "Bring back")
+    page.wait("return document.querySelector('.CodeMirror').CodeMirror.getValue().includes('drive(1, 2)')")
+    wrong += [] if any("drive(3, 4)" in source for source in sources(page)) else ["the newer text is lost"]
+    page.js("document.getElementById('kept').open = true")
+    page.wait("return document.querySelector('#entries input')")
+    page.js("const it = document.querySelector('#entries input'); it.value = 'mine'; it.dispatchEvent(new Event('change'))")
+    page.wait("return document.getElementById('entries').textContent.includes('\"mine\"')")
+    before = len(page.kept())
+    page.choose("entries", "Delete")
+    page.choose("answers", "Delete it")
+    page.wait("return document.getElementById('noted').textContent.startsWith('Deleted: that frees')")
+    return wrong + ([] if len(page.kept()) <= before else [f"{before} before, {len(page.kept())} later"])
+
+
+def carried(page: Page) -> list[str]:
+    """All battles are written into a file; another browser reads it, once."""
+    page.fresh()
+    page.write(OWN)
+    page.run()
+    page.js("window.texts = []; const Plain = Blob; window.Blob = class extends Plain { constructor(parts, ...more) { super(parts, ...more); window.texts.push(parts[0]); } };"
+            "HTMLAnchorElement.prototype.click = function () { window.saved = this.download; }")
+    page.click("export")
+    name, text = page.js("return [window.saved, window.texts.at(-1)]")
+    page.fresh()
+    told = []
+    for _ in range(2):
+        dropped(page, {name: text.replace('"versions"', '"versions"')})
+        told.append(page.seen("noted"))
+    dropped(page, {"two.json": two_of(text)})
+    told.append(page.seen("noted"))
+    right = name == "crobots-battles.json" and page.source == OWN and "2 versions came into 'My battles', 0 were there" in told[2]
+    return [] if right else [f"{name} {told} {page.source[:40]}"]
+
+
+def two_of(text: str) -> str:
+    """A file with two versions that no browser has, of one that has one."""
+    read = json.loads(text)
+    read["versions"] = [{**read["versions"][0], "id": f"other {number}", "line": f"line {number}"} for number in range(2)]
+    return json.dumps(read)
+
+
+def own_link(page: Page) -> list[str]:
+    """After a link was copied and the page loaded anew, the battle is still one's own."""
+    page.fresh()
+    page.write(OWN)
+    page.click("link")
+    page.wait("return document.getElementById('said').textContent.startsWith('The link')")
+    page.open(page.js("return location.hash"))
+    wrong = [] if page.source == OWN and page.seen("linked") == "" else [f"{page.source[:40]} {page.seen('linked')}"]
+    page.write(f"{OWN} ")
+    page.js("document.getElementById('kept').open = true")
+    page.wait("return document.querySelector('#entries button')")
+    listed = page.text("entries")
+    return wrong + (["it is listed as one from a link"] if "from a link" in listed else [])
+
+
 def results(page: Page) -> Iterator[tuple[str, list[str]]]:
     """The tests' names, and what is wrong."""
-    tests: list[Any] = [a_sample, a_link, a_link_in_the_open_page, next_day, twenty, two_tabs, removing, full, undo, opening, saving, former]
+    tests: list[Any] = [a_sample, a_link, a_link_in_the_open_page, next_day, many_steps, two_tabs, removing, full, undo, opening, saving, former,
+                        undo_leaves_newer, replaced_is_found, versions, carried, own_link]
     for test in tests:
         yield f"nothing is lost: {test.__name__.replace('_', ' ')}", test(page)

@@ -14,6 +14,7 @@ import tempfile
 from dataclasses import replace
 from typing import Any, Iterator
 
+import packages
 from asking_robots import AskingRobots
 
 from . import slimmed
@@ -54,7 +55,7 @@ def words_of(name: str, folder: str) -> list[str]:
 
 def lacking(_folder: str) -> str:
     """What is lacking for these tests."""
-    return "" if shutil.which("node") else "there is no Node"
+    return packages.lacking(["node"])
 
 
 def job(battle: Battle) -> dict[str, Any]:

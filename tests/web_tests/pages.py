@@ -15,7 +15,9 @@ import threading
 import time
 import urllib.parse
 import zlib
-from typing import Any, Iterator
+from typing import Any, Callable, Iterator
+
+from browsers import READ_BACK
 
 from .battles import Battle
 
@@ -56,6 +58,20 @@ def without(folder: str, *names: str) -> Iterator[str]:
         shutil.copytree(folder, place, dirs_exist_ok=True)
         for name in names:
             os.remove(os.path.join(place, name))
+        with served(place) as address:
+            yield address
+
+
+@contextlib.contextmanager
+def changed(folder: str, name: str, change: Callable[[str], str]) -> Iterator[str]:
+    """The address of a copy of the page in which a file is changed."""
+    with tempfile.TemporaryDirectory() as place:
+        shutil.copytree(folder, place, dirs_exist_ok=True)
+        path = os.path.join(place, name)
+        with open(path, encoding="utf-8") as file:
+            text = file.read()
+        with open(path, "w", encoding="utf-8") as file:
+            file.write(change(text))
         with served(place) as address:
             yield address
 
@@ -105,10 +121,16 @@ class Page:
         self.driver.get(self.address + tail)
         self.wait("return document.getElementById('diagnostic')?.textContent")
 
+    def forget(self) -> None:
+        """Has the browser forget all that it kept of the page."""
+        self.driver.get(urllib.parse.urljoin(self.address, "about.html"))
+        self.js("localStorage.clear(); sessionStorage.clear(); window.gone = false;"
+                "const asked = indexedDB.deleteDatabase('crobots'); asked.onsuccess = asked.onerror = () => { window.gone = true; }")
+        self.wait("return window.gone")
+
     def fresh(self, tail: str = "") -> None:
         """Opens the page anew in a browser that kept nothing."""
-        self.driver.get(urllib.parse.urljoin(self.address, "about.html"))
-        self.js("localStorage.clear()")
+        self.forget()
         self.open(tail)
 
     @contextlib.contextmanager
@@ -163,8 +185,8 @@ class Page:
 
     def write(self, source: str) -> None:
         """Writes a source in place of the one that is shown, until it is compiled."""
-        self.js("document.getElementById('diagnostic').textContent = '';"
-                "document.querySelector('.CodeMirror').CodeMirror.setValue(arguments[0])", source)
+        self.js("const it = document.querySelector('.CodeMirror').CodeMirror; if (it.getValue() !== arguments[0]) {"
+                "document.getElementById('diagnostic').textContent = ''; it.setValue(arguments[0]); }", source)
         self.wait("return document.getElementById('diagnostic').textContent")
 
     @property
@@ -177,11 +199,20 @@ class Page:
         """The names on the tabs."""
         return list(self.js("return [...document.querySelectorAll('#tabs [role=tab]')].map(it => it.textContent)"))
 
+    def kept(self) -> list[dict[str, Any]]:
+        """All that the browser keeps of battles: versions and drafts, from its database and its storage."""
+        self.js("window.records = null; const local = Object.entries(localStorage).filter(([key]) => /^crobots-(version|draft)-/.test(key));"
+                "const found = local.map(([, text]) => JSON.parse(text)); if (!window.indexedDB) { window.records = found; return; }"
+                "const asked = indexedDB.open('crobots');"
+                "asked.onsuccess = () => { const base = asked.result; const done = more => { base.close(); window.records = [...found, ...more]; };"
+                "if (!base.objectStoreNames.contains('records')) return done([]);"
+                "const all = base.transaction('records').objectStore('records').getAll(); all.onsuccess = () => done(all.result); };"
+                "asked.onerror = () => { window.records = found; }")
+        return list(self.wait("return window.records"))
+
     def entries(self) -> list[list[list[str]]]:
         """The battles that the browser keeps: of each the names and the sources of its robots."""
-        kept = self.js("return Object.entries(localStorage).filter(([key]) => key.startsWith('crobots-battle-')).map(([, text]) => text)")
-        battles = [json.loads(text.partition("\n")[2])["battle"] for text in kept]
-        return [[[it["name"], it["source"]] for it in battle["robots"]] for battle in battles]
+        return [[[it["name"], it["source"]] for it in record["battle"]["robots"]] for record in self.kept() if record.get("battle")]
 
     def run(self) -> str:
         """Runs the battle; returns the report."""
@@ -197,7 +228,7 @@ class Page:
 
     def watch(self, number: int, cycle: int = 0) -> None:
         """Watches a match from a cycle on."""
-        self.js("document.getElementById('film').srcdoc = ''; document.getElementById('told').textContent = '';"
+        self.js("document.getElementById('told').textContent = '';"
                 "document.getElementById('watched').value = arguments[0]; document.getElementById('from').value = arguments[1];"
                 "document.getElementById('watch').click()", number, cycle)
         self.wait("return document.getElementById('told').textContent.includes('can be watched') && !document.getElementById('watch').disabled")
@@ -230,5 +261,7 @@ class Page:
 
 
 def console(page: Page) -> list[str]:
-    """What the page wrote on the console, which Chromium alone reports."""
-    return [entry["message"] for entry in page.driver.get_log("browser")] if page.driver.name == "chrome" else []
+    """What the page wrote on the console, which Chromium alone reports; but for what tests bring about, which read a canvas, and leave
+    pages that nobody touched."""
+    said = [entry["message"] for entry in page.driver.get_log("browser")] if page.driver.name == "chrome" else []
+    return [line for line in said if READ_BACK not in line and "'beforeunload'" not in line]

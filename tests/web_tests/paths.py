@@ -72,8 +72,16 @@ class Reader:
         """Whether nothing is pointed at."""
         return self.way.kind == "keys"
 
+    def reach(self, element: str) -> None:
+        """Goes to the place of the page where an element is, if places are shown one at a time."""
+        place = self.page.js(f"const place = ({element})?.closest('.place');"
+                             "return place && !place.offsetWidth ? [...place.classList].find(name => name !== 'place') : ''")
+        if place:
+            self.press(by_id(f"to-{place}"))
+
     def press(self, element: str) -> None:
         """Presses an element of the page, by an expression of JavaScript."""
+        self.reach(element)
         if self.has_keys:
             self.tab(element)
             self.page.press("ENTER")
@@ -128,6 +136,7 @@ class Reader:
 
     def edit(self) -> None:
         """Goes to the first place of the source."""
+        self.reach("document.querySelector('.CodeMirror')")
         if self.has_keys:
             self.tab("document.querySelector('.CodeMirror')")
         else:
@@ -230,6 +239,7 @@ def win_by_sample(reader: Reader) -> tuple[str, str]:
 
 def show_first(reader: Reader) -> None:
     """The first robot is shown, of two of which the other one was."""
+    reader.reach(by_id("tab-0"))
     if reader.has_keys:
         reader.tab("document.querySelector('#tabs [aria-selected=true]')")
         reader.chord(LEFT)
@@ -257,7 +267,7 @@ def save_and_send(reader: Reader, name: str) -> None:
     reader.press(by_id("save"))
     page.wait("return window.saved === arguments[0]", name)
     reader.press(by_id("link"))
-    page.wait("return location.hash.startsWith('#battle=')")
+    page.wait("return location.hash.startsWith('#battle=') || document.getElementById('said').textContent.startsWith('This page is a file')")
 
 
 def open_a_friends(reader: Reader) -> None:
@@ -267,7 +277,7 @@ def open_a_friends(reader: Reader) -> None:
         page.show(battle)
     else:
         page.open(fragment(battle))
-    told(page, "#linked", "This battle came with a link.")
+    told(page, "#linked", "This battle came with a link, ")
     if reader.way.friends != "looked at":
         reader.edit()
         reader.write(" ")
@@ -278,14 +288,15 @@ def come_back(reader: Reader, names: tuple[str, str]) -> None:
     """The next day one's own robots are there, or a button leads to them; and all battles are in the list."""
     page = reader.page
     page.open()
-    is_kept = reader.way.friends != "looked at"
+    is_kept, is_own = reader.way.friends != "looked at", reader.way.wins_by == "sample"
     if is_kept:
         reader.press("document.querySelector('#linked button')")
-    page.wait("return document.getElementById('tab-0').textContent === arguments[0]", names[0])
+    # a step that was only tried is no battle of one's own
+    page.wait("return document.getElementById('tab-0').textContent === arguments[0]", names[0] if is_own else "hunter.r")
     reader.press("document.querySelector('#kept summary')")
     page.wait("return document.getElementById('kept').open")
-    wanted = sorted([", ".join(names), "hunter.r, sniper.r", *(["friend.r"] if is_kept else [])])
-    page.wait("return [...document.querySelectorAll('#entries button')].map(it => it.textContent).sort().join('; ') === arguments[0]", "; ".join(wanted))
+    wanted = sorted([*([", ".join(names)] if is_own else []), "hunter.r, sniper.r", *(["friend.r"] if is_kept else [])])
+    page.wait("return [...document.querySelectorAll('#entries > li > button:first-child')].map(it => it.textContent).sort().join('; ') === arguments[0]", "; ".join(wanted))
     reader.press("[...document.querySelectorAll('#entries button')].find(it => it.textContent === 'hunter.r, sniper.r')")
     page.wait("return document.querySelector('.CodeMirror').CodeMirror.getValue().startsWith(arguments[0])", MINE)
 

@@ -8,10 +8,10 @@ import os
 import re
 import time
 import zipfile
-from typing import Iterator
+from typing import Callable, Iterator
 
 from .battles import Battle, Settings, samples
-from .pages import Page, as_loaded, console, packed, without
+from .pages import Page, as_loaded, changed, console, packed, without
 
 FIELD = "document.querySelector('#writing textarea:not([style*=none])')"
 # a link of 78 KB that unpacks to 60 MB
@@ -20,7 +20,7 @@ BOMB = 60_000_000
 LARGEST = (" " * 999 + "\n") * 1048 + " " * 577
 DISGUISED = "live.r\n  1) won 9 tied 0 lost 0 \u202egnp.evil\u2066\x07"
 # what a browser loads to play, and what else lies beside it to be read
-MOST_BYTES, MOST_PACKED = 800_000, 240_000
+MOST_BYTES, MOST_PACKED = 850_000, 260_000
 MOST_READ, MOST_READ_PACKED = 200_000, 70_000
 # pages to read that lie beside the page, and not in the folder of the others
 BESIDE = ("manual.html", "about.html")
@@ -53,6 +53,68 @@ def no_data(page: Page, folder: str) -> list[str]:
         seen = page.js("return [document.getElementById('lacking').hidden, document.getElementById('main').hidden]")
         console(page)
     return wrong + ([] if seen == [False, True] else [f"{seen}"])
+
+
+def one_letter(text: str, at: int) -> str:
+    """A text of which one letter is another one, of those that base 64 has."""
+    letter = "B" if text[at] == "A" else "A"
+    return text[:at] + letter + text[at + 1:]
+
+
+def in_module(text: str) -> str:
+    """Data of which a letter in the middle of the packed module is changed."""
+    begin = text.index('"module": "') + 11
+    return one_letter(text, (begin + text.index('"', begin)) // 2)
+
+
+# a file, what happens to it, and what the page says
+DAMAGES: dict[str, tuple[str, Callable[[str], str], str]] = {
+    "a letter of the module": ("data.js", in_module, "The page is damaged: its file data.js isn't the one that was built."),
+    "a letter of a sample": ("data.js", lambda text: text.replace("hunter: finds", "hunter: Finds", 1), "The page is damaged: its file data.js isn't"),
+    "data that is cut off": ("data.js", lambda text: text[:len(text) // 2], "The page is not whole: its file data.js is missing, cut off or damaged."),
+    "a page that is cut off": ("page.js", lambda text: text[:len(text) // 2], "The page is not whole: its file page.js is missing, cut off or damaged."),
+    "a letter of the page": ("page.js", lambda text: text.replace("No fault.", "no fault.", 1), "The page is damaged: its file page.js isn't"),
+    "a start that is cut off": ("start.js", lambda text: text[:len(text) // 2], "This page needs JavaScript, "),
+    "another module's hash": ("start.js", lambda text: re.sub(r'(module:")[0-9a-f]{8}', r"\g<1>00000000", text), "The page is damaged: its module isn't"),
+}
+# a page that isn't served in a safe way has no hashes of the browser's
+UNSAFE = "Object.defineProperty(globalThis.crypto, 'subtle', {get() { return undefined; }})"
+
+
+def damaged(page: Page, folder: str) -> list[str]:
+    """The page runs nothing of which a file is damaged, and says which one it is; also where it works out the hashes itself."""
+    wrong = console(page)
+    for name, (file, change, wanted) in DAMAGES.items():
+        with changed(folder, file, change) as address:
+            for code in ("", UNSAFE)[:2 if "module" in name else 1]:
+                with page.before(code):
+                    page.driver.get("about:blank")
+                    page.driver.get(address)
+                    page.wait("return getComputedStyle(document.getElementById('lacking')).visibility === 'visible'"
+                              " && document.getElementById('lacking').textContent.startsWith(arguments[0])", wanted)
+                    wrong += [] if page.js("return document.getElementById('main').hidden") else [f"{name}: the page is shown"]
+    console(page)
+    with page.before(UNSAFE):
+        page.fresh()
+        wrong += [] if page.names == ["hunter.r", "sniper.r"] else [f"without the browser's hashes: {page.names}"]
+    return wrong
+
+
+# stands in for a module of another version: it has none of the calls
+OTHER = "WebAssembly.instantiate = async () => ({instance: {exports: {}}})"
+
+
+def misfit(page: Page, folder: str) -> list[str]:
+    """A module that doesn't fit the page is told, and nothing of it in place of a diagnostic. The worker that is laid has it here."""
+    wrong = console(page)
+    code = f"const Plain = Blob; globalThis.Blob = class extends Plain {{ constructor(parts, more) {{ super(more?.type === 'text/javascript' ? [{json.dumps(OTHER)}, ';', ...parts] : parts, more); }} }}"
+    with page.before(code):
+        page.driver.get("about:blank")
+        page.driver.get(page.address)
+        page.wait("return document.getElementById('lacking').textContent.startsWith(\"The page's engine doesn't start: the module and the page differ\")")
+        wrong += [] if page.js("return document.getElementById('main').hidden") else ["the page is shown"]
+    console(page)
+    return wrong
 
 
 def dying(page: Page) -> list[str]:
@@ -166,6 +228,8 @@ def results(page: Page, folder: str) -> Iterator[tuple[str, list[str]]]:
     """The tests' names, and what is wrong."""
     yield "robust: a missing part of the editor", plain(page, folder)
     yield "robust: missing data", no_data(page, folder)
+    yield "robust: damaged files", damaged(page, folder)
+    yield "robust: a module that doesn't fit", misfit(page, folder)
     yield "robust: a worker that dies", dying(page)
     yield from hostile_links(page)
     yield "robust: the policy", policy(page, folder)

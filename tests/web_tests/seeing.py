@@ -6,6 +6,7 @@ import re
 from typing import Any, Iterator
 
 from .battles import Battle, Settings, samples
+from .keeping import NO_DATABASE
 from .pages import Page
 
 MIRROR = "document.querySelector('.CodeMirror').CodeMirror"
@@ -61,7 +62,9 @@ def messages(page: Page) -> list[str]:
 def out_of_sight(page: Page) -> list[str]:
     """Where one writes, the page says that the storage is full."""
     page.size(360, 640)
-    page.fresh()
+    page.forget()
+    with page.before(NO_DATABASE):
+        page.open()
     page.js("Storage.prototype.setItem = () => { throw new DOMException('full', 'QuotaExceededError'); };"
             "document.querySelector('#writing').scrollIntoView({block: 'start'})")
     page.write("main() { }")

@@ -4,13 +4,14 @@ and nothing else changes."""
 from __future__ import annotations
 
 import os
-import shutil
 import subprocess
 import sys
 from typing import Callable
 
 sys.path.insert(0, os.path.join(os.path.dirname(os.path.abspath(__file__)), "..", "..", "scripts"))
 
+from harness import skip  # noqa: E402
+from packages import lacking  # noqa: E402
 from webs.laying import EDITOR, EDITOR_FILES  # noqa: E402
 from webs.renaming import renamed  # noqa: E402
 from webs.slimming import Unclear, short, short_style  # noqa: E402
@@ -96,8 +97,8 @@ def wrong_names(folder: str) -> list[str]:
     differing = [f"{name}: {renamed(before)!r}, not {after!r}" for name, (before, after) in NAMES.items() if renamed(before) != after]
     differing += [f"{script!r} gets names" for script in UNKNOWN if not refuses(script, renamed)]
     scripts = [name for name in EDITOR_FILES if name.endswith(".js") and os.path.isdir(EDITOR)]
-    if not shutil.which(OTHER):
-        print(f"left out: the editor's scripts by another program, since {OTHER} isn't installed")
+    if why := lacking([OTHER]):
+        skip("the editor's scripts by another program", why)
         return differing
     return differing + [f"{name} is another script" for name in scripts
                         if mangled(text_of(EDITOR, name)) != mangled(text_of(folder, "codemirror", os.path.basename(name)))]

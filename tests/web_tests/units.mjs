@@ -8,8 +8,11 @@ import zlib from "node:zlib";
 const wrong = [];
 const load = name => import(pathToFileURL(path.join(process.argv[2], `${name}.js`)));
 const {cleanName, freeName, nameInWork} = await load("names");
-const {checked, isSeed} = await load("battles");
-const {battleOf, fragmentOf} = await load("links");
+const {checked, isSeed, unfit} = await load("battles");
+const {textOf} = await load("files");
+const {hashOf, workedOut} = await load("hashes");
+const {shortened} = await load("histories");
+const {battleOf, fragmentOf, linkedMoment} = await load("links");
 const {placesOf} = await load("finding");
 const {completions, openCall, wordAt} = await load("helping");
 const {Series, ended} = await load("series");
@@ -30,6 +33,18 @@ check("a name", [cleanName("a/b\n\u202e\u0007\u2028c.r ", "x"), cleanName(" \u20
 check("a long name", [...cleanName("😀".repeat(99), "x")].length, 60);
 check("a free name", freeName([{name: "robot1.r"}, {name: "robot3.r"}]), "robot2.r");
 check("seeds", ["0", "18446744073709551615", "18446744073709551616", "", "-1", "1e3", " 1"].map(isSeed), [true, true, false, false, false, false, false]);
+check("seeds with zeros before them", ["000000000000000000000001", `${"0".repeat(99)}18446744073709551615`, `${"0".repeat(9)}18446744073709551616`].map(isSeed), [true, true, false]);
+const fit = {matches: 1, limit: 1, first: 1, profile: 1, seed: "1"};
+check("settings out of their limits", [unfit(fit), unfit({...fit, seed: "18446744073709551616", limit: 0}), unfit({...fit, matches: 1000001, first: NaN, profile: 3})],
+    [[], ["limit", "seed"], ["matches", "first", "profile"]]);
+check("texts of files", [[0xef, 0xbb, 0xbf, 65], [0xc3, 0xa4], [0xe4, 66]].map(bytes => textOf(Uint8Array.from(bytes))), ["\ufeffA", "ä", "äB"]);
+// of FIPS 180-4, and of as many bytes as fill a block or don't
+const HASHES = {"": "e3b0c44298fc1c149afbf4c8996fb92427ae41e4649b934ca495991b7852b855", abc: "ba7816bf8f01cfea414140de5dae2223b00361a396177a9cb410ff61f20015ad"};
+check("hashes", Object.keys(HASHES).map(it => workedOut(new TextEncoder().encode(it))), Object.values(HASHES));
+const lengths = [1, 55, 56, 63, 64, 65, 119, 120, 1000].map(length => Uint8Array.from({length}, (_, at) => at * 7 & 255));
+check("hashes of lengths", lengths.map(workedOut), await Promise.all(lengths.map(hashOf)));
+const same = text => ({kind: " ", text});
+check("a difference that is shortened", shortened([..."abcdefgh"].map(same).concat([{kind: "+", text: "x"}], [..."ijklmn"].map(same))).map(({text}) => text).join(""), "...fghxijk...");
 
 const robot = {name: "a.r", source: "main(){}"};
 const usual = {matches: 1, limit: 500000, first: 1, profile: 1, seed: "1"};
@@ -42,6 +57,10 @@ const room = 6 * 1024 * 1024;
 const battle = source => JSON.stringify({robots: [{name: "a.r", source}]});
 const fill = battle("").length;
 check("a link and back", await battleOf(await fragmentOf({robots: [robot], settings: usual})), {robots: [robot], settings: usual});
+const momentary = await fragmentOf({robots: [robot], settings: usual}, {number: 3, cycle: 450});
+check("a link to a moment", [await battleOf(momentary), linkedMoment(momentary), linkedMoment(await fragmentOf({robots: [robot], settings: usual}))],
+    [{robots: [robot], settings: usual}, {number: 3, cycle: 450}, null]);
+check("moments that are none", ["&match=0&cycle=1", "&match=1000001&cycle=1", "&match=1&cycle=1000000001", "&match=1&cycle=-1", "&match=x&cycle=1", "&cycle=1&match=1"].map(linkedMoment), Array(6).fill(null));
 check("the largest link", (await battleOf(packed(battle("x".repeat(room - fill)))))?.robots[0].source.length, room - fill);
 check("links that are none", [await battleOf(packed(battle("x".repeat(room - fill + 1)))), await battleOf("#battle=%%%"), await battleOf(packed("[")), await battleOf("#x")],
     [null, null, null, null]);
@@ -68,12 +87,42 @@ async function play(matches, most, first = 1) {
     return {calls, series, end: await series.play()};
 }
 
+/** The same, of an engine that refuses a first match over its limit; the first robot wins those of even numbers. */
+async function playLate(matches, first, most = Infinity) {
+    const calls = [];
+    const series = new Series({matches, first}, ({matches: count, first: from}) => {
+        calls.push([from, count]);
+        if (from > 1000000) return {ending: 2, text: "", faults: ""};
+        if (count > most) return {ending: 4, text: "", faults: ""};
+        const numbers = Array.from({length: count}, (_, n) => from + n);
+        const won = numbers.filter(n => n % 2 === 0).length;
+        const totals = `Totals: ${count} matches\n  1) won ${won} tied 0 lost ${count - won} a\n  2) won ${count - won} tied 0 lost ${won} b\n`;
+        return {ending: 0, text: numbers.map(n => `Match ${n}: cycles = 1\n`).join("") + totals, faults: ""};
+    }, () => {});
+    return {calls, end: await series.play(), text: series.text};
+}
+
+function lateReport(matches, first) {
+    const numbers = Array.from({length: matches}, (_, n) => first + n);
+    const won = numbers.filter(n => n % 2 === 0).length;
+    return `${numbers.map(n => `Match ${n}: cycles = 1\n`).join("")}Totals: ${matches} matches\n  1) won ${won} tied 0 lost ${matches - won} a\n  2) won ${matches - won} tied 0 lost ${won} b\n`;
+}
+
+for (const [matches, first] of [[11, 1000000], [5, 999999], [30, 999985], [300, 999999], [1000, 999500], [12, 999989], [13, 999988]]) {
+    const {end, text, calls} = await playLate(matches, first);
+    check(`a series of ${matches} from match ${first}`, [end.ending, text === lateReport(matches, first), calls.every(([from]) => from <= 1000000)], [0, true, true]);
+}
+const cut = await playLate(40, 999999, 20);
+check("a series of which a piece is too long", [cut.end.ending, cut.text.startsWith("Match 999999: cycles = 1\nMatch 1000000:"), /Totals: (\d+)/.exec(cut.text)[1]], [4, true, "21"]);
+
 const whole = text => `${text}\nTotals: 30 matches\n  1) won 0 tied 0 lost 30 a\n  2) won 30 tied 0 lost 0 Totals: 9\n`;
 const reports = from => Array.from({length: 30}, (_, n) => `Match ${from + n}: cycles = 1`).join("\n");
 const [short, long, tight] = [await play(10, 10), await play(30, 99, 5), await play(30, 3)];
 check("a short series is one piece", short.calls, [[1, 10]]);
 check("a series in pieces", [long.series.text, long.end.ending, long.calls[0]], [whole(reports(5)), 0, [5, 1]]);
 check("pieces that are too long", [tight.series.text, tight.end.ending], [whole(reports(1)), 0]);
+check("who won", [ended(short.series, short.end, 1234), ended(...Object.values(await play(1, 1)).slice(1), 5)],
+    ["Done in 1.23 seconds. Won: a 0, Totals: 9 10.", "Done in 0.01 seconds. Totals: 9 won."]);
 const died = new Series({matches: 99, first: 1}, () => { throw new Error("stopped"); }, () => {});
 check("a series that is stopped", ended(died, await died.play(), 0), "Stopped. No match was played to its end.");
 
@@ -116,6 +165,9 @@ check("a moment", [inside.cycle, inside.address, inside.isAlive, inside.isOver, 
     [6, 11, true, false, "scan(30, -5)", {cycle: 2, call: "damage()", reply: -9}, [2, 3], [4]]);
 // the frame that was opened last is of a call whose arguments are being worked out
 check("open calls of a robot", callsOf(code, inside), [{line: 4, name: "f", variables: [{name: "n", value: 2}], frames: 2}, {line: 3, name: "main", variables: [], frames: 1}]);
+// the line of a call is that of its FCALL, though what follows it comes from another line
+const apart = new Code(LISTING, PLACES.replace("\n5\t1\tcode\t3", "\n5\t1\tcode\t9"));
+check("the line of a call", [apart.lines[4], apart.lines[5], ...callsOf(apart, inside).map(({line}) => line)], [3, 9, 4, 3]);
 check("externals", valuesOf(code.externals, inside.externals), [{name: "seen", value: 4}]);
 check("no moment, and what was found", [momentOf(ROWS), foundIn(ROWS), foundIn(`${ROWS}8\t1\tfound\n`)], [null, null, 8]);
 

@@ -54,7 +54,10 @@ export class FieldDrawing {
         const {context, width} = prepared(this.canvas);
         if (width < LEAST_SIDE) return;
         const margin = width < NARROW ? 22 : 30;
-        Object.assign(this, {context, left: margin, top: EDGE, scale: (width - margin - EDGE) / FIELD_SIDE});
+        this.context = context;
+        this.left = margin;
+        this.top = EDGE;
+        this.scale = (width - margin - EDGE) / FIELD_SIDE;
         this.#ground();
         context.save();
         this.#clip();
@@ -289,7 +292,11 @@ export class FieldDrawing {
     mark(kind) {
         const {context, width, height} = prepared(this.canvas);
         const scale = kind === "restart" ? 0.02 : 0.03;
-        Object.assign(this, {context, scale, left: width / 2 - 5000 * scale, top: height / 2 - 5000 * scale});
+        this.context = context;
+        this.scale = scale;
+        this.left = width / 2 - 5000 * scale;
+        this.top = height / 2 - 5000 * scale;
+        /** @type {any} */
         const robot = {number: 1, x: 5000, y: 5000, heading: 0, speed: 100};
         const marks = {
             robot: () => { this.#trail({...robot, trail: [{x: 4400, y: 5000, age: 0.6}, {...robot, age: 0}]}); this.#robot(robot); },
@@ -317,15 +324,22 @@ export class DamageDrawing {
     }
 
     /**
-     * Draws the damage of a match's robots over its cycles, with a line at this cycle. It needs of a match: its `cycles`,
-     * and the `first` of them that is shown if that isn't 0;
+     * Draws the damage of a match's robots up to this cycle, with a line there; the rest too, fainter, if `isWhole`. It needs of a
+     * match: its `cycles`, and the `first` of them that is shown if that isn't 0;
      * of each of its `robots` the number, and the columns `cycle` and `percent` of its damage; the columns `cycle` and
      * `robot` of its `restarts`; and `damageOf`.
      */
-    draw(match, cycle) {
+    draw(match, cycle, isWhole = false) {
         const {context, width, height} = prepared(this.canvas);
         if (width < LEAST_SIDE) return;
-        Object.assign(this, {context, match, first: match.first ?? 0, left: 44, right: width - 34, top: 12, bottom: height - 26});
+        this.context = context;
+        this.match = match;
+        this.end = isWhole ? match.cycles : cycle;
+        this.first = match.first ?? 0;
+        this.left = 44;
+        this.right = width - 34;
+        this.top = 12;
+        this.bottom = height - 26;
         this.#ground();
         this.#restarts();
         match.robots.forEach(robot => this.#steps(robot, cycle));
@@ -376,7 +390,7 @@ export class DamageDrawing {
     #restarts() {
         const {context, match} = this, {cycle: cycles, robot: robots} = match.restarts;
         const column = (match.cycles - this.first) / (this.right - this.left);
-        for (let at = 0; at < cycles.length; at = countAtMost(cycles, cycles[at] + column)) {
+        for (let at = 0; at < cycles.length && cycles[at] <= this.end; at = countAtMost(cycles, cycles[at] + column)) {
             context.fillStyle = this.colours.robots[robots[at] - 1];
             context.fillRect(Math.round(this.#x(cycles[at])), this.bottom - 6, 1.5, 6);
         }
@@ -385,7 +399,7 @@ export class DamageDrawing {
     /** The damage of a robot, faint after the present cycle. */
     #steps({number, damage}, now) {
         const {context} = this;
-        for (const [from, to, alpha] of [[now, this.match.cycles, 0.38], [this.first, now, 1]]) {
+        for (const [from, to, alpha] of [[now, this.end, 0.38], [this.first, now, 1]].filter(part => part[1] > part[0])) {
             context.save();
             context.beginPath();
             context.rect(this.#x(from) - (from > this.first ? 0 : 2), 0, this.#x(to) - this.#x(from) + 2, this.bottom + 4);
@@ -409,10 +423,10 @@ export class DamageDrawing {
         }
     }
 
-    /** The robots' numbers at the ends of their lines, none over another. */
+    /** The robots' numbers, as high as the ends of their lines, none over another. */
     #ends() {
         const {context, match} = this, apart = 19;
-        const ends = match.robots.map(({number}) => ({number, row: this.#y(match.damageOf(number, match.cycles))}));
+        const ends = match.robots.map(({number}) => ({number, row: this.#y(match.damageOf(number, this.end))}));
         ends.sort((a, b) => b.row - a.row || a.number - b.number);
         let below = this.bottom + apart;
         for (const end of ends) below = end.row = Math.min(end.row, below - apart);

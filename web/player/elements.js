@@ -1,6 +1,9 @@
 // Elements of the page.
 
-/** The element of the page with this name. */
+/**
+ * The element of the page with this name. What it is stands in the page, so its members aren't checked.
+ * @type {(id: string) => any}
+ */
 export const element = id => document.getElementById(id);
 /** A number with commas. */
 export const shown = number => number.toLocaleString("en");

@@ -21,7 +21,13 @@ function mixed(from, to, part) {
 export class Match {
     /** The match of a film, as `filmOf` reads it. */
     constructor(film) {
-        Object.assign(this, film);
+        this.first = film.first;
+        this.cycles = film.cycles;
+        this.goesOn = film.goesOn;
+        this.shots = film.shots;
+        this.hurts = film.hurts;
+        this.restarts = film.restarts;
+        this.whys = film.whys;
         this.robots = film.robots.map((robot, at) => ({...robot, number: at + 1}));
         const {cycle, burst} = this.shots;
         this.longestFlight = burst.reduce((most, end, at) => Math.max(most, end - cycle[at]), 0);
@@ -104,6 +110,7 @@ export class Match {
     #trail(path, cycle, place) {
         const from = Math.max(this.first, cycle - TRAIL);
         const first = countAtMost(path.cycle, from), end = countAtMost(path.cycle, cycle);
+        /** @type {any[]} */
         const trail = [{...this.#place(path, from), age: (cycle - from) / TRAIL}];
         for (let at = first; at < end; at++) {
             trail.push({x: path.x[at], y: path.y[at], age: (cycle - path.cycle[at]) / TRAIL});
@@ -160,7 +167,7 @@ export class Match {
     /** All events, sorted by their cycles: each is the row of a list. Their texts are made when they are asked for. */
     #events() {
         const ends = this.robots.map(robot => ({cycle: robot.death ?? this.cycles, robot}));
-        ends.sort((a, b) => a.cycle - b.cycle || (a.robot.death === null) - (b.robot.death === null));
+        ends.sort((a, b) => a.cycle - b.cycle || Number(a.robot.death === null) - Number(b.robot.death === null));
         const lists = [this.hurts.cycle, this.restarts.cycle, ends.map(end => end.cycle)];
         return {...merged(lists), ends: ends.map(end => end.robot)};
     }

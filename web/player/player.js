@@ -23,7 +23,8 @@ const MILLISECONDS_OF_AN_ADDRESS = 500;
 export class Player {
     /** Shows a match from a cycle on, and plays it if it is to; `sources` shows the robot that is chosen from inside, if it is there. */
     constructor(match, {from = match.first, isPlaying = false, sources = null} = {}) {
-        Object.assign(this, {match, sources});
+        this.match = match;
+        this.sources = sources;
         this.cycle = this.#within(from);
         this.#follow(location.hash);
         this.chosen = 0;
@@ -66,7 +67,7 @@ export class Player {
         const whole = Math.floor(cycle);
         const moment = match.moment(cycle, this.#glow());
         this.field.draw(moment);
-        this.damage.draw(match, cycle);
+        this.damage.draw(match, cycle, element("whole").checked);
         this.cards.show(moment);
         this.events.show(whole);
         this.sources?.show(whole, this.chosen || 1);
@@ -185,6 +186,12 @@ export class Player {
         return Math.max(this.match.first, Math.min(this.match.cycles, cycle));
     }
 
+    /** Shows the match on the whole screen, or no more; a browser may refuse it. */
+    #fill() {
+        const done = document.fullscreenElement ? document.exitFullscreen() : document.documentElement.requestFullscreen?.();
+        done?.catch(() => this.#tell("this browser has no whole screen for it"));
+    }
+
     #faster(by) {
         this.speed = Math.max(0, Math.min(SPEEDS.length - 1, this.speed + by));
         this.show();
@@ -218,6 +225,7 @@ export class Player {
             "cycle-before": () => this.#step(Math.ceil(cycle) - 1),
             "restart-after": () => this.#restart(),
             describe: () => this.#describe(),
+            "whole-screen": () => this.#fill(),
             faster: () => this.#faster(1),
             slower: () => this.#faster(-1),
         };
@@ -228,7 +236,7 @@ export class Player {
         const arrow = event.shiftKey ? "cycle" : "update";
         const keys = {
             " ": "play-pause", Home: "to-start", End: "to-end", n: "hit-after", p: "hit-before", r: "restart-after",
-            d: "describe",
+            d: "describe", f: "whole-screen",
             ArrowRight: `${arrow}-after`, ArrowLeft: `${arrow}-before`, ArrowUp: "faster", ArrowDown: "slower",
         };
         return keys[event.key.length === 1 ? event.key.toLowerCase() : event.key];
@@ -251,8 +259,11 @@ export class Player {
         }
         element("slider").addEventListener("input", event => this.seek(Number(event.target.value)));
         element("speed").addEventListener("change", event => this.#faster(Number(event.target.value) - this.speed));
+        element("whole").addEventListener("change", () => this.show());
         this.#listenToChart(element("damage"));
         new ResizeObserver(() => this.show()).observe(element("field"));
+        document.addEventListener("fullscreenchange", () =>
+            document.documentElement.classList.toggle("full", Boolean(document.fullscreenElement)));
         window.addEventListener("hashchange", () => { this.#follow(location.hash); this.show(); });
         matchMedia("(prefers-color-scheme: dark)").addEventListener("change", () => this.#recolour());
     }
@@ -271,7 +282,7 @@ export class Player {
     }
 
     #marks() {
-        for (const canvas of document.querySelectorAll("[data-mark]")) {
+        for (const canvas of /** @type {NodeListOf<HTMLCanvasElement>} */ (document.querySelectorAll("[data-mark]"))) {
             new FieldDrawing(canvas, this.field.colours).mark(canvas.dataset.mark);
         }
     }

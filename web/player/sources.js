@@ -9,8 +9,12 @@ const MOST_LINES = 5000;
 export class Sources {
     /** Makes it the last part before the foot of the page. */
     constructor(main, match) {
-        Object.assign(this, {match, number: 0});
-        [this.heading, this.place, this.asked, this.source] = [made("h2"), made("p", "place"), made("p", "asked"), made("ol", "source")];
+        this.match = match;
+        this.number = 0;
+        this.heading = made("h2");
+        this.place = made("p", "place");
+        this.asked = made("p", "asked");
+        this.source = made("ol", "source");
         this.source.tabIndex = 0;
         this.source.setAttribute("aria-label", "Source");
         const part = made("section", "inside");

@@ -6,7 +6,9 @@ const SECONDS_BETWEEN_WORDS = 2;
 export class Speaker {
     /** Speaks in a region of the page, of what happens in a match after this cycle. */
     constructor(region, match, cycle) {
-        Object.assign(this, {region, match, cycle});
+        this.region = region;
+        this.match = match;
+        this.cycle = cycle;
         this.saidAt = -Infinity;
     }
 

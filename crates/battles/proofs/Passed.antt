@@ -5,13 +5,13 @@ use Rattle.std.proofs.lemmas.List.{get_or-set_same, get_or-set_other}
 use Rattle.std.proofs.lemmas.Bool.{cases_eq, cases_lt}
 use Rattle.std.proofs.lemmas.Bool.Decides.{nat_tests}
 use Rattle.arena.specs.Field.{Field, is_live_at}
-use Rattle.arena.specs.Arena.{Arena}
+use Rattle.arena.specs.Arena.{Arena, is_live}
 use Rattle.arena.specs.Representing.{RepresentsField}
 use Rattle.engine.specs.Executables.{Executable}
 use Rattle.engine.specs.Engines.{EngineFits}
 use Rattle.battles.specs.Battle.{Behaviour, BattleState}
 use Rattle.battles.specs.Carrying.{Runner, AreRobotsOf, EachFits, EachIsAheadOf, HasReached, IsAheadOf, IsRobotOf}
-use Rattle.battles.specs.Intervals.{AreTurnNumbers, HasCome, HasRunAlone, cycles_without_updates}
+use Rattle.battles.specs.Intervals.{AreAhead, AreTurnNumbers, HasCome, HasRunAlone, cycles_without_updates}
 use Rattle.battles.proofs.Ahead.{Runs, come_alone, opens, closes}
 use Rattle.battles.proofs.Alone.{quiet_alone, quiet_runs}
 use Rattle.battles.proofs.Running.{at_less, quiet_less}
@@ -40,6 +40,20 @@ pub record HavePassed (robots : List Behaviour) (exes : List Executable) (k w : 
   pub begin : (i : ℕ) → k ≤ i → i < length exes → get_or next i 0 ≡ i
   pub past : (i : ℕ) → length exes ≤ i → i < 4 → 4 * w ≤ get_or next i 0
   pub come : HasCome robots exes next w runners arena opened
+
+-- one of the first n robots, a live one, has a machine that is less than this number of cycles ahead
+pub record OneIsBehind (n cycles : ℕ) (arena : Arena) (runners : List Runner) : Type 0 where
+  pub robot : ℕ
+  pub inside : robot < n
+  pub alive : is_live arena robot ≡ true
+  pub none : Runner
+  pub behind : (get_or runners robot none).ahead < cycles
+
+-- then they aren't all that far ahead
+pub not_ahead : (n cycles : ℕ) (arena : Arena) (runners : List Runner) → OneIsBehind n cycles arena runners
+    → AreAhead n cycles arena runners → ⊥
+not_ahead n cycles arena runners one ahead =
+    omega (arith, ahead one.robot one.none one.inside one.alive, one.behind)
 
 turn_number_of : ℕ → ℕ → ℕ → ℕ
 turn_number_of n w i = if nat_lt i n then i else 4 * w + i

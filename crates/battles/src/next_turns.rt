@@ -1,6 +1,6 @@
 //! The turns of an interval are numbered in the order of the cycles and the robots: which one of each robot is next.
 
-ghost use Rattle.std.specs.Prelude.{◌≡◌, ℕ, ◌+◌, ◌*◌, ◌%◌, ◌<◌, ◌≤◌, ◌^◌, true, slice_index_or, slice_set};
+ghost use Rattle.std.specs.Prelude.{◌≡◌, ◌↔◌, ℕ, ◌+◌, ◌*◌, ◌%◌, ◌<◌, ◌≤◌, ◌^◌, IsTrue, slice_index_or, slice_set};
 ghost use Rattle.battles.specs.Intervals.{AreTurnNumbers, OthersArePast};
 
 use arena::MOST_ROBOTS;
@@ -63,7 +63,7 @@ impl NextTurns {
     #[inline(never)]
     pub(crate) fn others_are_past(&self, robot: usize, end: u32) -> bool
         requires { robot < MOST_ROBOTS }
-        ensures { result ≡ true → OthersArePast end robot self.now }
+        ensures { IsTrue result ↔ OthersArePast end robot self.now }
     {
         (robot == 0 || end <= self.next[0])
             && (robot == 1 || end <= self.next[1])

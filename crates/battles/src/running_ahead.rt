@@ -1,7 +1,7 @@
 //! Intervals in which every machine is far enough ahead: the robots go on without a look at a machine. On a still field
 //! many intervals are skipped at once.
 
-ghost use Rattle.std.specs.Prelude.{◌≡◌, ◌<◌, ◌≤◌, ◌+◌, ◌*◌, true, false, ℤ, List, length};
+ghost use Rattle.std.specs.Prelude.{◌≡◌, ◌↔◌, ◌⊎◌, ◌<◌, ◌≤◌, ◌+◌, ◌*◌, true, false, ℤ, IsTrue, List, length};
 ghost use Rattle.arena.specs.Field.{Field};
 ghost use Rattle.arena.specs.Arena.{is_live, most_updates};
 ghost use Rattle.arena.specs.Representing.{RepresentsField};
@@ -62,6 +62,8 @@ fn intervals_ahead(runners: &[Runner], arena: &Arena, most: u32) -> u32
     requires manned { length arena.now.robots ≡ length runners.now }
     ensures ahead { AreAhead (length runners.now) (UPDATE_CYCLES * result) arena.now runners.now }
     ensures most { result ≤ most }
+    ensures all { (result ≡ most)
+        ⊎ (AreAhead (length runners.now) (UPDATE_CYCLES * (result + 1)) arena.now runners.now → ⊥) }
 {
     let mut intervals = most;
     for robot in 0..runners.len() {
@@ -78,7 +80,7 @@ fn intervals_ahead(runners: &[Runner], arena: &Arena, most: u32) -> u32
 #[inline(always)]
 fn are_ahead(runners: &[Runner], arena: &Arena, cycles: u32) -> bool
     requires manned { length arena.now.robots ≡ length runners.now }
-    ensures { result ≡ true → AreAhead (length runners.now) cycles arena.now runners.now }
+    ensures { IsTrue result ↔ AreAhead (length runners.now) cycles arena.now runners.now }
 {
     for robot in 0..runners.len() {
         let runner = &runners[robot];

@@ -1,5 +1,9 @@
 //! What a fault of a source is explained by.
 
+ghost use Rattle.std.specs.Prelude.{◌≡◌, Err};
+ghost use Rattle.grammar.specs.Compiled.{compiled};
+ghost use Rattle.explanations.specs.Faults.{IsOn, first_line};
+
 use crate::carets::add_marked;
 use crate::comments::nested;
 use crate::hints::{Hint, hint_on};
@@ -32,15 +36,26 @@ pub struct Found<'a> {
     pub profile: Profile,
 }
 
-/// Explains the fault of a source, which `compile` found by the same profile; the tokens are the source's. The note has
-/// the line with the column, in bytes from 1, the source's line with a caret, what was met and what fits there, and a
+/// Explains the first fault of a source, which `compile` found by the same profile; the tokens are the source's. The note
+/// has the line with the column, in bytes from 1, the source's line with a caret, what was met and what fits there, and a
 /// hint.
-pub fn explain(
+pub fn explain(source: &[u8], tokens: &[Located], profile: Profile, diagnostic: &Diagnostic) -> Note
+    requires { compiled profile source.now ≡ Err diagnostic.now }
+    ensures { IsOn diagnostic.now result.text.bytes }
+{
+    explain_left(source, tokens, profile, diagnostic)
+}
+
+/// Explains a fault of what is left of a source, as `explain` does, by the lines of the whole source. The tokens are of
+/// what is left.
+pub fn explain_left(
     source: &[u8],
     tokens: &[Located],
     profile: Profile,
     diagnostic: &Diagnostic,
-) -> Note {
+) -> Note
+    ensures { IsOn diagnostic.now result.text.bytes }
+{
     let mut search = Search::of(tokens, profile);
     let index = search.find(diagnostic);
     let found = Found {
@@ -51,9 +66,11 @@ pub fn explain(
         code: diagnostic.code,
         profile,
     };
-    let mut note = Note::new();
-    add_head(&mut note, diagnostic, &found);
-    add_reason(&mut note, &found, &search);
+    let mut reason = Note::new();
+    add_marked(&mut reason, found.source, found.met.start);
+    add_reason(&mut reason, &found, &search);
+    let mut note = head_of(diagnostic, found.met.column);
+    note.add(reason.as_str());
     note
 }
 
@@ -79,12 +96,15 @@ fn add_reason(note: &mut Note, found: &Found<'_>, search: &Search<'_>) {
     }
 }
 
-/// Adds the first line, and the source's line with a caret.
-fn add_head(note: &mut Note, diagnostic: &Diagnostic, found: &Found<'_>) {
-    note.position(diagnostic.line, found.met.column);
+/// Returns a note of the first line on a diagnostic.
+fn head_of(diagnostic: &Diagnostic, column: u32) -> Note
+    ensures { result.text.bytes ≡ first_line diagnostic.now column }
+{
+    let mut note = Note::new();
+    note.position(diagnostic.line, column);
     note.add(diagnostic.code.text());
     note.push('\n');
-    add_marked(note, found.source, found.met.start);
+    note
 }
 
 /// Adds what was met instead of what fits, and the hint on it.

@@ -30,7 +30,7 @@ mod variables;
 mod wanted;
 mod warnings;
 
-pub use explaining::explain;
+pub use explaining::{explain, explain_left};
 pub use heads::is_head;
 pub use notes::Note;
 pub use searches::fault_token;

@@ -2,6 +2,9 @@
 //!
 //! What adds to them isn't inlined: the page's module would have a copy for each piece of each text.
 
+ghost use Rattle.std.specs.Prelude.{◌≡◌, ◌+◌, ◌<◌, ◌≤◌, ◌++◌, ◌∷◌, [], ℕ, List, decimal, length};
+ghost use Rattle.explanations.specs.Faults.{position};
+
 use arrayvec::ArrayString;
 use std::fmt::Write;
 
@@ -16,26 +19,37 @@ pub struct Note {
 
 impl Note {
     /// Makes a note without words.
-    pub(crate) fn new() -> Note {
+    pub(crate) fn new() -> Note
+        ensures { result.text.bytes ≡ [] }
+    {
         Note {
             text: ArrayString::new(),
         }
     }
 
     /// Returns the text.
-    pub fn as_str(&self) -> &str {
+    pub fn as_str(&self) -> &str
+        ensures { result.now ≡ self.now.text.bytes }
+    {
         self.text.as_str()
     }
 
     /// Adds words.
     #[inline(never)]
-    pub(crate) fn add(&mut self, words: &str) {
+    pub(crate) fn add(&mut self, words: &str)
+        ensures room { length self.old.text.bytes + length words.now ≤ NOTE_BYTES
+            → self.new.text.bytes ≡ self.old.text.bytes ++ words.now }
+        ensures kept { (rest : List ℕ) × (self.new.text.bytes ≡ self.old.text.bytes ++ rest) }
+    {
         let _ = self.text.try_push_str(words);
     }
 
     /// Adds a character.
     #[inline(never)]
-    pub(crate) fn push(&mut self, character: char) {
+    pub(crate) fn push(&mut self, character: char)
+        ensures { character < 128 → length self.old.text.bytes < NOTE_BYTES
+            → self.new.text.bytes ≡ self.old.text.bytes ++ character ∷ [] }
+    {
         let _ = self.text.try_push(character);
     }
 
@@ -61,11 +75,25 @@ impl Note {
         self.push('`');
     }
 
+    /// Adds a number digit by digit.
+    fn add_digits(&mut self, number: u32)
+        ensures digits { length self.old.text.bytes + length (decimal number) ≤ NOTE_BYTES
+            → self.new.text.bytes ≡ self.old.text.bytes ++ decimal number }
+    {
+        if number >= 10 {
+            self.add_digits(number / 10);
+        }
+        self.push(char::from(b'0' + (number % 10) as u8));
+    }
+
     /// Adds a position, as a line and a column.
-    pub(crate) fn position(&mut self, line: u32, column: u32) {
-        self.number(u64::from(line));
+    pub(crate) fn position(&mut self, line: u32, column: u32)
+        ensures { length self.old.text.bytes + length (position line column) ≤ NOTE_BYTES
+            → self.new.text.bytes ≡ self.old.text.bytes ++ position line column }
+    {
+        self.add_digits(line);
         self.push(':');
-        self.number(u64::from(column));
+        self.add_digits(column);
         self.add(": ");
     }
 }

@@ -1,10 +1,15 @@
 //! What is known of a robot: the room that it needs, and what its functions and the turns of its loops take.
 
+ghost use Rattle.std.specs.Prelude.{◌≡◌, ◌++◌, ◌<◌, ◌∷◌, [], IfErr, IfOk, Ok, Some, length, map};
+ghost use Rattle.room.specs.Bounds.{IsRefusedSource};
+ghost use Rattle.cycles.specs.Files.{AreSpansOf};
+ghost use Rattle.facts.specs.Facts.{AreFactsOf, HasParts, cycles_of_run, cycles_of_turn, cycles_told};
+
 use crate::chains::{Chain, Link};
 use crate::places::Places;
 use crate::ways::{Stretch, Ways};
 use cycles::{Counted, Run, SourceSpans, Span, Turn, source_spans};
-use derivations::{Located, Sums, locate};
+use derivations::{Located, Loop, Sums, locate};
 use grammar::{Intrinsic, Name, ParseFault, Pools, Profile};
 use parser::parse;
 use room::{Bound, bounds, chain};
@@ -51,6 +56,18 @@ pub struct Part {
     pub shot: Option<Stretch>,
 }
 
+impl Part {
+    /// Returns it with its questions of one kind.
+    fn noted(self, kind: usize, questions: Option<Span>) -> Part
+        requires { kind < KINDS }
+        ensures { cycles_told result ≡ cycles_told self }
+    {
+        let mut part = self;
+        part.questions[kind] = questions;
+        part
+    }
+}
+
 /// How many intrinsic functions there are.
 pub const KINDS: usize = Intrinsic::ALL.len();
 
@@ -60,7 +77,10 @@ impl Facts {
     /// # Errors
     ///
     /// Those of `parse`; `Memory` also if a list of parts was refused it.
-    pub fn of(alloc: Global, source: &[u8], profile: Profile) -> Result<Facts, ParseFault> {
+    pub fn of(alloc: Global, source: &[u8], profile: Profile) -> Result<Facts, ParseFault>
+        ensures facts { IfOk result (AreFactsOf profile source.now) }
+        ensures refused { IfErr result (IsRefusedSource profile (Some source.now)) }
+    {
         let bound = bounds(alloc, &mut MemoryFeed::new(source, WINDOW_BYTES), profile)?;
         let numbers = chain(alloc, &mut MemoryFeed::new(source, WINDOW_BYTES), profile)?;
         let mut maker = TreeMaker::new(alloc, profile);
@@ -102,30 +122,34 @@ struct Finder<'a> {
 
 impl Finder<'_> {
     /// Finds the functions and the loops. Each kind of question wants a pass over the source.
-    fn parts(&self) -> Result<(Vec<Part>, Vec<Part>), ParseFault> {
+    fn parts(&self) -> Result<(Vec<Part>, Vec<Part>), ParseFault>
+        ensures parts { IfOk result (λ parts. HasParts self.now.profile self.now.source.now parts.0.items parts.1.items) }
+        ensures refused { IfErr result (IsRefusedSource self.now.profile (Some self.now.source.now)) }
+    {
         let told = self.told(Counted::Questions)?;
         let mut functions = kept(self.functions(told.runs.as_slice()))?;
         let mut loops = kept(self.loops(told.turns.as_slice()))?;
-        for (kind, intrinsic) in Intrinsic::ALL.iter().enumerate() {
-            let told = self.told(Counted::QuestionsOf(*intrinsic))?;
-            for (part, run) in functions.iter_mut().zip(told.runs.as_slice()) {
-                note(part, kind, Some(run.questions));
-            }
-            for (part, turn) in loops.iter_mut().zip(told.turns.as_slice()) {
-                note(part, kind, turn.questions);
-            }
+        for kind in 0..KINDS {
+            let told = self.told(Counted::QuestionsOf(Intrinsic::ALL[kind]))?;
+            note_runs(functions.as_mut_slice(), kind, told.runs.as_slice());
+            note_turns(loops.as_mut_slice(), kind, told.turns.as_slice());
         }
         Ok((functions, loops))
     }
 
     /// Returns what functions and loops take, with their questions of a kind.
-    fn told(&self, asked: Counted) -> Result<SourceSpans, ParseFault> {
+    fn told(&self, asked: Counted) -> Result<SourceSpans, ParseFault>
+        ensures spans { IfOk result (AreSpansOf asked self.now.profile (Some self.now.source.now)) }
+        ensures refused { IfErr result (IsRefusedSource self.now.profile (Some self.now.source.now)) }
+    {
         let mut feed = MemoryFeed::new(self.source, WINDOW_BYTES);
         source_spans(self.alloc, &mut feed, self.profile, asked)
     }
 
     /// Lists the functions with their cycles.
-    fn functions(&self, runs: &[Run]) -> Result<Vec<Part>, AllocError> {
+    fn functions(&self, runs: &[Run]) -> Result<Vec<Part>, AllocError>
+        ensures { IfOk result (λ parts. map cycles_told parts.items ≡ map cycles_of_run runs.now) }
+    {
         let mut parts = Vec::new(self.alloc);
         for (index, run) in runs.iter().enumerate() {
             parts.push(self.part(run.function, self.places.function(index), Some(run.cycles)))?;
@@ -134,23 +158,35 @@ impl Finder<'_> {
     }
 
     /// Lists the loops with their cycles, and what lies between the questions of their turns.
-    fn loops(&self, turns: &[Turn]) -> Result<Vec<Part>, AllocError> {
+    fn loops(&self, turns: &[Turn]) -> Result<Vec<Part>, AllocError>
+        ensures { IfOk result (λ parts. map cycles_told parts.items ≡ map cycles_of_turn turns.now) }
+    {
         let sums: Sums<'_, Ways> = Sums::of(self.tokens, self.profile);
         let mut parts = Vec::new(self.alloc);
-        for (turn, found) in turns.iter().zip(sums.loops()) {
-            let place = (found.position.line, found.position.column);
-            let mut part = self.part(turn.function, place, turn.cycles);
-            if let Some(ways) = found.turn {
-                part.gap = ways.gap();
-                part.shot = ways.shot();
-            }
-            parts.push(part)?;
+        for (index, turn) in turns.iter().enumerate() {
+            let found = sums.loops().get(index).copied().unwrap_or_default();
+            parts.push(self.turn(*turn, &found))?;
         }
         Ok(parts)
     }
 
+    /// Makes the part of a loop, by what is told of its turn and by what lies between its questions.
+    fn turn(&self, turn: Turn, found: &Loop<Ways>) -> Part
+        ensures { cycles_told result ≡ cycles_of_turn turn }
+    {
+        let place = (found.position.line, found.position.column);
+        let mut part = self.part(turn.function, place, turn.cycles);
+        if let Some(ways) = found.turn {
+            part.gap = ways.gap();
+            part.shot = ways.shot();
+        }
+        part
+    }
+
     /// Makes a part of the function of this number, which has asked nothing so far.
-    fn part(&self, function: u8, place: (u32, u32), cycles: Option<Span>) -> Part {
+    fn part(&self, function: u8, place: (u32, u32), cycles: Option<Span>) -> Part
+        ensures { cycles_told result ≡ record { function = function; cycles = cycles } }
+    {
         let (line, column) = place;
         Part {
             number: function,
@@ -205,15 +241,35 @@ impl Finder<'_> {
     }
 }
 
-/// Notes a part's questions of one kind.
-fn note(part: &mut Part, kind: usize, questions: Option<Span>) {
-    if let Some(noted) = part.questions.get_mut(kind) {
-        *noted = questions;
+/// Notes the questions of one kind that functions ask.
+fn note_runs(parts: &mut [Part], kind: usize, runs: &[Run])
+    requires { kind < KINDS }
+    ensures { map cycles_told parts.new ≡ map cycles_told parts.old }
+{
+    for index in 0..parts.len() {
+        if let Some(run) = runs.get(index) {
+            parts[index] = parts[index].noted(kind, Some(run.questions));
+        }
+    }
+}
+
+/// Notes the questions of one kind that the turns of loops ask.
+fn note_turns(parts: &mut [Part], kind: usize, turns: &[Turn])
+    requires { kind < KINDS }
+    ensures { map cycles_told parts.new ≡ map cycles_told parts.old }
+{
+    for index in 0..parts.len() {
+        if let Some(turn) = turns.get(index) {
+            parts[index] = parts[index].noted(kind, turn.questions);
+        }
     }
 }
 
 /// Returns what was made, or that memory was refused.
-fn kept<T>(made: Result<T, AllocError>) -> Result<T, ParseFault> {
+fn kept<T>(made: Result<T, AllocError>) -> Result<T, ParseFault>
+    ensures made { IfOk result (λ it. made ≡ Ok it) }
+    ensures memory { IfErr result (λ fault. fault ≡ ParseFault.Memory) }
+{
     match made {
         Ok(made) => Ok(made),
         Err(AllocError) => Err(ParseFault::Memory),

@@ -1,5 +1,12 @@
 //! What lies between questions, on all ways through a piece of a program.
 
+ghost use Rattle.std.specs.Prelude.{◌≡◌, Option, Some};
+ghost use Rattle.cycles.specs.declared.spans.Span as span;
+ghost use Rattle.cycles.specs.Ends as ends;
+ghost use Rattle.cycles.specs.Ends.{behind, one_of};
+ghost use Rattle.cycles.specs.Told.{told_end};
+ghost use Rattle.facts.specs.Ways.{AreTold, Between, any_between, cycles_of, either_between, then_between};
+
 use cycles::Span;
 use derivations::Sum;
 use grammar::Intrinsic;
@@ -46,7 +53,9 @@ pub struct Stretch {
 
 impl Stretch {
     /// Makes a stretch of cycles without a question at its ends.
-    fn of(cycles: Span) -> Stretch {
+    fn of(cycles: Span) -> Stretch
+        ensures { result.cycles ≡ cycles }
+    {
         Stretch {
             cycles,
             from: None,
@@ -171,7 +180,9 @@ impl Stretches {
     }
 
     /// Returns the stretches of these ways, and after each of them one of the next ways.
-    fn then(self, next: Stretches) -> Stretches {
+    fn then(self, next: Stretches) -> Stretches
+        ensures { (a b : Between) → AreTold self a → AreTold next b → AreTold result (then_between a b) }
+    {
         Stretches {
             quiet: joined(self.quiet, next.quiet),
             first: longer(self.first, joined(self.quiet, next.first)),
@@ -184,7 +195,9 @@ impl Stretches {
     }
 
     /// Returns the stretches of these ways and the others.
-    fn or(self, other: Stretches) -> Stretches {
+    fn or(self, other: Stretches) -> Stretches
+        ensures { (a b : Between) → AreTold self a → AreTold other b → AreTold result (either_between a b) }
+    {
         Stretches {
             quiet: longer(self.quiet, other.quiet),
             first: longer(self.first, other.first),
@@ -194,12 +207,10 @@ impl Stretches {
     }
 
     /// Returns the stretches of any number of these ways, one after the other.
-    fn any_number(self) -> Stretches {
-        let cycles = match self.quiet {
-            Some(quiet) => quiet.cycles.any_number(),
-            None => Span::exactly(0),
-        };
-        let quiet = Some(Stretch::of(cycles));
+    fn any_number(self) -> Stretches
+        ensures { (a : Between) → AreTold self a → AreTold result (any_between a) }
+    {
+        let quiet = repeated(self.quiet);
         let last = joined(self.last, quiet);
         Stretches {
             quiet,
@@ -210,8 +221,22 @@ impl Stretches {
     }
 }
 
+/// Returns a stretch without a question at its ends any number of times, perhaps never.
+fn repeated(quiet: Option<Stretch>) -> Option<Stretch>
+    ensures { (s : Option span.Span) → cycles_of quiet ≡ told_end s → cycles_of result ≡ told_end (Some (ends.repeated s)) }
+{
+    let cycles = match quiet {
+        Some(quiet) => quiet.cycles.any_number(),
+        None => Span::exactly(0),
+    };
+    Some(Stretch::of(cycles))
+}
+
 /// Returns one stretch with the next one behind it, if there are both.
-fn joined(one: Option<Stretch>, next: Option<Stretch>) -> Option<Stretch> {
+fn joined(one: Option<Stretch>, next: Option<Stretch>) -> Option<Stretch>
+    ensures { (s t : Option span.Span) → cycles_of one ≡ told_end s → cycles_of next ≡ told_end t
+        → cycles_of result ≡ told_end (behind s t) }
+{
     match (one, next) {
         (Some(one), Some(next)) => Some(Stretch {
             cycles: one.cycles.plus(next.cycles),
@@ -223,7 +248,10 @@ fn joined(one: Option<Stretch>, next: Option<Stretch>) -> Option<Stretch> {
 }
 
 /// Returns the cycles of both stretches, and the questions of the one with more of them.
-fn longer(one: Option<Stretch>, other: Option<Stretch>) -> Option<Stretch> {
+fn longer(one: Option<Stretch>, other: Option<Stretch>) -> Option<Stretch>
+    ensures { (s t : Option span.Span) → cycles_of one ≡ told_end s → cycles_of other ≡ told_end t
+        → cycles_of result ≡ told_end (one_of s t) }
+{
     match (one, other) {
         (Some(one), Some(other)) => {
             let most = if is_less(one.cycles, other.cycles) {

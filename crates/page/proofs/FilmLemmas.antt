@@ -1,5 +1,5 @@
 -- What a film says of its robots' sources.
-use Rattle.std.proofs.Common.{◌≡◌, ◌≢◌, List, Option, Some, None, Result, Ok, Err, IfErr, IfOk, IfSome, IsSome, map, refl, sym, arith, inl, inr, rules, ◌<◌}
+use Rattle.std.proofs.Common.{◌≡◌, ◌≢◌, List, Option, Some, None, Result, Ok, Err, IfErr, IfOk, IfSome, IsSome, map, refl, sym, arith, inl, inr, rules}
 use Rattle.std.specs.Prelude.{option_map}
 use Rattle.grammar.specs.Laws.{CompiledIsResolved}
 use Rattle.grammar.specs.Profile.{Profile}
@@ -22,8 +22,8 @@ use Rattle.page.specs.declared.stretches.Stretch.{Stretch}
 use Rattle.page.specs.Films.{FilmsRobots, IsFilm, IsOfFilm, IsOfStretch, OfMatch, Shows, film_code, status_shown}
 use Rattle.page.specs.Orders.{mode_by, setup_of, stretch_of}
 use Rattle.page.specs.Robots.{name_bytes, source_of}
-use Rattle.page.specs.Running.{IsOfRun, blank}
-use Rattle.page.specs.Sheets.{contents_of}
+use Rattle.page.specs.Running.{IsOfRun, OneIsFull, blank}
+use Rattle.page.specs.Sheets.{IsFull, contents_of, refused}
 use Rattle.page.proofs.RunningLemmas.{lines_held}
 use Rattle.series.specs.Compiling.{compiling}
 use Rattle.grammar.specs.ProfileNumbers.{profile_numbered}
@@ -78,7 +78,7 @@ shown_good Faulty some = absurd (some refl)
 pub films_good : (order : Order) (robots : List RobotFile) (stretch : Option Stretch)
     (result : Result (Option (List Program)) RunFault)
     (codes : List Program) (compiled film faults : Sheet) (shown : Shown) → shown ≢ Faulty → result ≡ Ok (Some codes)
-    → CompilesRobots order robots result compiled faults → film.failures ≡ 0
+    → CompilesRobots order robots result compiled faults → refused film ≡ 0
     → OfMatch order robots (λ cycles. Shows stretch cycles shown)
     → FilmsRobots order robots stretch (Ok shown) film faults
 films_good order robots stretch (Err stopped) kept compiled film faults shown some is compiles whole shows =
@@ -108,15 +108,15 @@ codes_good law order robots (Ok (Some kept)) codes compiled faults files is (wri
     let here : kept ≡ codes = cc is in
     rw (same, here) at found.2
 
--- a film is taken whole, or its sheet was full
+-- a film is taken whole, or a write failed
 pub films_taken : (order : Order) (robots : List RobotFile) (stretch : Option Stretch) (ran : Result Shown RunFault)
-    (shown : Option Shown) (film faults : Sheet) → IfOk ran (λ whole. (shown ≡ Some whole) × (film.failures ≡ 0))
-    → IfErr ran (λ stopped. (stopped ≡ run_fault.Write) × (0 < film.failures))
-    → ((whole : Shown) → shown ≡ Some whole → film.failures ≡ 0 →
+    (shown : Option Shown) (film faults : Sheet) → IfOk ran (λ whole. (shown ≡ Some whole) × (refused film ≡ 0))
+    → IfErr ran (λ stopped. stopped ≡ run_fault.Write)
+    → ((whole : Shown) → shown ≡ Some whole → refused film ≡ 0 →
     FilmsRobots order robots stretch (Ok whole) film faults)
     → FilmsRobots order robots stretch ran film faults
-films_taken order robots stretch (Ok whole) shown film faults is full films = films whole is.0 is.1
-films_taken order robots stretch (Err stopped) shown film faults is full films = (full.0, inl full.1)
+films_taken order robots stretch (Ok whole) shown film faults is stops films = films whole is.0 is.1
+films_taken order robots stretch (Err stopped) shown film faults is stops films = stops
 
 -- a film's code
 pub is_film : (order : Order) (robots : List RobotFile) (stretch : Option Stretch)
@@ -128,38 +128,48 @@ is_film order robots stretch None film faults films = record {
   good = λ is. absurd (omega (arith, is));
   whole = λ is. absurd (omega (arith, is));
   lines = λ is. absurd (omega (arith, is));
-  full = λ is. absurd (omega (arith, is));
 }
 is_film order robots stretch (Some (Ok Over)) film faults (status, lines, whole, shows) = record {
   faulty = λ is. absurd (omega (arith, is));
   good = λ is. sym status;
   whole = λ is. whole (λ same. absurd (cc same));
   lines = λ is. lines;
-  full = λ is. absurd (omega (arith, is));
 }
 is_film order robots stretch (Some (Ok GoesOn)) film faults (status, lines, whole, shows) = record {
   faulty = λ is. absurd (omega (arith, is));
   good = λ is. sym status;
   whole = λ is. whole (λ same. absurd (cc same));
   lines = λ is. lines;
-  full = λ is. absurd (omega (arith, is));
 }
 is_film order robots stretch (Some (Ok Faulty)) film faults (status, lines, whole, shows) = record {
   faulty = λ is. sym status;
   good = λ is. absurd (omega (arith, is));
   whole = λ is. absurd (omega (arith, is));
   lines = λ is. lines;
-  full = λ is. absurd (omega (arith, is));
 }
-is_film order robots stretch (Some (Err run_fault.Write)) film faults (writes, full) = record {
+is_film order robots stretch (Some (Err run_fault.Write)) film faults writes = record {
   faulty = λ is. absurd (omega (arith, is));
   good = λ is. absurd (omega (arith, is));
   whole = λ is. absurd (omega (arith, is));
   lines = λ is. absurd (omega (arith, is));
-  full = λ is. full;
 }
-is_film order robots stretch (Some (Err (run_fault.Read file))) film faults (writes, full) = absurd (cc writes)
-is_film order robots stretch (Some (Err run_fault.Memory)) film faults (writes, full) = absurd (cc writes)
+is_film order robots stretch (Some (Err (run_fault.Read file))) film faults writes = absurd (cc writes)
+is_film order robots stretch (Some (Err run_fault.Memory)) film faults writes = absurd (cc writes)
+
+-- a full sheet is one of two
+pub one_is_full : (ran : Result Shown RunFault) (film faults : Sheet) → IfErr ran (λ _. IsFull film)
+    → IfErr ran (λ _. OneIsFull film faults)
+one_is_full (Ok shown) film faults full = tt
+one_is_full (Err stopped) film faults full = inl full
+
+-- of what only a full sheet stops, the code 4 says that one is full
+pub film_full : (ran : Option (Result Shown RunFault)) (film faults : Sheet)
+    → IfSome ran (λ ran. IfErr ran (λ _. OneIsFull film faults)) → film_code ran ≡ 4 → OneIsFull film faults
+film_full None film faults full is = absurd (omega (arith, is))
+film_full (Some (Ok Over)) film faults full is = absurd (omega (arith, is))
+film_full (Some (Ok GoesOn)) film faults full is = absurd (omega (arith, is))
+film_full (Some (Ok Faulty)) film faults full is = absurd (omega (arith, is))
+film_full (Some (Err stopped)) film faults full is = full
 
 -- a film that isn't of a stretch never says that its match goes on
 abbrev IsWhole : Option (Result Shown RunFault) → Type 0
@@ -173,8 +183,8 @@ of_film order robots stretch (Some (Ok Over)) film faults films whole = inl (sea
 of_film order robots stretch (Some (Ok GoesOn)) film faults films whole = absurd (whole refl)
 of_film order robots stretch (Some (Ok Faulty)) film faults films whole = inl (search rules)
 of_film order robots stretch (Some (Err run_fault.Write)) film faults films whole = inr refl
-of_film order robots stretch (Some (Err (run_fault.Read file))) film faults (writes, full) whole = absurd (cc writes)
-of_film order robots stretch (Some (Err run_fault.Memory)) film faults (writes, full) whole = absurd (cc writes)
+of_film order robots stretch (Some (Err (run_fault.Read file))) film faults writes whole = absurd (cc writes)
+of_film order robots stretch (Some (Err run_fault.Memory)) film faults writes whole = absurd (cc writes)
 
 pub of_run : (order : Order) (robots : List RobotFile) (stretch : Option Stretch)
     (ran : Option (Result Shown RunFault)) (film faults : Sheet) → IsSome ran
@@ -184,9 +194,9 @@ of_run order robots stretch (Some (Ok Over)) film faults some films whole = inl 
 of_run order robots stretch (Some (Ok GoesOn)) film faults some films whole = absurd (whole refl)
 of_run order robots stretch (Some (Ok Faulty)) film faults some films whole = inl (search rules)
 of_run order robots stretch (Some (Err run_fault.Write)) film faults some films whole = inr refl
-of_run order robots stretch (Some (Err (run_fault.Read file))) film faults some (writes, full) whole =
+of_run order robots stretch (Some (Err (run_fault.Read file))) film faults some writes whole =
     absurd (cc writes)
-of_run order robots stretch (Some (Err run_fault.Memory)) film faults some (writes, full) whole = absurd (cc writes)
+of_run order robots stretch (Some (Err run_fault.Memory)) film faults some writes whole = absurd (cc writes)
 
 -- what the code of a film of windows says of them
 pub of_stretch : (order : Order) (robots : List RobotFile) (ran : Option (Result Shown RunFault)) (film faults : Sheet)
@@ -212,5 +222,5 @@ of_stretch order robots (Some (Err run_fault.Write)) film faults films = record 
   over = λ is. absurd (omega (arith, is));
   goes_on = λ is. absurd (omega (arith, is));
 }
-of_stretch order robots (Some (Err (run_fault.Read file))) film faults (writes, full) = absurd (cc writes)
-of_stretch order robots (Some (Err run_fault.Memory)) film faults (writes, full) = absurd (cc writes)
+of_stretch order robots (Some (Err (run_fault.Read file))) film faults writes = absurd (cc writes)
+of_stretch order robots (Some (Err run_fault.Memory)) film faults writes = absurd (cc writes)

@@ -1,8 +1,10 @@
 -- Sheets of known contents hold the output of a run.
-use Rattle.std.proofs.Common.{◌≡◌, ◌⊎◌, ◌<◌, ◌+◌, ◌∙◌, inl, inr, ℕ, zero, suc, List, [], ◌∷◌, ◌++◌, Option, Some, None, Result, Ok, Err, IfErr, IfSome, IsSome, false, get_or, map, rules, refl, sym, ap, subst, append_assoc, arith}
+use Rattle.std.proofs.Common.{◌≡◌, ◌⊎◌, ◌<◌, ◌≤◌, ◌+◌, ◌∙◌, inl, inr, ℕ, zero, suc, List, [], ◌∷◌, ◌++◌, Option, Some, None, Result, Ok, Err, IfErr, IfSome, IsSome, false, get_or, map, rules, refl, sym, ap, subst, append_assoc, arith, Bool, true, nat_le}
+use Rattle.std.specs.Prelude.{if◌then◌else◌}
 use Rattle.std.specs.List.{concat}
 use Rattle.std.proofs.lemmas.List.{append-nil, get_or-set_same}
 use Rattle.std.proofs.lemmas.List.Folds.{concat-append}
+use Rattle.std.proofs.lemmas.Bool.Decides.{nat_tests}
 use Rattle.std.proofs.lemmas.Simd.{map-map}
 use Rattle.settings.specs.Settings.{Settings}
 use Rattle.series.specs.Compiling.{SourceFile}
@@ -22,8 +24,8 @@ use Rattle.page.specs.declared.robots.RobotFile.{RobotFile}
 use Rattle.page.specs.declared.sheets.Sheet.{Sheet}
 use Rattle.page.specs.Orders.{setup_of}
 use Rattle.page.specs.Robots.{name_bytes, source_bytes, source_of}
-use Rattle.page.specs.Running.{Holds, IsFull, IsOfRun, IsOutput, RunsRobots, blank, bytes_on, code_of, output_of, part_on, status_code}
-use Rattle.page.specs.Sheets.{contents_of, told}
+use Rattle.page.specs.Running.{Holds, IsOfRun, IsOutput, OneIsFull, RunsRobots, blank, bytes_on, code_of, output_of, part_on, status_code}
+use Rattle.page.specs.Sheets.{IsFull, contents_of, most_frames, refused, told}
 
 -- two sinks of known contents
 abbrev both : KnownPortions → KnownPortions → Taken
@@ -166,7 +168,7 @@ sink_failed before after (inr is) =
     inr (omega (arith, faults))
 
 -- of devices that never fail only a sink stops a run, and then one has failed
-pub only_writes : {X A : Type 0} →
+only_writes : {X A : Type 0} →
     (olds news : List X) (ran : Result A RunFault) (text faults later_text later_faults : ℕ)
     →
     FailsAsAnswered ran (failing (map (λ _. no_device) olds) text faults)
@@ -184,13 +186,41 @@ only_writes olds news (Err run_fault.Write) text faults later_text later_faults 
     (refl, sink_failed _ _ accounts)
 only_writes olds news (Err run_fault.Memory) text faults later_text later_faults accounts = absurd accounts
 
+-- a sheet that refused a write is full
+full_if : (used failures : ℕ) (is : Bool) → nat_le most_frames used ≡ is → 0 < (if is then failures else 0)
+    → (most_frames ≤ used) × (0 < failures)
+full_if used failures true is some = (grind (arith, nat_tests), some)
+full_if used failures false is some = absurd (omega (arith, some))
+
+refused_full : (sheet : Sheet) → 0 < refused sheet → IsFull sheet
+refused_full sheet some =
+    let found = full_if sheet.used sheet.failures (nat_le most_frames sheet.used) refl some in
+    record { used = found.0; refused = found.1 }
+
+-- so is one of two of which one refused a write
+one_full : (text faults : Sheet) → (0 < refused text) ⊎ (0 < refused faults) → OneIsFull text faults
+one_full text faults (inl some) = inl (refused_full text some)
+one_full text faults (inr some) = inr (refused_full faults some)
+
+-- of devices that never fail only a full sheet stops a run
+pub only_full : {X A : Type 0} → (olds news : List X) (ran : Result A RunFault) (text faults : ℕ) (film lines : Sheet)
+    →
+    FailsAsAnswered ran (failing (map (λ _. no_device) olds) text faults)
+    (failing (map (λ _. no_device) news) (refused film) (refused lines))
+    → IfErr ran (λ stopped. (stopped ≡ run_fault.Write) × OneIsFull film lines)
+only_full olds news (Ok answer) text faults film lines accounts = tt
+only_full {A = A} olds news (Err stopped) text faults film lines accounts =
+    let found = only_writes {A = A} olds news (Err stopped) text faults (refused film) (refused lines) accounts in
+    (found.0, one_full film lines found.1)
+
 -- a full sheet is what stopped a run
 abbrev StopsFull : {A : Type 0} → Option (Result A RunFault) → Sheet → Sheet → Type 0
-StopsFull ran text faults = IfSome ran (λ ran. IfErr ran (λ stopped. (stopped ≡ run_fault.Write) × IsFull text faults))
+StopsFull ran text faults =
+    IfSome ran (λ ran. IfErr ran (λ stopped. (stopped ≡ run_fault.Write) × OneIsFull text faults))
 
 -- a run whose code is 4 has left a full sheet
 pub is_full : (ran : Option (Result Status RunFault)) (text faults : Sheet) → StopsFull ran text faults
-    → code_of ran ≡ 4 → IsFull text faults
+    → code_of ran ≡ 4 → OneIsFull text faults
 is_full None text faults stopped is = absurd (omega (arith, is))
 is_full (Some (Ok Done)) text faults stopped is = absurd (omega (arith, is))
 is_full (Some (Ok Faulty)) text faults stopped is = absurd (omega (arith, is))

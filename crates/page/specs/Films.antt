@@ -22,8 +22,8 @@ use Rattle.page.specs.declared.subjects.Subject.{Subject}
 use Rattle.page.specs.declared.subjects.Subject.TheVariants.{Film, Moment, Run}
 use Rattle.page.specs.Orders.{mode_by, stretch_of}
 use Rattle.page.specs.Robots.{source_of}
-use Rattle.page.specs.Running.{IsFull, IsOfRun, bytes_on, fault_code, output_of}
-use Rattle.page.specs.Sheets.{told}
+use Rattle.page.specs.Running.{IsOfRun, bytes_on, fault_code, output_of}
+use Rattle.page.specs.Sheets.{refused, told}
 
 -- the code of what a film shows: 0 for a match up to its end, 1 for a faulty source, 6 for a match that goes on
 abbrev pub shown_code : Shown → ℕ
@@ -57,6 +57,12 @@ stretch_in (Film stretch skipped) = stretch
 stretch_in (Moment target) = None
 stretch_in (Run target) = None
 
+-- what is reported is of a robot, and no film
+abbrev pub IsInside : Subject → Type 0
+IsInside (Film stretch skipped) = ⊥
+IsInside (Moment target) = Unit {0}
+IsInside (Run target) = Unit {0}
+
 -- the last cycle of a stretch
 abbrev pub last_of : Stretch → ℕ
 last_of stretch = 15 * (stretch.from + stretch.windows)
@@ -82,22 +88,21 @@ OfMatch order robots P = mode_by order.mode ≡ Matches → (files : List File)
 
 -- A film of an order's robots: nothing is shown exactly if a run of them finds a faulty source, and the sheet of faults
 -- has the diagnostics that a run writes. Else its sheet took all of it. Whether the match goes on is said of the match
--- that a run plays. Only a full sheet stops it.
+-- that a run plays. Only a write stops it.
 abbrev pub FilmsRobots : Order → List RobotFile → Option Stretch → Result Shown RunFault → Sheet → Sheet → Type 0
 FilmsRobots order robots stretch (Ok shown) film faults = (status_shown shown ≡ (output_of order robots).status)
     × (concat (told faults) ≡ diagnostics order robots)
-    × (shown ≢ Faulty → film.failures ≡ 0)
+    × (shown ≢ Faulty → refused film ≡ 0)
     × OfMatch order robots (λ cycles. Shows stretch cycles shown)
-FilmsRobots order robots stretch (Err stopped) film faults = (stopped ≡ run_fault.Write) × IsFull film faults
+FilmsRobots order robots stretch (Err stopped) film faults = stopped ≡ run_fault.Write
 
--- What a film's code says: 1 of a faulty source, 0 and 6 of good ones and a whole film, 4 of a full sheet. The sheet of
--- faults has the diagnostics unless it was full.
+-- What a film's code says: 1 of a faulty source, 0 and 6 of good ones and a whole film. The sheet of faults has the
+-- diagnostics unless it was full.
 pub record IsFilm (order : Order) (robots : List RobotFile) (code : ℕ) (film faults : Sheet) : Type 0 where
   pub faulty : code ≡ 1 → (output_of order robots).status ≡ status.Faulty
   pub good : (code ≡ 0) ⊎ (code ≡ 6) → (output_of order robots).status ≡ status.Done
-  pub whole : (code ≡ 0) ⊎ (code ≡ 6) → film.failures ≡ 0
+  pub whole : (code ≡ 0) ⊎ (code ≡ 6) → refused film ≡ 0
   pub lines : (code ≤ 1) ⊎ (code ≡ 6) → concat (told faults) ≡ diagnostics order robots
-  pub full : code ≡ 4 → IsFull film faults
 
 -- What a film's code says of its windows: 0 that the match has no cycle after them, 6 that it has.
 pub record IsOfStretch (order : Order) (robots : List RobotFile) (code : ℕ) : Type 0 where

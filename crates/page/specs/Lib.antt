@@ -4,3 +4,4 @@ pub mod Orders
 pub mod Robots
 pub mod Running
 pub mod Sheets
+pub mod Asking

@@ -1,5 +1,5 @@
 -- What a run over robots answers, and what it leaves on its sheets.
-use Rattle.std.specs.Prelude.{◌≡◌, ◌⊎◌, ◌<◌, ◌≤◌, ℕ, All, List, [], Option, Some, None, Result, Ok, Err, IsUtf8, false, length, map}
+use Rattle.std.specs.Prelude.{◌≡◌, ◌⊎◌, ◌≤◌, ℕ, All, List, [], Option, Some, None, Result, Ok, Err, IsUtf8, false, length, map}
 use Rattle.std.specs.List.{concat, flat_map}
 use Rattle.series.specs.Output.{Output, Runs, output}
 use Rattle.series.specs.Pieces.{Channel, Piece, Taken, Text, Faults, on_both}
@@ -15,7 +15,7 @@ use Rattle.page.specs.declared.sources.SourceFeed.{SourceFeed}
 use Rattle.settings.specs.SettingsLimits.{most_files}
 use Rattle.page.specs.Orders.{AreWithin, setup_of}
 use Rattle.page.specs.Robots.{name_bytes, source_of}
-use Rattle.page.specs.Sheets.{contents_of, told}
+use Rattle.page.specs.Sheets.{IsFull, contents_of, refused, told}
 
 -- a blank sheet
 abbrev pub nothing : Portions
@@ -36,12 +36,12 @@ pub record IsAccepted (order : Order) (robots : List RobotFile) : Type 0 where
   pub within : AreWithin order
   pub named : AreNamed robots
 
--- n sources of which none has ended, and two sheets that never failed
+-- n sources of which none has ended, and two sheets that refused nothing
 pub record AreFresh (count : ℕ) (feeds : List SourceFeed) (text faults : Sheet) : Type 0 where
   pub each : length feeds ≡ count
   pub not_ended : All (λ feed. feed.ended ≡ false) feeds
-  pub no_text_failed : text.failures ≡ 0
-  pub no_fault_failed : faults.failures ≡ 0
+  pub no_text_refused : refused text ≡ 0
+  pub no_fault_refused : refused faults ≡ 0
 
 -- what the order asks for of the robots wrote this on two sheets that were blank, and ended so
 abbrev pub RunsRobots : Order → List RobotFile → Result Status RunFault → Sheet → Sheet → Type 0
@@ -88,9 +88,9 @@ abbrev pub code_of : Option (Result Status RunFault) → ℕ
 code_of None = 2
 code_of (Some ran) = ran_code ran
 
--- a sheet had no room for all that was written
-abbrev pub IsFull : Sheet → Sheet → Type 0
-IsFull text faults = (0 < text.failures) ⊎ (0 < faults.failures)
+-- one of two sheets had no room for all that was written
+abbrev pub OneIsFull : Sheet → Sheet → Type 0
+OneIsFull text faults = IsFull text ⊎ IsFull faults
 
 -- something was run: it ended, or a sheet was full
 abbrev pub IsOfRun : ℕ → Type 0

@@ -1,5 +1,5 @@
 -- The text of a sheet.
-use Rattle.std.specs.Prelude.{ℕ, List, Some, false, map, take}
+use Rattle.std.specs.Prelude.{ℕ, ◌<◌, ◌≤◌, List, Some, false, map, take, if◌then◌else◌, nat_le}
 use Rattle.sinks.specs.Portions.{Portions, SinkState}
 use Rattle.page.specs.declared.sheets.SheetBlock.{SheetBlock}
 use Rattle.page.specs.declared.sheets.Sheet.{Sheet}
@@ -16,5 +16,18 @@ told sheet = map bytes_of (take sheet.used sheet.frames)
 abbrev pub contents_of : Sheet → Portions
 contents_of sheet = Some (record { portions = told sheet; whole = false })
 
+-- how many frames a sheet has
+abbrev pub most_frames : ℕ
+most_frames = 32768
+
+-- how many writes it refused: a sheet that has a free frame refuses none
+abbrev pub refused : Sheet → ℕ
+refused sheet = if nat_le most_frames sheet.used then sheet.failures else 0
+
+-- all its frames are used, and it refused a write
+pub record IsFull (sheet : Sheet) : Type 0 where
+  pub used : most_frames ≤ sheet.used
+  pub refused : 0 < sheet.failures
+
 abbrev pub written_of : Sheet → SinkState
-written_of sheet = record { portions = contents_of sheet; failures = sheet.failures }
+written_of sheet = record { portions = contents_of sheet; failures = refused sheet }

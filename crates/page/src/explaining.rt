@@ -95,10 +95,10 @@ fn told(explained: Explained, sheet: &Sheet) -> Explained
     ensures good { result ≡ Explained.Good → explained ≡ Explained.Good }
     ensures faulty { result ≡ Explained.Faulty → explained ≡ Explained.Faulty }
 {
-    if sheet.failures == 0 {
-        explained
-    } else {
+    if sheet.is_full() {
         Explained::Cut
+    } else {
+        explained
     }
 }
 

@@ -3,7 +3,7 @@
 ghost use Rattle.std.specs.Prelude.{◌≡◌, ◌≢◌, ◌≤◌, ◌⊎◌};
 ghost use Rattle.page.specs.Explaining.{IsExplained, code_explained};
 ghost use Rattle.page.specs.Films.{IsFilm, IsOfFilm, IsOfShown, IsOfStretch, IsOfWindows, film_code};
-ghost use Rattle.page.specs.Running.{IsAccepted, IsFull, IsOfRun, IsOutput, code_of};
+ghost use Rattle.page.specs.Running.{IsAccepted, IsOfRun, IsOutput, OneIsFull, code_of};
 
 use crate::explaining::{Explained, Topic, explain_robot};
 use crate::filming::tell_robots;
@@ -44,7 +44,7 @@ pub extern "C" fn run(
     faults: &mut Sheet,
 ) -> u32
     ensures output { IsOutput order.now robots.now result text.new faults.new }
-    ensures full { result ≡ 4 → IsFull text.new faults.new }
+    ensures full { result ≡ 4 → OneIsFull text.new faults.new }
     ensures accepted { IsAccepted order.now robots.now → IsOfRun result }
     ensures refused { result ≢ 2 → IsAccepted order.now robots.now }
 {
@@ -104,6 +104,7 @@ pub extern "C" fn moment(
     faults: &mut Sheet,
 ) -> u32
     ensures film { IsFilm order.now robots.now result text.new faults.new }
+    ensures full { result ≡ 4 → OneIsFull text.new faults.new }
     ensures codes { IsOfFilm result }
     ensures accepted { IsAccepted order.now robots.now → IsOfRun result }
     ensures refused { result ≢ 2 → IsAccepted order.now robots.now }
@@ -124,6 +125,7 @@ pub extern "C" fn find(
     faults: &mut Sheet,
 ) -> u32
     ensures film { IsFilm order.now robots.now result text.new faults.new }
+    ensures full { result ≡ 4 → OneIsFull text.new faults.new }
     ensures codes { IsOfFilm result }
     ensures accepted { IsAccepted order.now robots.now → IsOfRun result }
     ensures refused { result ≢ 2 → IsAccepted order.now robots.now }

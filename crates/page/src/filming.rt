@@ -10,9 +10,9 @@ ghost use Rattle.series.specs.Compiling.{SourceFile};
 ghost use Rattle.series.specs.Pieces.{on_both};
 ghost use Rattle.series.specs.CompiledFiles.{Compiles};
 ghost use Rattle.series.specs.SourceContents.{AreSources};
-ghost use Rattle.page.specs.Films.{FilmsRobots, Shows, stretch_in};
-ghost use Rattle.page.specs.Running.{AreFresh, IsAccepted, IsFull};
-ghost use Rattle.page.specs.Sheets.{contents_of};
+ghost use Rattle.page.specs.Films.{FilmsRobots, IsInside, Shows, stretch_in};
+ghost use Rattle.page.specs.Running.{AreFresh, IsAccepted, OneIsFull};
+ghost use Rattle.page.specs.Sheets.{IsFull, contents_of, refused};
 
 use crate::films::{Film, Functions, Shown};
 use crate::insides::{tell_moment, tell_run};
@@ -47,6 +47,7 @@ pub fn tell_robots(
     ensures whole { stretch_in subject.now ≡ None → IfSome result (λ ran. IfOk ran (λ shown. shown ≢ Shown.GoesOn)) }
     ensures accepted { IsAccepted order.now robots.now → IsSome result }
     ensures refused { IsSome result → IsAccepted order.now robots.now }
+    ensures full { IsInside subject.now → IfSome result (λ ran. IfErr ran (λ _. OneIsFull film.new faults.new)) }
 {
     film.clear();
     faults.clear();
@@ -71,16 +72,14 @@ pub fn tell_robots(
 }
 
 /// Returns what is shown if a sheet took all of it.
-fn taken(shown: Option<Shown>, sheet: &mut Sheet) -> Result<Shown, RunFault>
-    ensures shown { IfOk result (λ whole. (shown ≡ Some whole) × (sheet.new.failures ≡ 0)) }
-    ensures full { IfErr result (λ fault. (fault ≡ RunFault.Write) × (0 < sheet.new.failures)) }
+fn taken(shown: Option<Shown>, sheet: &Sheet) -> Result<Shown, RunFault>
+    ensures shown { IfOk result (λ whole. (shown ≡ Some whole) × (refused sheet.now ≡ 0)) }
+    ensures stopped { IfErr result (λ fault. fault ≡ RunFault.Write) }
+    ensures full { IsSome shown → IfErr result (λ _. IsFull sheet.now) }
 {
     match shown {
-        Some(whole) if sheet.failures == 0 => Ok(whole),
-        _ => {
-            sheet.cut();
-            Err(RunFault::Write)
-        }
+        Some(whole) if !sheet.is_full() => Ok(whole),
+        _ => Err(RunFault::Write),
     }
 }
 
@@ -98,7 +97,7 @@ fn compile_feeds(
         (on_both (contents_of text.new) (contents_of faults.new)) }
     ensures manned { IfOk result (λ programs. IfSome programs
         (λ programs. length programs ≡ length settings.now.file_words)) }
-    ensures stopped { IfErr result (λ fault. (fault ≡ RunFault.Write) × IsFull text.new faults.new) }
+    ensures stopped { IfErr result (λ fault. (fault ≡ RunFault.Write) × OneIsFull text.new faults.new) }
 {
     compile_files(settings, feeds, text, faults)
 }
@@ -143,6 +142,7 @@ fn tell_match(
 ) -> Option<Shown>
     requires { 0 < length programs.now }
     ensures made { IfSome result (λ shown. shown ≢ Shown.Faulty) }
+    ensures inside { IsInside subject.now → IsSome result }
     ensures whole { stretch_in subject.now ≡ None → IfSome result (λ shown. shown ≢ Shown.GoesOn) }
     ensures shows { (files : List File) → AreProgramsOf programs.now settings.now.profile files
         → IfSome result (Shows (stretch_in subject.now) (battle (robots_of settings.now.profile files) settings.now.seed

@@ -1,6 +1,8 @@
 //! Films of matches: what there is to see of one, row by row.
 
-ghost use Rattle.std.specs.Prelude.{◌≡◌};
+ghost use Rattle.std.specs.Prelude.{◌≡◌, ◌<◌, ◌≤◌, length};
+ghost use Rattle.page.specs.Asking.{film_asks};
+ghost use Rattle.page.specs.Sheets.{refused};
 
 use crate::missiles::FiredMissile;
 use crate::rows::Row;
@@ -8,9 +10,10 @@ use crate::sheets::Sheet;
 use crate::stretches::Stretch;
 use arena::{Arena, MOST_BURSTS};
 use arrayvec::ArrayVec;
-use code::Cause;
+use code::{Cause, Intrinsic};
 use derivations::SourcePositions;
 use grammar::MOST_NAMES;
+use series::MOST_CYCLES;
 use std::str;
 use tokens::Name;
 use watching::{
@@ -161,6 +164,22 @@ impl<'a> Film<'a> {
         }
     }
 
+    /// Writes and keeps a missile that a robot fires: refused shots are left out.
+    fn shoot(&mut self, turn: Turn, question: Exchange, arena: &Arena)
+        requires inside { turn.robot < length arena.now.robots }
+        requires cycle { turn.cycle ≤ MOST_CYCLES }
+    {
+        if question.reply == 0 {
+            return;
+        }
+        let Turn { cycle, robot } = turn;
+        let arguments = question.arguments;
+        self.camera
+            .shoot(cycle, robot, arguments, question.reply, arena);
+        let place = Place::of(arena, robot);
+        self.keep(FiredMissile::new(robot, cycle, place, arguments));
+    }
+
     /// Keeps a missile that is fired, in the place of one that has burst: of each robot two are in the air at most.
     fn keep(&mut self, missile: FiredMissile) {
         for slot in 0..MOST_BURSTS {
@@ -173,28 +192,25 @@ impl<'a> Film<'a> {
 }
 
 impl Watcher for Film<'_> {
+    ghost asks_more = { λ film. film_asks film.camera.rows.stretch film.camera.rows.updates
+        (refused film.camera.rows.sheet.now) };
+
     fn begins(&mut self, arena: &Arena) {
         self.tell_border(0, arena);
         self.camera.begin(arena);
     }
 
-    /// Writes and keeps a missile that a robot fires: refused shots are left out.
-    fn shot(&mut self, turn: Turn, question: Exchange, arena: &Arena) {
-        if question.reply == 0 {
-            return;
-        }
-        let Turn { cycle, robot } = turn;
-        let arguments = question.arguments;
-        self.camera
-            .shoot(cycle, robot, arguments, question.reply, arena);
-        let place = Place::of(arena, robot);
-        self.keep(FiredMissile::new(robot, cycle, place, arguments));
-    }
+    fn turn(&mut self, _: Turn, _: &Pilot<'_>) {}
 
-    fn scanned(&mut self, turn: Turn, question: Exchange) {
+    fn asked(&mut self, turn: Turn, _: &Pilot<'_>, question: Exchange, arena: &Arena) {
         let Turn { cycle, robot } = turn;
-        self.camera
-            .scan(cycle, robot, question.arguments, question.reply);
+        match question.intrinsic {
+            Intrinsic::Cannon => self.shoot(turn, question, arena),
+            Intrinsic::Scan => self
+                .camera
+                .scan(cycle, robot, question.arguments, question.reply),
+            _ => {}
+        }
     }
 
     fn restarts(&mut self, turn: Turn, pilot: &Pilot<'_>, cause: Cause) {
@@ -221,13 +237,14 @@ impl Watcher for Film<'_> {
         self.tell_border(cycle, arena);
     }
 
+    /// Reports whether the stretch isn't past, and the sheet isn't full.
     fn wants_more(&self) -> bool {
         let rows = &self.camera.rows;
         let is_past = match &rows.stretch {
             None => false,
             Some(stretch) => stretch.is_past(rows.updates),
         };
-        !is_past && rows.sheet.failures == 0
+        !is_past && rows.sheet.refused() == 0
     }
 }
 

@@ -6,7 +6,7 @@ ghost use Rattle.series.specs.Output.{Runs};
 ghost use Rattle.series.specs.Pieces.{on_both};
 ghost use Rattle.series.specs.SourceContents.{AreSources};
 ghost use Rattle.page.specs.Robots.{name_bytes, source_bytes};
-ghost use Rattle.page.specs.Running.{AreFresh, AreNamed, IsAccepted, IsFull, RunsRobots};
+ghost use Rattle.page.specs.Running.{AreFresh, AreNamed, IsAccepted, OneIsFull, RunsRobots};
 ghost use Rattle.page.specs.Sheets.{contents_of};
 
 use crate::orders::Order;
@@ -29,7 +29,7 @@ pub fn run_robots(
     ensures runs { IfSome result (λ ran. RunsRobots order.now robots.now ran text.new faults.new) }
     ensures accepted { IsAccepted order.now robots.now → IsSome result }
     ensures refused { IsSome result → IsAccepted order.now robots.now }
-    ensures stopped { IfSome result (λ ran. IfErr ran (λ fault. (fault ≡ RunFault.Write) × IsFull text.new faults.new)) }
+    ensures stopped { IfSome result (λ ran. IfErr ran (λ fault. (fault ≡ RunFault.Write) × OneIsFull text.new faults.new)) }
 {
     text.clear();
     faults.clear();
@@ -78,7 +78,7 @@ fn run_feeds(
     faults: &mut Sheet,
 ) -> Result<Status, RunFault>
     requires fresh { AreFresh (length settings.now.file_words) feeds.old text.old faults.old }
-    ensures stopped { IfErr result (λ fault. (fault ≡ RunFault.Write) × IsFull text.new faults.new) }
+    ensures stopped { IfErr result (λ fault. (fault ≡ RunFault.Write) × OneIsFull text.new faults.new) }
     ensures output { (sources : List SourceFile)
         → AreSources sources settings.now.file_words (map (λ feed. Some feed.rest.now) feeds.old)
         → Runs settings.now sources result (on_both (contents_of text.old) (contents_of faults.old))

@@ -1,7 +1,7 @@
 //! Sheets: what a run writes, kept in memory that the caller lends.
 
-ghost use Rattle.std.specs.Prelude.{◌≡◌, ◌<◌, [], false};
-ghost use Rattle.page.specs.Sheets.{written_of, told};
+ghost use Rattle.std.specs.Prelude.{◌≡◌, [], true, false};
+ghost use Rattle.page.specs.Sheets.{IsFull, refused, told, written_of};
 
 use series::Sink;
 use tokens::DeviceFault;
@@ -27,7 +27,7 @@ pub struct SheetBlock {
 pub struct Sheet {
     /// How many frames the text has.
     pub used: u64,
-    /// How many writes failed since the sheet was blank, for want of room.
+    /// How many writes failed since all frames were used.
     pub failures: u64,
     /// The frames of the text, and those that are free.
     pub frames: [SheetBlock; FRAMES],
@@ -37,27 +37,37 @@ impl Sheet {
     /// Makes the sheet blank.
     pub fn clear(&mut self)
         ensures text { told self.new ≡ [] }
-        ensures failures { self.new.failures ≡ 0 }
+        ensures room { refused self.new ≡ 0 }
     {
         self.used = 0;
         self.failures = 0;
     }
 
-    /// Adds bytes, up to 255: to the last frame if that has room. A sheet that was full takes no more, and so do no
-    /// bytes.
-    pub(crate) fn add(&mut self, bytes: &[u8]) {
-        if !bytes.is_empty() && self.failures == 0 && !self.fill(bytes) {
-            let _ = self.put(bytes);
+    /// Returns how many writes the sheet refused, since it is full.
+    pub(crate) fn refused(&self) -> u64
+        ensures { result ≡ refused self.now }
+    {
+        if self.used >= FRAMES as u64 {
+            self.failures
+        } else {
+            0
         }
     }
 
-    /// Says that the text is cut off, which a failed write has said already.
-    pub(crate) fn cut(&mut self)
-        ensures cut { 0 < self.new.failures }
-        ensures text { told self.new ≡ told self.old }
-        ensures told { 0 < self.old.failures → self.new.failures ≡ self.old.failures }
+    /// Reports whether the sheet is full, and refused a write.
+    pub(crate) fn is_full(&self) -> bool
+        ensures full { result ≡ true → IsFull self.now }
+        ensures room { result ≡ false → refused self.now ≡ 0 }
     {
-        self.failures = self.failures.max(1);
+        self.used >= FRAMES as u64 && self.failures > 0
+    }
+
+    /// Adds bytes, up to 255: to the last frame if that has room. A sheet that was full takes no more, and so do no
+    /// bytes.
+    pub(crate) fn add(&mut self, bytes: &[u8]) {
+        if !bytes.is_empty() && !self.is_full() && !self.fill(bytes) {
+            let _ = self.put(bytes);
+        }
     }
 
     /// Adds bytes to the last frame. Answers whether that had room for all of them.
@@ -95,6 +105,7 @@ impl Sink for Sheet {
         frame.size = size as u8;
         frame.bytes[..size].copy_from_slice(&bytes[..size]);
         self.used += 1;
+        self.failures = 0;
         Ok(size)
     }
 }

@@ -7,7 +7,7 @@ use Rattle.grammar.specs.Actions.{actions}
 use Rattle.grammar.specs.Building.{Representation, LeavesOpen}
 use Rattle.grammar.specs.Profile.{Profile}
 use Rattle.grammar.specs.ProfileNumbers.{IsProfile}
-use Rattle.grammar.specs.Resolved.{IsResolved}
+use Rattle.grammar.specs.Resolved.{IsAmong, IsResolved}
 use Rattle.grammar.specs.Tree.{File}
 use Rattle.code.proofs.Bounds.{few_words, few_frames}
 use Rattle.parser.specs.ParsedFiles.{ParsesToFile, ParseIsRefused, TakesEnough}
@@ -20,11 +20,12 @@ use Rattle.trees.proofs.Rebuilding.{actions_determine_trees}
 use Rattle.trees.proofs.ReplayLaws.{is_done}
 use Rattle.room.specs.declared.room.Room.{Room}
 use Rattle.room.specs.Bounds.{AreBoundsOf, IsChainOf, IsRefusedSource, goes_by}
-use Rattle.room.specs.Chains.{IsChain}
+use Rattle.room.specs.Chains.{CallNoOthers, IsChain, numbers}
 use Rattle.room.specs.Counting.{counted}
 use Rattle.room.specs.Functions.{HasRoom, need_of}
 use Rattle.room.specs.Rooms.{IsWithin}
 use Rattle.room.proofs.AtReturn.{restarts_at_return}
+use Rattle.room.proofs.TableLaws.{calls_no_others, is_numbered}
 
 -- the trees are the file's
 pub trees_are : (m : TreeMaker) (p : Profile) (file : File) → LeavesOpen (λ p acts. TreeMakerRepresents m p acts) [] →
@@ -104,17 +105,25 @@ pub chain_are : (p : Profile) (told : Option (List ℕ)) (before after : TreeMak
     (main : ℕ) (chain : List ℕ) → TreeMakerRepresents before p [] →
     ParsesToFile (λ p acts. TreeMakerRepresents before p acts) (λ p acts. TreeMakerRepresents after p acts) told names →
     number ≡ number_of_name main_name (map (λ (f : FunctionNames). f.name) names.functions) →
-    main ≡ unwrap_or number 0 → IsChain p (told_trees after.functions) main chain → IsChainOf p told chain
+    main ≡ unwrap_or number 0 →
+    (CallNoOthers (told_trees after.functions) → IsAmong main (numbers (told_trees after.functions)) →
+    IsChain p (told_trees after.functions) main chain) → IsChainOf p told chain
 chain_are p told before after names number main chain new is numbered first linked =
     let file = is.file in
     let found : number ≡ Some file.main = numbered ∙ is.main in
     let there : main ≡ file.main = first ∙ ap (λ (o : Option ℕ). unwrap_or o 0) found in
     let trees = trees_are after p file is.closed (is.built p new) in
+    let fs = told_functions file.functions file.order in
+    let closed : CallNoOthers (told_trees after.functions) =
+    subst (λ (ts : List UnnamedFunction). CallNoOthers ts) trees (calls_no_others file is.resolved) in
+    let among : IsAmong main (numbers (told_trees after.functions)) =
+    subst (λ (ts : List UnnamedFunction). IsAmong main (numbers ts)) trees
+    (subst (λ (k : ℕ). IsAmong k (numbers fs)) (sym there) (is_numbered file is.resolved file.main is.resolved.main)) in
     record {
       file = file;
       resolved = is.resolved;
       linked =
-          subst (λ (k : ℕ). IsChain p (told_functions file.functions file.order) k chain) there
-          (subst (λ (ts : List UnnamedFunction). IsChain p ts main chain) (sym trees) linked);
+          subst (λ (k : ℕ). IsChain p fs k chain) there
+          (subst (λ (ts : List UnnamedFunction). IsChain p ts main chain) (sym trees) (linked closed among));
       is = λ bytes tells. is.is bytes tells p new;
     }

@@ -7,4 +7,5 @@ pub mod Counting
 pub mod ConstructLaws
 pub mod TableLaws
 pub mod BoundLaws
+pub mod Deciding
 pub mod ChainLaws

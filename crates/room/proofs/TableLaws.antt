@@ -6,7 +6,7 @@ use Rattle.std.proofs.lemmas.List.{drop_all, drop_more, get_or-set_same, get_or-
 use Rattle.std.proofs.lemmas.Option.{slice_get-get_or}
 use Rattle.std.proofs.lemmas.Bool.{cases_eq}
 use Rattle.grammar.specs.Profile.{Profile}
-use Rattle.grammar.specs.Resolved.{IsAmong, IsResolved, FitsFile}
+use Rattle.grammar.specs.Resolved.{InBody, IsAmong, IsResolved, FitsFile}
 use Rattle.grammar.specs.Tree.{File}
 use Rattle.grammar.specs.Tree as tree
 use Rattle.code.specs.Functions.{function_at, no_function}
@@ -14,6 +14,7 @@ use Rattle.trees.specs.Laws.{UnnamedFunction, without_names, told_numbered, told
 use Rattle.trees.specs.Trees.{function_tree}
 use Rattle.trees.specs.declared.tree.Function.{Function}
 use Rattle.room.specs.declared.room.Room.{Room}
+use Rattle.room.specs.Chains.{CallNoOthers, numbers}
 use Rattle.room.specs.Constructs.{body_need}
 use Rattle.room.specs.Counting.{counted, CountsAs}
 use Rattle.room.specs.Functions.{function_need, need_of}
@@ -86,6 +87,43 @@ module _ (s : Bool) (file : File) (resolved : IsResolved file) where
       (body_need s (function_need s file n) f.body)
       (counts_body s (length file.externals) (length f.variables) (length file.functions) (needs_in table)
       (function_need s file n) same f.body inside.body)
+
+-- What a file's functions call is among them.
+
+numbers_told : (file : File) (ks : List ℕ) (k : ℕ) → IsAmong k ks → IsAmong k (numbers (map (told_at file) ks))
+numbers_told file [] k among = absurd among
+numbers_told file (j ∷ ks) k (inl is) = inl is
+numbers_told file (j ∷ ks) k (inr among) = inr (numbers_told file ks k among)
+
+pub is_numbered : (file : File) → IsResolved file → (k : ℕ) → k < length file.functions →
+    IsAmong k (numbers (told_functions file.functions file.order))
+is_numbered file resolved k there =
+    subst (λ (ts : List UnnamedFunction). IsAmong k (numbers ts)) (sym (told_there file file.order resolved.only))
+    (numbers_told file file.order k (resolved.defined k there))
+
+abbrev InFile : File → UnnamedFunction → Type 0
+InFile file f = InBody (length file.externals) f.variables (length file.functions) f.body
+
+body_within : (file : File) → IsResolved file → (ks : List ℕ) → ((k : ℕ) → IsAmong k ks → k < length file.functions) →
+    (f : UnnamedFunction) → IsAmong f (map (told_at file) ks) → InFile file f
+body_within file resolved [] there f among = absurd among
+body_within file resolved (k ∷ ks) there f (inl is) =
+    let inside : FitsFile (length file.externals) (length file.functions) (function_at file k) =
+    resolved.each k (function_at file k) (slice_get-get_or file.functions k no_function (there k (inl refl))) in
+    subst (λ (g : UnnamedFunction). InFile file g) (sym is) inside.body
+body_within file resolved (k ∷ ks) there f (inr among) =
+    body_within file resolved ks (λ j is. there j (inr is)) f among
+
+pub calls_no_others : (file : File) → IsResolved file → CallNoOthers (told_functions file.functions file.order)
+calls_no_others file resolved = record {
+  externals = length file.externals;
+  count = length file.functions;
+  few = omega (arith, resolved.functions);
+  there = is_numbered file resolved;
+  within = λ f among.
+      body_within file resolved file.order resolved.only f
+      (subst (λ (ts : List UnnamedFunction). IsAmong f ts) (told_there file file.order resolved.only) among);
+}
 
 -- what was made is what is told of the file's functions, and as many
 module _ (file : File) (resolved : IsResolved file) (made : List Function)

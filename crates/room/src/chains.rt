@@ -1,9 +1,11 @@
 //! The chain of calls that needs most room: from `main` on, the callee that decides what its caller needs.
 
-ghost use Rattle.std.specs.Prelude.{◌≡◌, ◌++◌, ◌∷◌, [], IfOk, IfSome, OnOk};
+ghost use Rattle.std.specs.Prelude.{◌≡◌, ◌⊎◌, ◌++◌, ◌∷◌, [], None, ℕ, IfOk, IfSome, OnOk};
+ghost use Rattle.grammar.specs.Resolved.{IsAmong};
 ghost use Rattle.trees.specs.Laws.{without_names, told_trees};
 ghost use Rattle.trees.specs.Trees.{function_tree};
-ghost use Rattle.room.specs.Chains.{IsChain, IsLink, NeedsBy, measured, only, scarce};
+ghost use Rattle.room.specs.Chains.{CallNoOthers, Decides, IsChain, IsLast, IsLink, MayEnd, StandsAlone};
+ghost use Rattle.room.specs.Chains.{measured, numbers, only, scarce};
 
 use crate::constructs::{Calls, NUMBERS, callee_need, function_need};
 use crate::room::{Room, words};
@@ -51,24 +53,25 @@ impl Measure {
 /// # Errors
 ///
 /// A request of memory that was refused.
-#[tactic(auto, using(crate::proofs::ChainLaws::begun, crate::proofs::ChainLaws::begun_more, crate::proofs::ChainLaws::chain_is))]
 pub fn chain_of(
     alloc: Global,
     maker: &TreeMaker,
     main: u8,
     profile: Profile,
 ) -> Result<Vec<u8>, AllocError>
-    ensures { IfOk result (λ chain. IsChain profile (told_trees maker.now.functions) main chain.items) }
+    ensures { CallNoOthers (told_trees maker.now.functions) → IsAmong main (numbers (told_trees maker.now.functions))
+        → IfOk result (λ chain. IsChain profile (told_trees maker.now.functions) main chain.items) }
 {
     let functions = maker.functions();
     let calls = all_needs(functions, profile);
     let measure = Measure::most(calls.needs[main as usize], profile);
     let mut chain = Vec::new(alloc);
     let mut next = lengthen(&mut chain, main, functions, &calls, measure)?;
-    for _ in 0..functions.len() {
-        if let Some(number) = next {
-            next = lengthen(&mut chain, number, functions, &calls, measure)?;
-        }
+    for _round in 0..functions.len() {
+        next = match next {
+            Some(number) => lengthen(&mut chain, number, functions, &calls, measure)?,
+            None => None,
+        };
     }
     Ok(chain)
 }
@@ -83,6 +86,9 @@ fn lengthen(
 ) -> Result<Option<u8>, AllocError>
     ensures added { OnOk result (chain.new.items ≡ chain.old.items ++ number ∷ []) }
     ensures next { IfOk result (λ next. IfSome next (IsLink measure calls.now (told_trees functions.now) number)) }
+    ensures new { IfOk result (λ next. IfSome next (λ j. IsAmong number chain.old.items → ⊥)) }
+    ensures last { IfOk result (λ next. next ≡ None
+        → MayEnd measure calls.now (told_trees functions.now) chain.old.items number) }
 {
     let is_back = chain.contains(&number);
     chain.push(number)?;
@@ -93,9 +99,11 @@ fn lengthen(
 }
 
 /// Returns the function by whose call that of this number needs what it needs, if there is one.
-#[tactic(auto, using(crate::proofs::ChainLaws::links))]
 fn behind(number: u8, functions: &[Function], calls: &Calls, measure: Measure) -> Option<u8>
-    ensures { IfSome result (IsLink measure calls.now (told_trees functions.now) number) }
+    ensures next { IfSome result (IsLink measure calls.now (told_trees functions.now) number) }
+    ensures last { result ≡ None → CallNoOthers (told_trees functions.now)
+        → IsAmong number (numbers (told_trees functions.now))
+        → IsLast measure calls.now (told_trees functions.now) number }
 {
     for caller in functions {
         if caller.number == number {
@@ -112,7 +120,12 @@ fn needed_by(
     calls: &Calls,
     measure: Measure,
 ) -> Option<u8>
-    ensures { IfSome result (λ j. NeedsBy measure calls.now (without_names caller.now.number (function_tree caller.now)) j) }
+    ensures some { IfSome result (Decides measure calls.now functions.now caller.now) }
+    ensures less { IfSome result (λ j. StandsAlone measure calls.now
+        (without_names caller.now.number (function_tree caller.now)) → ⊥) }
+    ensures none { result ≡ None → StandsAlone measure calls.now
+        (without_names caller.now.number (function_tree caller.now))
+        ⊎ ((j : ℕ) → Decides measure calls.now functions.now caller.now j → ⊥) }
 {
     let need = measure.of(function_need(caller, calls));
     let alone = Calls {
@@ -122,6 +135,15 @@ fn needed_by(
     if measure.of(function_need(caller, &alone)) == need {
         return None;
     }
+    decider(caller, functions, calls, measure)
+}
+
+/// Returns the first function by whose call alone one needs what it needs.
+fn decider(caller: &Function, functions: &[Function], calls: &Calls, measure: Measure) -> Option<u8>
+    ensures some { IfSome result (Decides measure calls.now functions.now caller.now) }
+    ensures none { result ≡ None → (j : ℕ) → Decides measure calls.now functions.now caller.now j → ⊥ }
+{
+    let need = measure.of(function_need(caller, calls));
     for callee in functions {
         let by_this = calls.only(callee.number);
         if measure.of(function_need(caller, &by_this)) == need {

@@ -11,8 +11,19 @@ impl<'a> fmt::Display for Misread<'a> {
         match *self {
             Misread::Unknown(word) => write!(f, "unknown option {}", Plain(word)),
             Misread::Series(word) => write!(f, "unknown option {} (the match is -k)", Plain(word)),
-            Misread::Twice(name) => write!(f, "{} is given twice", Dashed(name)),
+            Misread::Twice(one, other) if one == other => {
+                write!(f, "{} is given twice", Dashed(one))
+            }
+            Misread::Twice(one, other) => {
+                write!(
+                    f,
+                    "{} and {} are one option, given twice",
+                    Dashed(one),
+                    Dashed(other)
+                )
+            }
             Misread::Lacking(name) => write!(f, "{} lacks its value", Dashed(name)),
+            Misread::Empty(name) => write!(f, "{} has an empty value", Dashed(name)),
             Misread::Valued(name) => write!(f, "{} takes no value", Dashed(name)),
             Misread::Memory => write!(f, "out of memory"),
         }
@@ -25,7 +36,7 @@ pub fn tell_wrong(rt: &HostRuntime, program: &str, options: &Options<'_>, wrong:
     let _ = match wrong {
         Wrong::Number(name, least, most) => {
             let value = value_of(options, name);
-            let option = Dashed(name);
+            let option = Dashed(options.typed(name));
             eprintln!(rt; "{program}: {option} {value}: no number from {least} to {most}")
         }
         Wrong::Robot(robots) => {
@@ -46,6 +57,11 @@ pub fn tell_wrong(rt: &HostRuntime, program: &str, options: &Options<'_>, wrong:
             let (one, other) = (Dashed(one), Dashed(other));
             eprintln!(rt; "{program}: {one} without {other}")
         }
+        Wrong::Over(name) => {
+            let value = value_of(options, name);
+            let option = Dashed(name);
+            eprintln!(rt; "{program}: {option} {value}: this file is read, so it is not written")
+        }
         Wrong::Files(1) => eprintln!(rt; "{program}: over one file"),
         Wrong::Files(most) => {
             let most = spelled(most);
@@ -56,6 +72,17 @@ pub fn tell_wrong(rt: &HostRuntime, program: &str, options: &Options<'_>, wrong:
             eprintln!(rt; "{program}: {option}: not as {example}")
         }
     };
+}
+
+/// Writes a line on standard error, with the name of the program, if a file is missing and an option may have taken it for its
+/// value.
+pub fn tell_taken(rt: &HostRuntime, program: &str, options: &Options<'_>) {
+    if options.files().is_empty()
+        && let Some((name, word)) = options.taken()
+    {
+        let (option, word) = (Dashed(name), Plain(word));
+        let _ = eprintln!(rt; "{program}: no file: {option} took {word} for its value");
+    }
 }
 
 /// Returns the value of an option as a line shows it.

@@ -17,6 +17,9 @@ pub enum Fault {
     Read,
     /// The output can't be written. Status 4.
     Write,
+    /// Nobody reads the output any more, which needs no line. The status is the one that a shell gives a program that
+    /// the signal of a closed pipe ended: 141.
+    Closed,
     /// Memory was refused. Status 5.
     Memory,
 }
@@ -34,6 +37,8 @@ pub enum Wrong {
     Both(&'static str, &'static str),
     /// The first of these two options may only be given with the other.
     Alone(&'static str, &'static str),
+    /// The value of this option is a file that is read.
+    Over(&'static str),
     /// There are more files than this.
     Files(usize),
     /// The value of this option is none as this one is.
@@ -41,13 +46,14 @@ pub enum Wrong {
 }
 
 impl Fault {
-    /// Returns the status that the program ends with, 1 to 5.
+    /// Returns the status that the program ends with, 1 to 5, or 141.
     pub fn status(self) -> u8
         ensures source { self ≡ Fault.Source → result ≡ 1 }
         ensures usage { self ≡ Fault.Usage → result ≡ 2 }
         ensures wrong { (wrong : Wrong) → self ≡ Fault.Wrong wrong → result ≡ 2 }
         ensures read { self ≡ Fault.Read → result ≡ 3 }
         ensures write { self ≡ Fault.Write → result ≡ 4 }
+        ensures closed { self ≡ Fault.Closed → result ≡ 141 }
         ensures memory { self ≡ Fault.Memory → result ≡ 5 }
     {
         match self {
@@ -55,6 +61,7 @@ impl Fault {
             Fault::Usage | Fault::Wrong(_) => 2,
             Fault::Read => 3,
             Fault::Write => 4,
+            Fault::Closed => 141,
             Fault::Memory => 5,
         }
     }

@@ -1,7 +1,7 @@
 //! Files by the words that name them: opened, and read whole.
 
 use crate::faults::Fault;
-use crate::shown::Plain;
+use crate::shown::FileWord;
 use std::alloc::Global;
 use std::fs::File;
 use std::io::{ErrorKind, Read};
@@ -13,7 +13,7 @@ fn opened(rt: &HostRuntime, program: &str, word: &str) -> Result<File, Fault> {
         Ok(file) => Ok(file),
         Err(fault) if fault.kind() == ErrorKind::OutOfMemory => Err(Fault::Memory),
         Err(_) => {
-            let _ = eprintln!(rt; "{program}: cannot open {}", Plain(word));
+            let _ = eprintln!(rt; "{program}: cannot open {}", FileWord(word));
             Err(Fault::Read)
         }
     }
@@ -25,7 +25,7 @@ pub fn source_of(rt: &HostRuntime, program: &str, word: &str) -> Result<Vec<u8>,
     let mut file = opened(rt, program, word)?;
     let source = read_whole(rt.alloc(), &mut file);
     if let Err(Fault::Read) = &source {
-        let _ = eprintln!(rt; "{program}: cannot read {}", Plain(word));
+        let _ = eprintln!(rt; "{program}: cannot read {}", FileWord(word));
     }
     source
 }

@@ -1,12 +1,12 @@
 //! The frame of a program: its words, its help, its line of usage, and the status that it ends with.
 
 use crate::command_line::words;
-use crate::complaints::{tell_unwritten, tell_wrong};
+use crate::complaints::{tell_taken, tell_unwritten, tell_wrong};
 use crate::faults::Fault;
 use crate::helps::help_page;
 use crate::known::Known;
 use crate::options::{Misread, Options, read_options};
-use crate::outputs::write_text;
+use crate::outputs::{check_output, write_text};
 use crate::version::VERSION;
 use std::process::ExitCode;
 
@@ -43,7 +43,7 @@ impl ProgramFrame {
     /// Reads the words, and answers them. The lines of a fault are written.
     fn done<W: Work>(&self, rt: &HostRuntime, work: &W) -> Result<(), Fault> {
         let none = Options::none(rt.alloc());
-        let words = match words(rt) {
+        let words = match words(rt, self.name) {
             Ok(words) => words,
             Err(fault) => return Err(self.told(rt, &none, fault)),
         };
@@ -75,15 +75,20 @@ impl ProgramFrame {
             let name = self.name;
             return write_text(rt, format!(in rt.alloc(); "{name} {VERSION}\n")?.as_str());
         }
+        check_output(rt, options)?;
         work.work(rt, options)
     }
 
-    /// Writes the lines of a fault on standard error. That of a source or a file was written before. Returns the fault.
+    /// Writes the lines of a fault on standard error. That of a source or a file was written before, and output that nobody
+    /// reads has none. Returns the fault.
     fn told(&self, rt: &HostRuntime, options: &Options<'_>, fault: Fault) -> Fault {
         let name = self.name;
         match fault {
-            Fault::Source | Fault::Read => (),
-            Fault::Usage => self.tell_usage(rt),
+            Fault::Source | Fault::Read | Fault::Closed => (),
+            Fault::Usage => {
+                tell_taken(rt, name, options);
+                self.tell_usage(rt);
+            }
             Fault::Wrong(wrong) => {
                 tell_wrong(rt, name, options, wrong);
                 self.tell_usage(rt);

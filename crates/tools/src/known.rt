@@ -36,12 +36,29 @@ pub const OUTPUT_OPTIONS: [Known; 1] = [Known::Valued(
     "write into this file, and not on standard output",
 )];
 
+/// An option that is given, and the name by which it is.
+#[derive(Clone, Copy)]
+pub struct Meant {
+    /// The option, which is none that stands for another.
+    pub option: Known,
+    /// The name that was typed.
+    pub typed: &'static str,
+}
+
 /// Returns the option that this name stands for, if one of these lists has it, or if each program has it.
-pub fn known_by(known: &[&'static [Known]], name: &str) -> Option<Known> {
-    match named(known, name)? {
-        Known::Also(_, other) => named(known, other),
-        option => Some(option),
-    }
+pub fn known_by(known: &[&'static [Known]], name: &str) -> Option<Meant> {
+    let found = named(known, name)?;
+    let option = match found {
+        Known::Also(_, other) => named(known, other)?,
+        option => option,
+    };
+    let typed = found.name();
+    Some(Meant { option, typed })
+}
+
+/// Reports whether the option of this name asks for a page, which asking twice doesn't change.
+pub fn asks_for_page(name: &str) -> bool {
+    COMMON_OPTIONS.iter().any(|option| option.name() == name)
 }
 
 /// Returns what has this name.

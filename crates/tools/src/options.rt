@@ -1,7 +1,7 @@
 //! Options: which ones a program knows, and how words give them.
 
 use crate::faults::{Fault, Wrong};
-use crate::known::{Known, known_by};
+use crate::known::{Known, asks_for_page, known_by};
 use std::alloc::Global;
 
 /// What the words of a command line gave: options, each at most once, and files, in order.
@@ -11,11 +11,16 @@ pub struct Options<'a> {
     files: Vec<&'a str>,
 }
 
-/// An option that was given, and its value: the empty text if it has none.
+/// An option that was given.
 #[derive(Clone, Copy)]
 struct GivenOption<'a> {
     name: &'static str,
+    /// The name by which it was given.
+    typed: &'static str,
+    /// The empty text if it has no value.
     value: &'a str,
+    /// Whether its value is a word by itself.
+    took_word: bool,
 }
 
 impl<'a> Options<'a> {
@@ -34,9 +39,31 @@ impl<'a> Options<'a> {
 
     /// Returns the value of the option of this name, if it was given: the empty text for one that has no value.
     pub fn value(&self, name: &str) -> Option<&'a str> {
+        self.found(name).map(|given| given.value)
+    }
+
+    /// Returns the name by which the option of this name was given.
+    pub fn typed(&self, name: &'static str) -> &'static str {
+        self.found(name).map_or(name, |given| given.typed)
+    }
+
+    /// Returns the last option that took a word for its value, and that word, unless it is a number: it may be the file
+    /// that is missing.
+    pub fn taken(&self) -> Option<(&'static str, &'a str)> {
+        let mut taken = None;
+        for given in &self.given {
+            if given.took_word && !given.value.bytes().all(|byte| byte.is_ascii_digit()) {
+                taken = Some((given.typed, given.value));
+            }
+        }
+        taken
+    }
+
+    /// Returns the option of this name, if it was given.
+    fn found(&self, name: &str) -> Option<GivenOption<'a>> {
         for given in &self.given {
             if given.name == name {
-                return Some(given.value);
+                return Some(*given);
             }
         }
         None
@@ -62,15 +89,46 @@ impl<'a> Options<'a> {
         self.files.as_slice()
     }
 
-    /// Keeps an option's value, unless it was given before.
-    fn keep(&mut self, name: &'static str, value: &'a str) -> Result<(), Misread<'a>> {
-        if self.has(name) {
-            return Err(Misread::Twice(name));
+    /// Keeps an option, unless it was given before.
+    fn keep(&mut self, option: GivenOption<'a>) -> Result<(), Misread<'a>> {
+        match self.found(option.name) {
+            Some(_) if asks_for_page(option.name) => Ok(()),
+            Some(before) => Err(Misread::Twice(before.typed, option.typed)),
+            None => match self.given.push(option) {
+                Ok(()) => Ok(()),
+                Err(_) => Err(Misread::Memory),
+            },
         }
-        match self.given.push(GivenOption { name, value }) {
-            Ok(()) => Ok(()),
-            Err(_) => Err(Misread::Memory),
+    }
+
+    /// Keeps an option with a value, which is a word by itself or not.
+    fn keep_value(
+        &mut self,
+        option: OptionName,
+        value: &'a str,
+        took_word: bool,
+    ) -> Result<(), Misread<'a>> {
+        let OptionName { name, typed } = option;
+        if value.is_empty() {
+            return Err(Misread::Empty(typed));
         }
+        self.keep(GivenOption {
+            name,
+            typed,
+            value,
+            took_word,
+        })
+    }
+
+    /// Keeps an option that has no value.
+    fn keep_flag(&mut self, option: OptionName) -> Result<(), Misread<'a>> {
+        let OptionName { name, typed } = option;
+        self.keep(GivenOption {
+            name,
+            typed,
+            value: "",
+            took_word: false,
+        })
     }
 }
 
@@ -81,10 +139,12 @@ pub enum Misread<'a> {
     Unknown(&'a str),
     /// This word asks for a number of matches, of a program that plays one.
     Series(&'a str),
-    /// This option is given twice.
-    Twice(&'static str),
+    /// An option is given twice, by these names.
+    Twice(&'static str, &'static str),
     /// This option is the last word, and lacks its value.
     Lacking(&'static str),
+    /// The value of this option is empty.
+    Empty(&'static str),
     /// This option is given a value, and takes none.
     Valued(&'static str),
     /// Memory was refused.
@@ -104,9 +164,16 @@ pub fn read_options<'a>(
         expected = options.take(word.as_str(), known, expected)?;
     }
     match expected {
-        Expected::Value(name) => Err(Misread::Lacking(name)),
+        Expected::Value(option) => Err(Misread::Lacking(option.typed)),
         Expected::Any | Expected::File => Ok(options),
     }
+}
+
+/// The name of an option, and the one by which it was given.
+#[derive(Clone, Copy)]
+struct OptionName {
+    name: &'static str,
+    typed: &'static str,
 }
 
 /// What the next word may be.
@@ -115,7 +182,7 @@ enum Expected {
     /// An option or a file.
     Any,
     /// The value of this option.
-    Value(&'static str),
+    Value(OptionName),
     /// A file.
     File,
 }
@@ -129,12 +196,12 @@ impl<'a> Options<'a> {
         expected: Expected,
     ) -> Result<Expected, Misread<'a>> {
         match expected {
-            Expected::Value(name) => {
-                self.keep(name, word)?;
+            Expected::Value(option) => {
+                self.keep_value(option, word, true)?;
                 Ok(Expected::Any)
             }
             Expected::Any if word == "--" => Ok(Expected::File),
-            Expected::Any if word.starts_with('-') => self.take_option(word, known),
+            Expected::Any if word.starts_with('-') && word != "-" => self.take_option(word, known),
             _ => match self.files.push(word) {
                 Ok(()) => Ok(expected),
                 Err(_) => Err(Misread::Memory),
@@ -149,12 +216,19 @@ impl<'a> Options<'a> {
         known: &[&'static [Known]],
     ) -> Result<Expected, Misread<'a>> {
         let (name, value) = parted(word).ok_or(Misread::Unknown(word))?;
-        match (known_by(known, name), value) {
-            (Some(Known::Valued(name, _, _)), None) => return Ok(Expected::Value(name)),
-            (Some(Known::Valued(name, _, _)), Some(value)) => self.keep(name, value)?,
-            (Some(Known::Flag(name, _)), None) => self.keep(name, "")?,
-            (Some(Known::Flag(name, _)), Some(_)) => return Err(Misread::Valued(name)),
-            (Some(Known::Also(..)) | None, _) => return Err(unknown(word, name, known)),
+        let meant = known_by(known, name).ok_or(unknown(word, name, known))?;
+        let typed = meant.typed;
+        match (meant.option, value) {
+            (Known::Valued(name, _, _), None) => return Ok(Expected::Value(OptionName {
+                name,
+                typed,
+            })),
+            (Known::Valued(name, _, _), Some(value)) => {
+                self.keep_value(OptionName { name, typed }, value, false)?;
+            }
+            (Known::Flag(name, _), None) => self.keep_flag(OptionName { name, typed })?,
+            (Known::Flag(..), Some(_)) => return Err(Misread::Valued(typed)),
+            (Known::Also(..), _) => return Err(Misread::Unknown(word)),
         }
         Ok(Expected::Any)
     }

@@ -1,6 +1,6 @@
 //! A span: the part of a match that a program shows, one robot or all, from a first cycle to a last.
 
-ghost use Rattle.std.specs.Prelude.{◌≡◌, ◌≤◌, ◌↔◌, IfOk, IsTrue, None};
+ghost use Rattle.std.specs.Prelude.{◌≡◌, ◌≤◌, ◌↔◌, if◌then◌else◌, nat_le, IfOk, IsTrue, None};
 ghost use Rattle.tools.specs.Span.{IsOfRobot, IsOfRobots};
 
 use crate::faults::{Fault, Wrong};
@@ -48,9 +48,7 @@ impl Span {
         let last = u64::from(MOST_CYCLES);
         let from = number_of(options, "from", 0, last, 0)? as u32;
         let to = number_of(options, "to", 0, last, last)? as u32;
-        if to < from {
-            return Err(Fault::Wrong(Wrong::Order));
-        }
+        let (from, to) = in_order(from, to)?;
         let robot = robot_of(options, robots)?;
         Ok(Span { robot, from, to })
     }
@@ -85,6 +83,16 @@ impl Span {
     {
         self.robot.is_none() && self.from == 0 && self.to >= cycles
     }
+}
+
+/// Returns the first and the last cycle of a span, if they are in order: one cycle is a span too.
+fn in_order(from: u32, to: u32) -> Result<(u32, u32), Fault>
+    ensures { result ≡ (if nat_le from to then Ok (from, to) else Err (Fault.Wrong Wrong.Order)) }
+{
+    if to < from {
+        return Err(Fault::Wrong(Wrong::Order));
+    }
+    Ok((from, to))
 }
 
 /// Reads the number of the only robot of the span, from 1 to the number of robots, if one is asked for.

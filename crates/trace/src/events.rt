@@ -1,5 +1,7 @@
 //! Events of a match, and films of it: events with the robots' ways and scans beside them.
 
+ghost use Rattle.std.specs.Prelude.{is_ok};
+
 use crate::aims::{Aims, Miss};
 use crate::insides::{Insides, follows_update};
 use crate::requests::{Form, Task};
@@ -74,6 +76,8 @@ impl<'a> Events<'a> {
 }
 
 impl Watcher for Events<'_> {
+    ghost asks_more = { λ events. is_ok events.camera.rows.state };
+
     fn begins(&mut self, arena: &Arena) {
         if self.camera.rows.is_film {
             self.name_robots(arena.robot_count());

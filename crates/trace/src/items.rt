@@ -1,7 +1,10 @@
 //! The items of a line of a report, and tables of counts.
 
+ghost use Rattle.std.specs.Prelude.{◌≡◌, ◌+◌, ◌/◌, ◌<◌, ◌^◌, max};
+
 use std::alloc::AllocError;
 use tools::{Draft, Text};
+use watching::percent;
 
 /// How many characters a line has before its items.
 const INDENT: usize = 14;
@@ -106,7 +109,50 @@ pub fn add_count(text: &mut Draft, count: u64) {
     }
 }
 
+/// How many parts a whole is shown in.
+const PARTS: usize = 4;
+
+/// Returns parts in percent of all of them, which add up to 100: each is rounded down, and then those from which most
+/// was cut off get what lacks, of equal ones the first. All are 0 if the parts are.
+pub fn percents(parts: [u64; PARTS]) -> [u64; PARTS] {
+    let mut all: u64 = 0;
+    for part in parts {
+        all = all.saturating_add(part);
+    }
+    let (mut shares, mut cut) = ([0; PARTS], [0; PARTS]);
+    for ((share, left), part) in shares.iter_mut().zip(cut.iter_mut()).zip(parts) {
+        *share = percent(part, all);
+        *left = part.saturating_mul(100) % all.max(1);
+    }
+    for _ in 1..PARTS {
+        give_one(&mut shares, &mut cut);
+    }
+    shares
+}
+
+/// Gives one percent to the share from which most was cut off, if shares lack some to 100.
+fn give_one(shares: &mut [u64; PARTS], cut: &mut [u64; PARTS]) {
+    let mut lacking: u64 = 100;
+    let mut most = 0;
+    for (share, left) in shares.iter().zip(cut.iter()) {
+        lacking = lacking.saturating_sub(*share);
+        most = most.max(*left);
+    }
+    if lacking == 0 || most == 0 {
+        return;
+    }
+    for (share, left) in shares.iter_mut().zip(cut.iter_mut()) {
+        if *left == most {
+            *share = share.saturating_add(1);
+            *left = 0;
+            return;
+        }
+    }
+}
+
 /// Returns the mean of some numbers by their sum, to the nearest whole one.
-pub fn mean(all: u64, count: u64) -> u64 {
+pub fn mean(all: u64, count: u64) -> u64
+    ensures { all + count / 2 < 2 ^ 64 → result ≡ (all + count / 2) / max count 1 }
+{
     all.saturating_add(count / 2) / count.max(1)
 }

@@ -1,7 +1,7 @@
 //! The report of a match's sums.
 
 use crate::habits::{add_calls, add_directions, add_streak};
-use crate::items::Items;
+use crate::items::{Items, percents};
 use crate::measured::add_measured;
 use crate::misses::add_misses;
 use crate::requests::Task;
@@ -152,12 +152,17 @@ fn add_shots(text: &mut Draft, subject: &Subject<'_>) -> Result<(), AllocError> 
 fn add_time(text: &mut Draft, subject: &Subject<'_>) -> Result<(), AllocError> {
     let (all, shares) = (subject.tally.cycles(), &subject.tally.shares);
     let rest = shares.sums.saturating_add(shares.open_cycles);
+    let [moving, scanning, shooting, rest] = percents([
+        shares.moving,
+        shares.scanning,
+        shares.shooting,
+        rest,
+    ]);
     let mut items = Items::new("time", text, subject.columns);
-    let moving = percent(shares.moving, all);
     write!(items.begin(), "{all} cycles: {moving}% to move");
-    write!(items.begin(), "{}% to scan", percent(shares.scanning, all));
-    write!(items.begin(), "{}% to shoot", percent(shares.shooting, all));
-    write!(items.begin(), "{}% else", percent(rest, all));
+    write!(items.begin(), "{scanning}% to scan");
+    write!(items.begin(), "{shooting}% to shoot");
+    write!(items.begin(), "{rest}% else");
     items.end(text)
 }
 

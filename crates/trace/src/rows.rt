@@ -1,5 +1,7 @@
 //! Rows of fields with tabs between them, on standard output.
 
+ghost use Rattle.std.specs.Prelude.{◌≡◌, is_ok};
+
 use std::alloc::AllocError;
 use tools::{Draft, Fault, Output, Span, Text};
 use watching::{Event, Field, FilmRows, Listener, MOST_FIELDS, Turn};
@@ -36,7 +38,9 @@ impl<'a> Rows<'a> {
     }
 
     /// Reports whether nothing failed so far.
-    pub fn are_fine(&self) -> bool {
+    pub fn are_fine(&self) -> bool
+        ensures { result ≡ is_ok self.now.state }
+    {
         self.state.is_ok()
     }
 

@@ -78,6 +78,8 @@ impl<'a> Sums<'a> {
 }
 
 impl Watcher for Sums<'_> {
+    fn begins(&mut self, _: &Arena) {}
+
     fn turn(&mut self, turn: Turn, pilot: &Pilot<'_>) {
         if let Some(tally) = self.tally(turn.cycle, turn.robot) {
             tally.pass(turn.cycle, pilot.machine().address());
@@ -117,6 +119,10 @@ impl Watcher for Sums<'_> {
                 tally.see(cycle, arena.damage(robot), arena.alive(robot));
             }
         }
+    }
+
+    fn wants_more(&self) -> bool {
+        true
     }
 }
 

@@ -1,10 +1,12 @@
 //! Turns: a row for each question, or for each cycle.
 
+ghost use Rattle.std.specs.Prelude.{is_ok};
+
 use crate::requests::{Form, Task};
 use crate::rows::{Rows, add_turn};
 use crate::tellers::Teller;
 use arena::{Arena, MOST_ROBOTS};
-use code::Machine;
+use code::{Cause, Machine};
 use grammar::{MOST_NAMES, Name};
 use notes::{NotedProgram, Sources, add_call, add_instruction, add_words, name_in, name_text};
 use std::alloc::AllocError;
@@ -61,13 +63,17 @@ impl<'a> Turns<'a> {
 }
 
 impl Watcher for Turns<'_> {
+    ghost asks_more = { λ turns. is_ok turns.rows.state };
+
+    fn begins(&mut self, _: &Arena) {}
+
     fn turn(&mut self, turn: Turn, pilot: &Pilot<'_>) {
         if self.is_stepwise {
             self.step(turn, pilot.machine());
         }
     }
 
-    fn asked(&mut self, turn: Turn, pilot: &Pilot<'_>, question: Exchange, _arena: &Arena) {
+    fn asked(&mut self, turn: Turn, pilot: &Pilot<'_>, question: Exchange, _: &Arena) {
         if !self.is_stepwise && self.rows.span.has(turn.cycle, turn.robot) {
             let (line, function) = self.sources.position(turn.robot, pilot.machine().address());
             let text = &mut self.rows.text;
@@ -78,6 +84,12 @@ impl Watcher for Turns<'_> {
             self.rows.pass();
         }
     }
+
+    fn restarts(&mut self, _: Turn, _: &Pilot<'_>, _: Cause) {}
+
+    fn updates(&mut self, _: u32, _: &Arena) {}
+
+    fn updated(&mut self, _: u32, _: &Arena) {}
 
     fn wants_more(&self) -> bool {
         self.rows.are_fine()

@@ -36,7 +36,7 @@ struct Robot<'a> {
 }
 
 /// Plays the match, and writes a row for each cycle in which a watched variable of a chosen robot gets another value:
-/// one of a function within one call of it.
+/// one of a function within one life of it, as `watching::Sought` says.
 pub fn tell_changes(task: Task<'_>, pilots: &mut [Pilot<'_>]) -> Result<(), Fault>
     requires some { 2 ≤ length pilots.old }
     requires most { length pilots.old ≤ MOST_ROBOTS }
@@ -111,7 +111,7 @@ impl Robot<'_> {
         }
     }
 
-    /// Reports whether a variable was seen before and after the cycle: one of a function is only within one call of it.
+    /// Reports whether a variable was seen before and after the cycle: one of a function is only within one life of it.
     fn has_seen(&self, machine: &Machine, variable: Variable) -> bool {
         match variable {
             Variable::External(_) => true,

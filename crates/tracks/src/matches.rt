@@ -6,6 +6,7 @@ ghost use Rattle.std.specs.Option.{option_or};
 use crate::requests::View;
 use arena::{Arena, DEADLY, MOST_ROBOTS};
 use arrayvec::ArrayVec;
+use code::{Cause, Intrinsic};
 use settings::Settings;
 use watching::{Exchange, Path, Pilot, Place, Shot, Shots, Turn, UPDATE_CYCLES, Watcher, play};
 
@@ -150,9 +151,13 @@ impl Watcher for Recording {
         self.watch(arena, 0);
     }
 
-    fn shot(&mut self, turn: Turn, question: Exchange, arena: &Arena) {
+    fn turn(&mut self, _: Turn, _: &Pilot<'_>) {}
+
+    /// Keeps a shot that is drawn and was fired.
+    fn asked(&mut self, turn: Turn, _: &Pilot<'_>, question: Exchange, arena: &Arena) {
+        let is_shot = question.intrinsic == Intrinsic::Cannon && question.reply == 1;
         let is_drawn = self.view.has_shots && self.view.span.has(turn.cycle, turn.robot);
-        if is_drawn && question.reply == 1 {
+        if is_shot && is_drawn {
             let updates = turn.cycle.saturating_sub(1) / UPDATE_CYCLES;
             let from = Place::of(arena, turn.robot);
             self.shots
@@ -160,7 +165,15 @@ impl Watcher for Recording {
         }
     }
 
+    fn restarts(&mut self, _: Turn, _: &Pilot<'_>, _: Cause) {}
+
+    fn updates(&mut self, _: u32, _: &Arena) {}
+
     fn updated(&mut self, cycle: u32, arena: &Arena) {
         self.watch(arena, cycle / UPDATE_CYCLES);
+    }
+
+    fn wants_more(&self) -> bool {
+        true
     }
 }

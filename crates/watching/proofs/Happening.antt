@@ -20,7 +20,7 @@ use Rattle.watching.specs.declared.sought.Sought.{Sought}
 use Rattle.watching.specs.declared.sought.Sought.TheVariants.{Address, Question, Restart, Hurt, Hit, Change, Value, LocalChange, LocalValue}
 use Rattle.watching.specs.Hits.{hits}
 use Rattle.watching.specs.Moments.{last_of, replies_of, wanted}
-use Rattle.watching.specs.Searches.{Happens, IsGlanced, IsOneCall, Seems, Shows, state_at, value_of}
+use Rattle.watching.specs.Searches.{Happens, IsGlanced, IsOneLife, Seems, Shows, state_at, value_of}
 use Rattle.watching.proofs.Asking.{reply_is, wanted_is}
 
 -- two glances see a robot at two states, and it hits another one in the cycle between them or doesn't
@@ -39,10 +39,10 @@ pub record See (robots : List Behaviour) (program : Program) (i cycle : ℕ) (so
   pub frames : after.frames ≡ length (state_at program i later).frames
   pub word : (k : Intrinsic) (a : List ℤ) → wanted robots i now ≡ Ask k a → after.word ≡ last_of (replies_of later i)
 
--- one call stays one where the numbers are the same
-one_call : (marks : List Bool) (a b c d a' b' c' d' : ℕ) → a ≡ a' → b ≡ b' → c ≡ c' → d ≡ d'
-    → IsOneCall marks a b c d → IsOneCall marks a' b' c' d'
-one_call marks a b c d a' b' c' d' p q r t (here, there, same) =
+-- one life stays one where the numbers are the same
+one_life : (marks : List Bool) (a b c d a' b' c' d' : ℕ) → a ≡ a' → b ≡ b' → c ≡ c' → d ≡ d'
+    → IsOneLife marks a b c d → IsOneLife marks a' b' c' d'
+one_life marks a b c d a' b' c' d' p q r t (here, there, same) =
     (ap (λ n. get_or marks n false) (sym p) ∙ here, ap (λ n. get_or marks n false) (sym r) ∙ there, sym q ∙ same ∙ t)
 
 pub shows_so : (sought : Sought) (robots : List Behaviour) (program : Program) (i cycle : ℕ) (now later : BattleState)
@@ -61,7 +61,7 @@ shows_so (Change variable) robots program i cycle now later before after is_hit 
     λ same. differs (see.value_then ∙ same ∙ sym see.value)
 shows_so (Value variable value) robots program i cycle now later before after is_hit see is = sym see.value_then ∙ is
 shows_so (LocalChange marks number) robots program i cycle now later before after is_hit see (one, differs) = (
-  one_call marks.now before.address before.home after.address after.home (state_at program i now).at
+  one_life marks.now before.address before.home after.address after.home (state_at program i now).at
       (state_at program i now).home (state_at program i later).at (state_at program i later).home see.address see.home
       see.address_then see.home_then one,
   λ same. differs (see.value_then ∙ same ∙ sym see.value),
@@ -84,7 +84,7 @@ seems_so (Change variable) robots program i cycle now later before after is_hit 
     λ same. differs (sym see.value_then ∙ same ∙ see.value)
 seems_so (Value variable value) robots program i cycle now later before after is_hit see is = see.value_then ∙ is
 seems_so (LocalChange marks number) robots program i cycle now later before after is_hit see (one, differs) = (
-  one_call marks.now (state_at program i now).at (state_at program i now).home (state_at program i later).at
+  one_life marks.now (state_at program i now).at (state_at program i now).home (state_at program i later).at
       (state_at program i later).home before.address before.home after.address after.home (sym see.address)
       (sym see.home)
       (sym see.address_then) (sym see.home_then) one,

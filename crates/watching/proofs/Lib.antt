@@ -2,7 +2,11 @@ pub mod Playing
 mod Marks
 mod Keeping
 pub mod KnownHits
+pub mod KnownSights
 pub mod Hitting
+pub mod Telling
+pub mod Losing
+pub mod Rounding
 pub mod Replies
 pub mod Asking
 pub mod Moments

@@ -33,6 +33,7 @@ pub moment_is : (codes : List Program) (robots : List Behaviour) (s : BattleStat
     → IsSeen game (get_or seats i none) i last moment → IsMoment robots s limit i cycle seats moment
 moment_is codes robots s limit i cycle seats none game last moment are same inside played seen = record {
   come = rw (seen.now, same) played.come;
+  limited = rw seen.now played.limited;
   cycles = rw seen.now played.cycles;
   alive =
       rw seen.now

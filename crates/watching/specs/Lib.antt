@@ -1,13 +1,17 @@
 pub mod Pilot
 pub mod Played
 pub mod Games
+pub mod Sights
 pub mod Path
 pub mod Shots
 pub mod Runs
+pub mod Losses
+pub mod Rounds
 pub mod Purposes
 pub mod Directions
 pub mod Streaks
 pub mod Moments
 pub mod Hits
 pub mod KnownHits
+pub mod KnownSights
 pub mod Searches

@@ -57,6 +57,7 @@ cause_of alive seat = if alive then cause_next seat.code seat.state else None
 pub record HasPlayedTo (robots : List Behaviour) (opening : BattleState) (limit i cycle : ℕ) (codes : List Program)
     (seats : List Pilot) (game : Game) (last : Option Asked) : Type 0 where
   pub come : HasCome codes robots opening seats game
+  pub limited : game.limit ≡ limit
   pub cycles : game.ending.cycles ≡ min cycle (last_cycle robots opening limit)
   pub asked : last ≡ last_question robots i opening game.ending.cycles
 
@@ -74,6 +75,7 @@ pub record IsSeen (game : Game) (seat : Pilot) (i : ℕ) (last : Option Asked) (
 pub record IsMoment (robots : List Behaviour) (opening : BattleState) (limit i cycle : ℕ) (seats : List Pilot)
     (moment : Moment) : Type 0 where
   pub come : HasCome (codes_of seats) robots opening seats moment.game
+  pub limited : moment.game.limit ≡ limit
   pub cycles : moment.game.ending.cycles ≡ min cycle (last_cycle robots opening limit)
   pub alive : moment.is_alive ≡ is_live_at (state_after robots opening moment.game.ending.cycles).field i
   pub next : moment.next ≡ wanted robots i (state_after robots opening moment.game.ending.cycles)

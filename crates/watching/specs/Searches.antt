@@ -22,9 +22,10 @@ use Rattle.watching.specs.Moments.{last_of, replies_of, wanted}
 abbrev pub state_at : Program → ℕ → BattleState → Machine
 state_at program i state = reached program (started_machine program) (replies_of state i)
 
--- two instructions are both marked, in one call of a function: its variables begin at the same word
-abbrev pub IsOneCall : List Bool → (at home at' home' : ℕ) → Type 0
-IsOneCall marks at home at' home' = (get_or marks at false ≡ true) × (get_or marks at' false ≡ true) × (home ≡ home')
+-- Two instructions are both marked, in one life of a function's variables: these begin at the same word. A restart of
+-- main begins no other life of main's variables: it makes them 0.
+abbrev pub IsOneLife : List Bool → (at home at' home' : ℕ) → Type 0
+IsOneLife marks at home at' home' = (get_or marks at false ≡ true) × (get_or marks at' false ≡ true) × (home ≡ home')
 
 -- what is sought shows in the cycle of a number, between the states before and after it
 abbrev pub Shows : Sought → List Behaviour → Program → (i cycle : ℕ) → (before after : BattleState) → Type 0
@@ -43,7 +44,7 @@ Shows (Change variable) robots program i cycle before after =
 Shows (Value variable value) robots program i cycle before after =
     read_variable (state_at program i after) variable ≡ value
 Shows (LocalChange marks number) robots program i cycle before after =
-    IsOneCall marks.now (state_at program i before).at (state_at program i before).home (state_at program i after).at
+    IsOneLife marks.now (state_at program i before).at (state_at program i before).home (state_at program i after).at
     (state_at program i after).home
     ×
     (read_variable (state_at program i after) (Local number) ≢
@@ -107,6 +108,6 @@ Seems Hit before after is_hit = is_hit ≡ true
 Seems (Change variable) before after is_hit = after.value ≢ before.value
 Seems (Value variable value) before after is_hit = after.value ≡ value
 Seems (LocalChange marks number) before after is_hit =
-    IsOneCall marks.now before.address before.home after.address after.home × (after.value ≢ before.value)
+    IsOneLife marks.now before.address before.home after.address after.home × (after.value ≢ before.value)
 Seems (LocalValue marks number value) before after is_hit =
     (get_or marks.now after.address false ≡ true) × (after.value ≡ value)

@@ -1,5 +1,8 @@
 //! Events of a match: the kind of each, and what is said of it.
 
+ghost use Rattle.std.specs.Prelude.{◌≡◌, ◌≤◌, length, map};
+ghost use Rattle.watching.specs.Losses.{loss_numbers, loss_word, number_of};
+
 use crate::runs::Stance;
 use crate::update_losses::{Loss, Source, losses};
 use arena::{Arena, Burst, MOST_ROBOTS};
@@ -34,7 +37,10 @@ pub struct Event<'a> {
 
 impl<'a> Event<'a> {
     /// Makes an event of this kind with these fields, of which five count.
-    pub fn new(kind: &'static str, fields: &[Field<'a>]) -> Event<'a> {
+    pub fn new(kind: &'static str, fields: &[Field<'a>]) -> Event<'a>
+        ensures kind { result.kind.now ≡ kind.now }
+        ensures fields { length fields.now ≤ MOST_FIELDS → result.fields.items ≡ fields.now }
+    {
         let mut event = Event {
             kind,
             fields: ArrayVec::new(),
@@ -46,7 +52,10 @@ impl<'a> Event<'a> {
     }
 
     /// Makes an event of this kind with these numbers.
-    pub fn of_numbers(kind: &'static str, numbers: &[i32]) -> Event<'a> {
+    pub fn of_numbers(kind: &'static str, numbers: &[i32]) -> Event<'a>
+        ensures kind { result.kind.now ≡ kind.now }
+        ensures fields { length numbers.now ≤ MOST_FIELDS → result.fields.items ≡ map Field.Number numbers.now }
+    {
         let mut event = Event::new(kind, &[]);
         for number in numbers {
             let _ = event.fields.try_push(Field::Number(i64::from(*number)));
@@ -68,7 +77,10 @@ impl<'a> Event<'a> {
 
     /// Makes the event that an update takes damage from a robot: how much, which robot caused it, and where that one's
     /// shot bursts.
-    pub fn loss(loss: &Loss) -> Event<'a> {
+    pub fn loss(loss: &Loss) -> Event<'a>
+        ensures kind { result.kind.now ≡ loss_word loss.now.source }
+        ensures fields { result.fields.items ≡ map Field.Number (loss_numbers loss.now) }
+    {
         let percent = i32::from(loss.percent);
         match loss.source {
             Source::Wall => Event::of_numbers("wall", &[percent]),
@@ -103,6 +115,8 @@ pub trait Listener {
 }
 
 /// Returns a robot's number, which counts from 1 in events.
-fn number_of(robot: usize) -> i32 {
+fn number_of(robot: usize) -> i32
+    ensures { result ≡ number_of robot }
+{
     robot.min(MOST_ROBOTS) as i32 + 1
 }

@@ -1,15 +1,17 @@
 //! Plays a match before a watcher, cycle by cycle: a turn of each live robot, and after each 15th cycle an update.
 
-ghost use Rattle.std.specs.Prelude.{◌≡◌, ◌⊎◌, ◌==◌, ◌||◌, ℕ, ◌≢◌, ◌+◌, ◌*◌, ◌/◌, ◌%◌, ◌≤◌, ◌<◌, false, [], List, length, replicate};
+ghost use Rattle.std.specs.Prelude.{◌≡◌, ◌⊎◌, ◌==◌, ◌||◌, ℕ, ◌≢◌, ◌+◌, ◌-◌, ◌*◌, ◌/◌, ◌%◌, ◌≤◌, ◌<◌, ◌++◌, ◌∷◌, false, [], List, length, replicate};
 ghost use Rattle.arena.specs.Field.{Field};
 ghost use Rattle.arena.specs.Arena.{most_updates};
+ghost use Rattle.arena.specs.Moved.{moved};
 ghost use Rattle.arena.specs.Representing.{RepresentsField};
-ghost use Rattle.battles.specs.Battle.{Behaviour, BattleState, first_state, is_due, turns};
+ghost use Rattle.battles.specs.Battle.{Behaviour, BattleState, first_state, is_due, state_after, turns};
 ghost use Rattle.battles.specs.Carrying.{AreRobotsOf, EachIsAheadOf};
 ghost use Rattle.code.specs.Generation.{Program};
 ghost use Rattle.watching.specs.Games.{EndsWell, GoesOn, HasCome, HasEnded, HaveTakenTurns};
 ghost use Rattle.watching.specs.Pilot.{Pilot};
 ghost use Rattle.watching.specs.Played.{HavePlayed, HaveUpdated, IsPlayed, codes_of, exes_of, runners_of};
+ghost use Rattle.watching.specs.Sights.{Begins, Sight, Updated, Updates, cycle_sights, sights_of, turns_sights, update_sights};
 
 use crate::pilot::Pilot;
 use crate::watcher::{Turn, Watcher};
@@ -86,6 +88,7 @@ impl Game {
         ensures ending { result ≡ self.now.ending }
         ensures limit { result.cycles ≤ self.now.limit }
         ensures most { result.cycles ≤ MOST_CYCLES }
+        ensures goes_on { result.is_over ≡ false → result.cycles < self.now.limit }
     {
         self.ending
     }
@@ -101,6 +104,10 @@ impl Game {
         ensures manned { length self.new.arena.robots ≡ length pilots.new }
         ensures next { GoesOn self.old self.new }
         ensures ends { EndsWell self.new }
+        ensures told { (robots : List Behaviour) (s : BattleState) (sights : List Sight)
+            → AreRobotsOf (exes_of (codes_of pilots.old)) robots
+            → HasCome (codes_of pilots.old) robots s pilots.old self.old → W.told watcher.old sights → W.told watcher.new
+            (sights ++ cycle_sights robots (self.old.ending.cycles + 1) (state_after robots s self.old.ending.cycles)) }
     {
         self.take_turns(pilots, watcher);
         self.end_cycle(watcher);
@@ -117,6 +124,11 @@ impl Game {
         ensures manned { length self.new.arena.robots ≡ length pilots.new }
         ensures ending { self.new.ending ≡ self.old.ending }
         ensures limit { self.new.limit ≡ self.old.limit }
+        ensures told { (robots : List Behaviour) (s : BattleState) (sights : List Sight)
+            → AreRobotsOf (exes_of (codes_of pilots.old)) robots
+            → HasCome (codes_of pilots.old) robots s pilots.old self.old → W.told watcher.old sights → W.told watcher.new
+            (sights ++ turns_sights robots (self.old.ending.cycles + 1) (state_after robots s self.old.ending.cycles)
+            (length robots)) }
     {
         let cycle = self.ending.cycles + 1;
         turns(pilots, &mut self.arena, watcher, cycle);
@@ -139,6 +151,8 @@ impl Game {
         ensures manned { length self.new.arena.robots ≡ length self.old.arena.robots }
         ensures next { GoesOn self.old self.new }
         ensures ends { EndsWell self.new }
+        ensures told { (f : Field) (sights : List Sight) → RepresentsField self.old.arena f → W.told watcher.old sights
+            → W.told watcher.new (sights ++ update_sights (self.old.ending.cycles + 1) f) }
     {
         let cycle = self.ending.cycles + 1;
         let is_decided = update_after(&mut self.arena, watcher, cycle);
@@ -170,6 +184,10 @@ pub fn play<W: Watcher>(
     requires limit { limit ≤ MOST_CYCLES }
     ensures battle { (robots : List Behaviour) → AreRobotsOf (exes_of (codes_of pilots.old)) robots
         → IsPlayed robots seed number limit result }
+    ensures whole { result.is_over ≡ false → W.asks_more watcher.new ≡ false }
+    ensures told { (robots : List Behaviour) (sights : List Sight) → AreRobotsOf (exes_of (codes_of pilots.old)) robots
+        → W.told watcher.old sights → let opening = first_state (length robots) seed number in
+        W.told watcher.new (sights ++ Begins opening.field ∷ [] ++ sights_of robots opening result.cycles) }
     ensures limit { result.cycles ≤ limit }
     ensures ends { (result.cycles ≡ limit) ⊎ (result.cycles ≡ result.cycles / UPDATE_CYCLES * UPDATE_CYCLES) }
 {
@@ -197,15 +215,16 @@ fn play_on<W: Watcher>(game: &mut Game, pilots: &mut [Pilot<'_>], watcher: &mut 
     ensures battle { (robots : List Behaviour) (s : BattleState) → AreRobotsOf (exes_of (codes_of pilots.old)) robots
         → HasCome (codes_of pilots.old) robots s pilots.old game.old
         → HasCome (codes_of pilots.old) robots s pilots.new game.new }
+    ensures whole { game.new.ending.is_over ≡ false → W.asks_more watcher.new ≡ false }
+    ensures told { (robots : List Behaviour) (s : BattleState) (sights : List Sight)
+        → AreRobotsOf (exes_of (codes_of pilots.old)) robots
+        → HasCome (codes_of pilots.old) robots s pilots.old game.old → W.told watcher.old sights
+        → W.told watcher.new (sights ++ sights_of robots s game.new.ending.cycles) }
     ensures limit { game.new.limit ≡ game.old.limit }
     ensures ends { (game.new.ending.cycles ≡ game.new.limit)
         ⊎ (game.new.ending.cycles ≡ game.new.ending.cycles / UPDATE_CYCLES * UPDATE_CYCLES) }
 {
-    let limit = game.limit;
-    for _ in 0..limit {
-        if game.ending().is_over {
-            return;
-        }
+    while !game.ending().is_over {
         game.cycle(pilots, watcher);
         if game.ending().cycles % UPDATE_CYCLES == 0 && !watcher.wants_more() {
             return;
@@ -216,11 +235,15 @@ fn play_on<W: Watcher>(game: &mut Game, pilots: &mut [Pilot<'_>], watcher: &mut 
 /// Does the update after the turns of a cycle, if one is due. Reports whether that decides the match.
 fn update_after<W: Watcher>(arena: &mut Arena, watcher: &mut W, cycle: u32) -> bool
     requires updates { arena.old.updates < most_updates }
+    requires counts { arena.old.updates ≡ (cycle - 1) / UPDATE_CYCLES }
+    requires some { 0 < cycle }
     ensures battle { (codes : List Program) (robots : List Behaviour) (s : BattleState) (seats : List Pilot) (before : ℕ)
         → cycle ≡ before + 1 → HasEnded codes robots s before seats arena.old arena.new result }
     ensures manned { length arena.new.robots ≡ length arena.old.robots }
     ensures due { cycle % UPDATE_CYCLES ≡ 0 → arena.new.updates ≡ arena.old.updates + 1 }
     ensures between { cycle % UPDATE_CYCLES ≢ 0 → (arena.new.updates ≡ arena.old.updates) × (result ≡ false) }
+    ensures told { (f : Field) (sights : List Sight) → RepresentsField arena.old f → W.told watcher.old sights
+        → W.told watcher.new (sights ++ update_sights cycle f) }
 {
     cycle % UPDATE_CYCLES == 0 && decides(arena, watcher, cycle)
 }
@@ -235,6 +258,9 @@ fn turns<W: Watcher>(pilots: &mut [Pilot<'_>], arena: &mut Arena, watcher: &mut 
     ensures codes { codes_of pilots.new ≡ codes_of pilots.old }
     ensures robots { length arena.new.robots ≡ length arena.old.robots }
     ensures updates { arena.new.updates ≡ arena.old.updates }
+    ensures told { (robots : List Behaviour) (s : BattleState) (sights : List Sight)
+        → AreRobotsOf (exes_of (codes_of pilots.old)) robots → HavePlayed (codes_of pilots.old) pilots.old arena.old s
+        → W.told watcher.old sights → W.told watcher.new (sights ++ turns_sights robots cycle s (length robots)) }
 {
     for robot in 0..pilots.len() {
         pilots[robot].turn(Turn { cycle, robot }, arena, watcher);
@@ -244,9 +270,12 @@ fn turns<W: Watcher>(pilots: &mut [Pilot<'_>], arena: &mut Arena, watcher: &mut 
 /// Does the update after a cycle. Reports whether it decides the match: at most one robot lives.
 fn decides<W: Watcher>(arena: &mut Arena, watcher: &mut W, cycle: u32) -> bool
     requires most { arena.old.updates < most_updates }
+    requires cycle { cycle ≡ (arena.old.updates + 1) * UPDATE_CYCLES }
     ensures stands { (f : Field) → RepresentsField arena.old f → HaveUpdated f arena.new result }
     ensures robots { length arena.new.robots ≡ length arena.old.robots }
     ensures updates { arena.new.updates ≡ arena.old.updates + 1 }
+    ensures told { (f : Field) (sights : List Sight) → RepresentsField arena.old f → W.told watcher.old sights
+        → W.told watcher.new (sights ++ Updates cycle f ∷ Updated cycle (moved f) ∷ []) }
 {
     watcher.updates(cycle, arena);
     arena.update();

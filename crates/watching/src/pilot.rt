@@ -1,12 +1,16 @@
 //! Pilots: a robot's program with the machine that runs it.
 
-ghost use Rattle.std.specs.Prelude.{◌≡◌, ◌==◌, ◌<◌, ◌≤◌, if◌then◌else◌, ℤ, List, [], IfOk, false, length, true};
+ghost use Rattle.std.specs.Prelude.{◌≡◌, ◌==◌, ◌<◌, ◌≤◌, ◌++◌, ◌∷◌, if◌then◌else◌, ℤ, List, [], IfOk, false, length, true};
 ghost use Rattle.arena.specs.Arena.{is_live};
-ghost use Rattle.code.specs.Machine.{want_code};
+ghost use Rattle.arena.specs.Field.{Field};
+ghost use Rattle.arena.specs.Representing.{RepresentsField};
+ghost use Rattle.code.specs.Machine.{want_code, want_next};
+ghost use Rattle.code.specs.declared.want.Want.TheVariants as want;
 ghost use Rattle.code.specs.ReachedMachines.{IsReachable, IsReached};
 ghost use Rattle.battles.specs.Pairing.{paired};
 ghost use Rattle.watching.specs.Pilot.{IsOfSameUpdate, TakesTurn};
 ghost use Rattle.watching.specs.Played.{codes_of};
+ghost use Rattle.watching.specs.Sights.{Restarts, Sight, turn_sights};
 
 use crate::watcher::{Exchange, Turn, Watcher};
 use arena::{Arena, MOST_ROBOTS};
@@ -78,6 +82,9 @@ impl<'a> Pilot<'a> {
             → TakesTurn self.old.code turn.robot trace (want_code self.old.code trace) self.new.state
             arena.old arena.new }
         ensures field { IsOfSameUpdate arena.old arena.new }
+        ensures told { (sights : List Sight) (f : Field) (trace : List ℤ) → RepresentsField arena.old f
+            → IsReached self.old.state self.old.code trace → W.told watcher.old sights
+            → W.told watcher.new (sights ++ turn_sights turn.cycle turn.robot (want_code self.old.code trace) f trace) }
     {
         if !arena.alive(turn.robot) {
             return;
@@ -101,8 +108,11 @@ impl<'a> Pilot<'a> {
 
     /// Restarts the machine, and reports the cause to the watcher.
     fn restart<W: Watcher>(&mut self, turn: Turn, watcher: &mut W)
+        requires { want_next self.old.code self.old.state ≡ want.Restart }
         ensures program { self.new.code ≡ self.old.code }
         ensures restarts { IsReached self.new.state self.old.code [] }
+        ensures told { (sights : List Sight) → W.told watcher.old sights
+            → W.told watcher.new (sights ++ Restarts turn.cycle turn.robot ∷ []) }
     {
         if let Some(cause) = self.machine.cause(self.program) {
             watcher.restarts(turn, self, cause);

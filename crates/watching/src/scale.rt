@@ -1,6 +1,7 @@
 //! The scales of the picture: where a place or a cycle is drawn, and how faint what is old.
 
-ghost use Rattle.std.specs.Prelude.{◌≡◌, ◌+◌, ◌-◌, ◌*◌, ◌/◌, ◌≤◌, IfSome, min, max};
+ghost use Rattle.std.specs.Prelude.{◌≡◌, ℕ, ◌+◌, ◌-◌, ◌*◌, ◌/◌, ◌≤◌, IfSome, None, min, max};
+ghost use Rattle.watching.specs.Rounds.{AreTooMany, IsFirstOf, round_number};
 
 use crate::places::Place;
 use arena::LAST_METRE;
@@ -73,14 +74,16 @@ pub fn strip_row(percent: u8) -> u32
     STRIP_TOP + STRIP_PERCENT * (100 - u32::from(percent.min(100)))
 }
 
-/// Returns a round number of cycles, so that marks at its multiples are few: at most `most` beside the one at 0.
+/// Returns the least round number of cycles with which marks at its multiples are few: at most `most` beside the one
+/// at 0.
 pub fn mark_spacing(cycles: u32, most: u32) -> u32
     requires { 1 ≤ most }
     ensures some { 1 ≤ result }
     ensures few { cycles / result ≤ most }
+    ensures least { (k : ℕ) → cycles / round_number k ≤ most → result ≤ round_number k }
 {
     let mut power = 1u32;
-    for _ in 0..9 {
+    for _ in 0..10u32 {
         if let Some(spacing) = round_spacing(cycles, most, power) {
             return spacing;
         }
@@ -92,7 +95,9 @@ pub fn mark_spacing(cycles: u32, most: u32) -> u32
 /// Returns the first number that is wide enough of a power of ten, twice and five times as much.
 fn round_spacing(cycles: u32, most: u32, power: u32) -> Option<u32>
     requires { 1 ≤ power }
-    ensures { IfSome result (λ spacing. (1 ≤ spacing) × (cycles / spacing ≤ most)) }
+    ensures some { IfSome result (λ spacing. (1 ≤ spacing) × (cycles / spacing ≤ most)) }
+    ensures first { IfSome result (IsFirstOf power cycles most) }
+    ensures none { result ≡ None → AreTooMany power cycles most }
 {
     let (twice, five_times) = (power.saturating_mul(2), power.saturating_mul(5));
     if cycles / power <= most {

@@ -7,7 +7,7 @@ ghost use Rattle.code.specs.Generation.{Program};
 ghost use Rattle.code.specs.declared.want.Want.TheVariants.{Ask};
 ghost use Rattle.watching.specs.Games.{GoesOn, HasCome};
 ghost use Rattle.watching.specs.Played.{codes_of, exes_of};
-ghost use Rattle.watching.specs.Searches.{Happens, IsGlanced, IsOneCall, Seems, value_of};
+ghost use Rattle.watching.specs.Searches.{Happens, IsGlanced, IsOneLife, Seems, value_of};
 
 use crate::asked::{top_word, wanted};
 use crate::games::Game;
@@ -36,7 +36,8 @@ pub enum Sought<'a> {
     /// A variable has this value after the cycle.
     Value(Var, i32),
     /// The variable of this number of the function whose addresses are marked has another value after the cycle than
-    /// before it, in one call of the function: the instructions before and after the cycle are both in it.
+    /// before it, in one life of the function's variables: the instructions before and after the cycle are both in it,
+    /// and the variables begin at the same word. Those of `main` live on when it restarts, and are 0 then.
     LocalChange(&'a [bool], u8),
     /// After the cycle the next instruction is in the function whose addresses are marked, and its variable of this
     /// number has this value.
@@ -152,7 +153,7 @@ fn shows(sought: &Sought<'_>, before: &Glance, after: &Glance, is_hit: bool) -> 
         Sought::Change(_) => after.value != before.value,
         Sought::Value(_, value) => after.value == value,
         Sought::LocalChange(marks, _) => {
-            is_one_call(marks, before, after) && after.value != before.value
+            is_one_life(marks, before, after) && after.value != before.value
         }
         Sought::LocalValue(marks, _, value) => {
             is_marked(marks, after.address) && after.value == value
@@ -160,10 +161,10 @@ fn shows(sought: &Sought<'_>, before: &Glance, after: &Glance, is_hit: bool) -> 
     }
 }
 
-/// Reports whether the instructions of two glances are both marked, in one call of a function.
-fn is_one_call(marks: &[bool], before: &Glance, after: &Glance) -> bool
-    ensures yes { result ≡ true → IsOneCall marks.now before.now.address before.now.home after.now.address after.now.home }
-    ensures no { IsOneCall marks.now before.now.address before.now.home after.now.address after.now.home → result ≡ true }
+/// Reports whether the instructions of two glances are both marked, in one life of a function's variables.
+fn is_one_life(marks: &[bool], before: &Glance, after: &Glance) -> bool
+    ensures yes { result ≡ true → IsOneLife marks.now before.now.address before.now.home after.now.address after.now.home }
+    ensures no { IsOneLife marks.now before.now.address before.now.home after.now.address after.now.home → result ≡ true }
 {
     is_marked(marks, before.address) && is_marked(marks, after.address) && before.home == after.home
 }

@@ -1,9 +1,18 @@
 //! Watchers: what sees a match as it is played.
 
-ghost use Rattle.std.specs.Prelude.{◌<◌, ◌≤◌, length};
+ghost use Rattle.std.specs.Prelude.{◌≡◌, ◌<◌, ◌≤◌, ◌+◌, ◌*◌, ◌++◌, ◌∷◌, [], ℤ, Bool, List, Some, length, true};
+ghost use Rattle.arena.specs.Arena.{Arena};
+ghost use Rattle.arena.specs.Field.{Field};
+ghost use Rattle.arena.specs.Representing.{Answers, RepresentsField};
+ghost use Rattle.code.specs.Causes.{cause_next};
+ghost use Rattle.code.specs.Machine.{want_next};
+ghost use Rattle.code.specs.ReachedMachines.{IsReached};
+ghost use Rattle.code.specs.declared.want.Want.TheVariants.{Ask};
+ghost use Rattle.watching.specs.Sights.{Asks, Begins, Restarts, Runs, Sight, Updated, Updates};
 
 use crate::pilot::Pilot;
 use arena::Arena;
+use battles::UPDATE_CYCLES;
 use code::{Cause, Intrinsic};
 use settings::MOST_CYCLES;
 
@@ -36,63 +45,77 @@ pub fn word_of(cause: Cause) -> &'static str {
     }
 }
 
-/// What sees a match as it is played. A call that isn't written does nothing.
+/// What sees a match as it is played.
+///
+/// `told` says whether a watcher may have been told these sights, in this order: each call tells it one more. It holds
+/// always for a watcher of which nothing is to be proved. `asks_more` says whether the match is to go on.
 pub trait Watcher {
+    ghost told: { Self → List Sight → Type 0 } = { λ _ _. Unit {0} };
+
+    ghost asks_more: { Self → Bool } = { λ _. true };
+
     /// The match begins: the robots have their places.
-    fn begins(&mut self, arena: &Arena) {}
+    fn begins(&mut self, arena: &Arena)
+        ensures { (sights : List Sight) (f : Field) → RepresentsField arena.now f → told self.old sights
+            → told self.new (sights ++ Begins f ∷ []) };
 
     /// A live robot is about to run a cycle.
-    fn turn(&mut self, turn: Turn, pilot: &Pilot<'_>) {}
+    fn turn(&mut self, turn: Turn, pilot: &Pilot<'_>)
+        ensures { (sights : List Sight) (trace : List ℤ) → IsReached pilot.now.state pilot.now.code trace
+            → told self.old sights → told self.new (sights ++ Runs turn.cycle turn.robot trace ∷ []) };
 
-    /// In its turn a robot has asked the field. Its machine doesn't have the reply yet. If this isn't written, it
-    /// passes on shots and scans.
+    /// In its turn a robot has asked the field. Its machine doesn't have the reply yet.
     fn asked(&mut self, turn: Turn, pilot: &Pilot<'_>, question: Exchange, arena: &Arena)
         requires inside { turn.robot < length arena.now.robots }
         requires cycle { turn.cycle ≤ MOST_CYCLES }
-    {
-        match question.intrinsic {
-            Intrinsic::Cannon => self.shot(turn, question, arena),
-            Intrinsic::Scan => self.scanned(turn, question),
-            Intrinsic::Drive
-            | Intrinsic::Damage
-            | Intrinsic::Speed
-            | Intrinsic::LocX
-            | Intrinsic::LocY
-            | Intrinsic::Rand
-            | Intrinsic::Sqrt
-            | Intrinsic::Sin
-            | Intrinsic::Cos
-            | Intrinsic::Tan
-            | Intrinsic::Atan => {}
-        }
-    }
-
-    /// In its turn a robot has called `cannon`. The shot may be refused.
-    fn shot(&mut self, turn: Turn, question: Exchange, arena: &Arena)
-        requires inside { turn.robot < length arena.now.robots }
-        requires cycle { turn.cycle ≤ MOST_CYCLES }
-    {}
-
-    /// In its turn a robot has called `scan`.
-    fn scanned(&mut self, turn: Turn, question: Exchange) {}
+        requires asks { want_next pilot.now.code pilot.now.state ≡ Ask question.intrinsic question.arguments }
+        requires answers { (before : Arena) × Answers before arena.now turn.robot question.intrinsic question.arguments
+            question.reply }
+        ensures { (sights : List Sight) (f : Field) → RepresentsField arena.now f → told self.old sights
+            → told self.new (sights ++ Asks turn.cycle turn.robot question.intrinsic question.arguments question.reply f
+            ∷ []) };
 
     /// In its turn a robot is about to restart.
-    fn restarts(&mut self, turn: Turn, pilot: &Pilot<'_>, cause: Cause) {}
+    fn restarts(&mut self, turn: Turn, pilot: &Pilot<'_>, cause: Cause)
+        requires { cause_next pilot.now.code pilot.now.state ≡ Some cause }
+        ensures { (sights : List Sight) → told self.old sights
+            → told self.new (sights ++ Restarts turn.cycle turn.robot ∷ []) };
 
     /// The update after this cycle is about to be done.
-    fn updates(&mut self, cycle: u32, arena: &Arena) {}
+    fn updates(&mut self, cycle: u32, arena: &Arena)
+        requires { cycle ≡ (arena.now.updates + 1) * UPDATE_CYCLES }
+        ensures { (sights : List Sight) (f : Field) → RepresentsField arena.now f → told self.old sights
+            → told self.new (sights ++ Updates cycle f ∷ []) };
 
     /// The update after this cycle is done.
-    fn updated(&mut self, cycle: u32, arena: &Arena) {}
+    fn updated(&mut self, cycle: u32, arena: &Arena)
+        requires { cycle ≡ arena.now.updates * UPDATE_CYCLES }
+        ensures { (sights : List Sight) (f : Field) → RepresentsField arena.now f → told self.old sights
+            → told self.new (sights ++ Updated cycle f ∷ []) };
 
     /// Reports whether the match is to go on after an update. It is stopped if not.
-    fn wants_more(&self) -> bool {
-        true
-    }
+    fn wants_more(&self) -> bool
+        ensures { result ≡ asks_more self.now };
 }
 
 /// A watcher that does nothing.
 #[derive(Drop)]
 pub struct Nobody;
 
-impl Watcher for Nobody {}
+impl Watcher for Nobody {
+    fn begins(&mut self, _: &Arena) {}
+
+    fn turn(&mut self, _: Turn, _: &Pilot<'_>) {}
+
+    fn asked(&mut self, _: Turn, _: &Pilot<'_>, _: Exchange, _: &Arena) {}
+
+    fn restarts(&mut self, _: Turn, _: &Pilot<'_>, _: Cause) {}
+
+    fn updates(&mut self, _: u32, _: &Arena) {}
+
+    fn updated(&mut self, _: u32, _: &Arena) {}
+
+    fn wants_more(&self) -> bool {
+        true
+    }
+}

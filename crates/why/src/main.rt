@@ -1,6 +1,9 @@
 //! Says what is wrong with robots' sources, in words for beginners: where, what fits there, and what may be meant.
 #![tactic(auto)]
 
+ghost use Rattle.std.specs.Prelude.{◌≡◌, Err};
+ghost use Rattle.grammar.specs.Compiled.{compiled};
+
 mod parts;
 mod recoveries;
 mod room_warnings;
@@ -137,7 +140,9 @@ fn tell_fault(
     file: &SourceFile<'_>,
     tokens: &[Located],
     fault: &Diagnostic,
-) -> Result<(), Fault> {
+) -> Result<(), Fault>
+    requires { compiled file.now.profile file.now.source.now ≡ Err fault.now }
+{
     if wish.lint {
         let warnings = warnings_before(tokens, file.profile, fault);
         tell_warnings(output, file, tokens, &warnings)?;

@@ -3,7 +3,7 @@
 use crate::parts::{PartKind, part_at};
 use crate::source_files::SourceFile;
 use derivations::{Located, compile, locate};
-use explanations::{explain, fault_token};
+use explanations::{explain_left, fault_token};
 use grammar::{Code, Diagnostic, ParseFault, Profile};
 use std::alloc::{AllocError, Global};
 use tokens::{MemoryFeed, Token, WINDOW_BYTES};
@@ -137,7 +137,7 @@ impl Rest {
         lines: Lines,
     ) -> Result<(), AllocError> {
         let tokens = locate(self.alloc, self.bytes.as_slice())?;
-        let note = explain(file.source, tokens.as_slice(), self.profile, fault);
+        let note = explain_left(file.source, tokens.as_slice(), self.profile, fault);
         let mut draft = Draft::new(self.alloc);
         draft.add(file.path);
         draft.add(":");

@@ -112,12 +112,55 @@ fn constants_are_counted(rt: HostRuntime) -> Result<(), Fail> {
     check_most(&rt, Profile::first(), "a=", 448)
 }
 
+/// Makes a source of 255 statements of eight assignments, and of one with the given number of assignments.
+fn assigned_operations(alloc: Global, assigned: u16) -> Result<String, AllocError> {
+    let mut source = String::new(alloc);
+    source.push_str("main(){int a,b;")?;
+    for number in 0..255 {
+        write!(source, "a=b=a=b=a=b=a=b={number};")?;
+    }
+    for _ in 0..assigned {
+        source.push_str("a=")?;
+    }
+    source.push_str("5;}")?;
+    Ok(source)
+}
+
 // A program may have 2,048 operations. Each statement of eight assignments has ten instructions, `CONST`, eight times
 // `STORE` and `CHOP`, and eight operations. After them are two more: one counts their cycles, and one returns. So 255
-// statements make 2,042 of them, and 256 make 2,050.
+// statements make 2,042 of them, and six more assignments make 2,048.
 #[test]
 fn operations_are_counted(rt: HostRuntime) -> Result<(), Fail> {
-    check_most(&rt, Profile::second(), "a=b=a=b=a=b=a=b=", 255)
+    for (assigned, want) in [(6, true), (7, false)] {
+        let source = assigned_operations(rt.alloc(), assigned)?;
+        let found = is_translated(Profile::second(), source.as_bytes())?;
+        assert_eq!(rt; found, want, "{assigned} assignments more");
+    }
+    Ok(())
+}
+
+/// Makes a source that passes the given number of constants, at least one, to a function that has variables of its own.
+fn passing(alloc: Global, passed: u16) -> Result<String, AllocError> {
+    let mut source = String::new(alloc);
+    source.push_str("f(){} main(){int a,b,c,d; f(1")?;
+    for _ in 1..passed {
+        source.push_str(",1")?;
+    }
+    source.push_str(");}")?;
+    Ok(source)
+}
+
+// A function's run may have 256 words: here four variables, and 252 arguments.
+#[test]
+fn words_are_counted(rt: HostRuntime) -> Result<(), Fail> {
+    for profile in [Profile::first(), Profile::second()] {
+        for (passed, want) in [(252, true), (253, false)] {
+            let source = passing(rt.alloc(), passed)?;
+            let found = is_translated(profile, source.as_bytes())?;
+            assert_eq!(rt; found, want, "{passed} arguments");
+        }
+    }
+    Ok(())
 }
 
 #[test]

@@ -1,4 +1,4 @@
-use Rattle.std.proofs.Common.{◌≡◌, List, ℕ, Ok, Some, map, Bor, ap, sym, ◌∙◌, ◌≢◌, rules}
+use Rattle.std.proofs.Common.{◌≡◌, List, ℕ, IsSome, Ok, Some, map, Bor, ap, refl, sym, ◌∙◌, ◌≢◌, rules}
 use Rattle.series.specs.Compiling.{SourceFile}
 use Rattle.series.specs.Pieces.{Taken, on_both}
 use Rattle.series.specs.CompiledFiles.{Compiles}
@@ -6,7 +6,7 @@ use Rattle.settings.specs.Settings.{Settings}
 use Rattle.page.specs.declared.films.Shown.TheVariants.{Faulty}
 use Rattle.page.specs.Films.{stretch_in}
 use Rattle.page.specs.Sheets.{contents_of}
-use Rattle.page.proofs.FilmLemmas.{CompilesRobots, codes_good, films_faulty, films_good, films_taken}
+use Rattle.page.proofs.FilmLemmas.{CompilesRobots, codes_good, films_faulty, films_good, films_taken, one_is_full}
 use Rattle.page.proofs.RunningLemmas.{by_robots}
 use Rattle.page.proofs.filming.tell_robots.Goals as goal
 use Rattle.page.proofs.filming.tell_robots.Goals.{in-Listing, in-Matches}
@@ -45,19 +45,19 @@ returns-clause-films c =
     c.in_ok-settings.ensures.value (rw c.as_slice.ensures.value c.in_ok-words.ensures.names)
     (rw c.as_mut_slice.ensures.value c.in_ok-feeds.ensures.bytes)
     c.clear.ensures.text c.clear-2.ensures.text c.compile_feeds.ensures.output in
-    films_taken order robots (stretch_in c.args.subject.now) c.taken.result c.match-mode.shown c.taken.new.sheet faults
-    c.taken.ensures.shown c.taken.ensures.full
+    films_taken order robots (stretch_in c.args.subject.now) c.taken.result c.match-mode.shown c.match-mode.film faults
+    c.taken.ensures.shown c.taken.ensures.stopped
     (λ whole same room. elim c.match-mode.branch [
       | in-Listing w ↦
           let some : whole ≢ Faulty = λ is. absurd (cc (w.shown-is, w.list_places.ensures, same, is)) in
           let mode = ap (λ (s : Settings). s.mode) c.in_ok-settings.ensures.value in
-          films_good order robots (stretch_in c.args.subject.now) c.compile_feeds.result programs text c.taken.new.sheet
+          films_good order robots (stretch_in c.args.subject.now) c.compile_feeds.result programs text c.match-mode.film
           faults whole
           some
           good compiled room (λ matches files found. absurd (cc (w.in-Listing.is, c.mode.ensures.value, mode, matches)))
       | in-Matches w ↦
           let is = sym w.shown-is ∙ same in
-          films_good order robots (stretch_in c.args.subject.now) c.compile_feeds.result programs text c.taken.new.sheet
+          films_good order robots (stretch_in c.args.subject.now) c.compile_feeds.result programs text c.match-mode.film
           faults whole
           (rw is at w.tell_match-shown.ensures.made) good compiled room
           (λ matches files found.
@@ -68,3 +68,11 @@ returns-clause-films c =
           rw (is, c.in_ok-settings.ensures.value) at
           (w.tell_match-shown.ensures.shows files (rw c.in_ok-settings.ensures.value are)))
     ])
+
+pub returns-clause-full : goal.returns-clause-full
+returns-clause-full c = λ inside.
+    let some : IsSome c.match-mode.shown = elim c.match-mode.branch [
+      | in-Listing w ↦ rw w.shown-is refl
+      | in-Matches w ↦ rw w.shown-is (w.tell_match-shown.ensures.inside inside)
+    ] in
+    one_is_full c.taken.result c.match-mode.film _ (c.taken.ensures.full some)

@@ -1,7 +1,8 @@
-use Rattle.std.proofs.Common.{◌≡◌, List, length}
+use Rattle.std.proofs.Common.{◌≡◌, ◌++◌, List, length}
 use Rattle.battles.specs.Battle.{Behaviour, BattleState, turns}
 use Rattle.battles.specs.Carrying.{AreRobotsOf}
 use Rattle.watching.specs.Played.{HavePlayed, codes_of, exes_of}
+use Rattle.watching.specs.Sights.{Sight, turns_sights}
 use Rattle.watching.proofs.games.turns.Given as goal
 
 -- the robots so far have had their turns, in a field that has the same robots and did no update
@@ -14,4 +15,9 @@ invariant-loop-robot g l = record {
   state : (robots : List Behaviour) (s : BattleState) → AreRobotsOf (exes_of (codes_of l.initial.pilots)) robots
       → HavePlayed (codes_of l.initial.pilots) l.initial.pilots l.initial.arena s
       → HavePlayed (codes_of l.initial.pilots) l.pilots l.arena (turns robots l.robot s);
+  told : (robots : List Behaviour) (s : BattleState) (sights : List Sight)
+      → AreRobotsOf (exes_of (codes_of l.initial.pilots)) robots
+      → HavePlayed (codes_of l.initial.pilots) l.initial.pilots l.initial.arena s
+      → g.W.Watcher.told l.initial.watcher sights
+      → g.W.Watcher.told l.watcher (sights ++ turns_sights robots l.cycle s l.robot);
 }

@@ -1,6 +1,8 @@
-use Rattle.std.proofs.Common.{◌≡◌, ◌+◌, ◌∙◌, ap, false, refl}
+use Rattle.std.proofs.Common.{◌≡◌, ◌+◌, ◌∙◌, ◌++◌, ap, false, refl, subst, sym}
+use Rattle.arena.specs.Representing.{RepresentsField}
 use Rattle.watching.specs.Games.{Game, HaveTakenTurns, IsCounted}
 use Rattle.watching.specs.contracts.games.Game.{the_view}
+use Rattle.watching.specs.Sights.{update_sights}
 use Rattle.watching.proofs.Playing.{comes_on}
 use Rattle.watching.proofs.games.Game.end_cycle.Goals as goal
 
@@ -17,3 +19,11 @@ returns-clause-battle g c = λ codes robots s seats turned.
       limit = old.limit;
     })) c.update_after-is_decided.result (counted.goes_on on) on refl refl c.is_last.ensures
     (c.update_after-is_decided.ensures.battle codes robots s seats old.ending.cycles refl) before
+
+pub returns-clause-told : goal.returns-clause-told
+returns-clause-told g c = λ f sights stands told.
+    let here : RepresentsField (the_view c.self.inside).arena f =
+    subst (λ (game : Game). RepresentsField game.arena f) (sym c.self.view_is) stands in
+    subst (λ (game : Game). g.W.Watcher.told c.update_after-is_decided.new.watcher
+    (sights ++ update_sights (game.ending.cycles + 1) f)) c.self.view_is
+    (c.update_after-is_decided.ensures.told f sights here told)

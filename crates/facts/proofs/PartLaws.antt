@@ -1,0 +1,48 @@
+-- The parts of a robot, as their lists grow.
+use Rattle.std.specs.Prelude.{ℕ, ◌+◌, ◌≡◌, ◌<◌, ◌≤◌, List, [], ◌∷◌, ◌++◌, Some, length, map, set, slice_index_or, take}
+use Rattle.std.proofs.Common.{ap, refl, sym, ◌∙◌}
+use Rattle.std.proofs.lemmas.List.{get_or-map, map-append, map-set, set-get_or, take_all, take_more}
+use Rattle.cycles.specs.declared.counted.Counted.TheVariants.{Questions}
+use Rattle.cycles.specs.declared.sources.SourceSpans.{SourceSpans}
+use Rattle.cycles.specs.Files.{AreSpansOf}
+use Rattle.grammar.specs.Profile.{Profile}
+use Rattle.facts.specs.declared.facts.Part.{Part}
+use Rattle.facts.specs.Facts.{Cycles, HasParts, cycles_of_run, cycles_of_turn, cycles_told}
+
+module _ {X : Type 0} (of : X → Cycles) where
+  -- one more
+  pub listed_more : (parts more : List Part) (told : List X) (i : ℕ) (x : X) (part : Part) → more ≡ parts ++ part ∷ [] →
+      i < length told → x ≡ slice_index_or told i x → cycles_told part ≡ of x →
+      map cycles_told parts ≡ map of (take i told) → map cycles_told more ≡ map of (take (i + 1) told)
+  listed_more parts more told i x part added less is same before =
+      ap (map cycles_told) added ∙ map-append cycles_told parts (part ∷ [])
+      ∙ ap (λ (cs : List Cycles). cs ++ cycles_told part ∷ []) before
+      ∙ ap (λ (c : Cycles). map of (take i told) ++ c ∷ []) (same ∙ ap of is)
+      ∙ sym (map-append of (take i told) (slice_index_or told i x ∷ []))
+      ∙ ap (map of) (sym (take_more told i x less))
+
+  -- all
+  pub listed_all : (parts : List Part) (told : List X) (i : ℕ) → length told ≤ i →
+      map cycles_told parts ≡ map of (take i told) → map cycles_told parts ≡ map of told
+  listed_all parts told i past before = before ∙ ap (map of) (take_all i told past)
+
+-- another part of the same cycles in the same place
+pub same_cycles : (parts old : List Part) (i : ℕ) (part other : Part) → i < length parts →
+    part ≡ slice_index_or parts i part → cycles_told other ≡ cycles_told part →
+    map cycles_told parts ≡ map cycles_told old → map cycles_told (set parts i other) ≡ map cycles_told old
+same_cycles parts old i part other less is same before =
+    map-set cycles_told parts i other
+    ∙ ap (set (map cycles_told parts) i)
+    (same ∙ ap cycles_told is ∙ sym (get_or-map cycles_told parts i part (cycles_told part) less))
+    ∙ set-get_or (map cycles_told parts) i (cycles_told part) ∙ before
+
+-- the parts of a file, by what is told of it
+pub has_parts : (p : Profile) (bytes : List ℕ) (spans : SourceSpans) (functions loops : List Part) →
+    AreSpansOf Questions p (Some bytes) spans → map cycles_told functions ≡ map cycles_of_run spans.runs.items →
+    map cycles_told loops ≡ map cycles_of_turn spans.turns.items → HasParts p bytes functions loops
+has_parts p bytes spans functions loops are runs turns = record {
+  file = are.file;
+  is = are.is bytes refl;
+  runs = runs ∙ ap (map cycles_of_run) are.rows.runs;
+  turns = turns ∙ ap (map cycles_of_turn) are.rows.turns;
+}

@@ -1,0 +1,7 @@
+use Rattle.std.specs.Prelude.{◌≡◌, map, take}
+use Rattle.facts.specs.Facts.{cycles_of_run, cycles_told}
+use Rattle.facts.proofs.facts.Finder.functions.Given as goal
+
+-- the functions so far
+abbrev pub invariant-loop-index : goal.invariant-loop-index
+invariant-loop-index l = map cycles_told l.parts.items ≡ map cycles_of_run (take l.index l.runs)

@@ -1,0 +1,154 @@
+"""Whether the rows of an archive fit each other: robots and their entries, seasons and their days, tables and the chain."""
+
+from __future__ import annotations
+
+from dataclasses import replace
+from typing import Callable, Iterator
+
+from tournaments.ratings import NOTHING
+
+from . import chain
+from .entries import ADD, BEGIN, CHANGE, END, ENTRY, WITHDRAW, corrections, entries
+from .publications import SCALE, every, published, values
+from .seasons import seasons
+from .standings import Standing
+from .store import Store
+
+NEAR = 1e-6
+# Tables whose rows are numbered from 1 on; of publications some may lack.
+NUMBERED = ("entry", "season", "ruling", "correction", "worker", "removal")
+USED = {
+    "robot": ("SELECT id FROM robot WHERE id NOT IN (SELECT robot FROM entry)", "the robot {} never joined"),
+    "source": ("SELECT sha256 FROM source WHERE sha256 NOT IN (SELECT sha256 FROM entry)", "no robot had the source {}"),
+    "worker": ("SELECT name FROM worker WHERE number NOT IN (SELECT worker FROM battle WHERE worker IS NOT NULL UNION "
+               "SELECT worker FROM removed WHERE worker IS NOT NULL)", "no match is from the worker {}"),
+    "seating": ("SELECT number FROM seating WHERE number NOT IN (SELECT seating FROM battle UNION "
+                "SELECT seating FROM removed)", "no match was played of the seating {}"),
+    "removal": ("SELECT number FROM removal WHERE number NOT IN (SELECT removal FROM removed)",
+                "no match was taken back by removal {}"),
+    "standing": ("SELECT DISTINCT publication FROM standing WHERE played != won + tied + lost",
+                 "publication {} has a row whose matches don't add up"),
+}
+
+
+def inconsistent(store: Store) -> Iterator[str]:
+    """All that doesn't fit."""
+    checks: tuple[Callable[[Store], Iterator[str]], ...] = (numbers, unused, histories, days, turns, corrected, chained)
+    for check in checks:
+        yield from check(store)
+
+
+def numbers(store: Store) -> Iterator[str]:
+    """Tables that lack a row, or have one before the first."""
+    for table in NUMBERED:
+        many, first, last = store.one(f"SELECT count(*), min(number), max(number) FROM {table}")
+        if many and (first, last) != (1, many):
+            yield f"{many} rows of {table}.csv are numbered from {first} to {last}"
+
+
+def unused(store: Store) -> Iterator[str]:
+    """Rows that nothing else names."""
+    for query, said in USED.values():
+        yield from (said.format(it) for it, in store.rows(query))
+
+
+def histories(store: Store) -> Iterator[str]:
+    """Entries that can't follow those before: a robot joins once, and only one that plays leaves."""
+    known: set[str] = set()
+    now: dict[str, str] = {}
+    for it in entries(store):
+        may = {ADD: it.robot not in known, CHANGE: it.robot in known and now.get(it.robot) != it.sha256,
+               WITHDRAW: now.get(it.robot) == it.sha256}
+        if not may[it.what]:
+            yield f"entry {it.number} can't be: {it.what} of {it.robot}"
+        known.add(it.robot)
+        now[it.robot] = "" if it.what == WITHDRAW else it.sha256
+
+
+def copies(store: Store) -> Iterator[str]:
+    """Entries whose copy isn't the number of robots that had these bytes before."""
+    had: dict[str, list[str]] = {}
+    for number, robot, sha256, copy in store.rows("SELECT number, robot, sha256, copy FROM entry ORDER BY number"):
+        before = had.setdefault(sha256, [])
+        if robot not in before:
+            before.append(robot)
+        if copy != before.index(robot):
+            yield f"entry {number} has the copy {copy} and not {before.index(robot)}"
+
+
+def days(store: Store) -> Iterator[str]:
+    """Entries that are of an earlier day than the one before."""
+    last = ""
+    for it in entries(store):
+        if it.day < last:
+            yield f"entry {it.number} is of {it.day}, and the one before of {last}"
+        last = it.day
+
+
+def turns(store: Store) -> Iterator[str]:
+    """Seasons that don't follow each other."""
+    them, many = seasons(store), store.one("SELECT count(*) FROM entry")[0]
+    for it in them:
+        if it.ended and not it.begun <= it.ended:
+            yield f"season {it.name} began on {it.begun} and ended on {it.ended}"
+        if not 0 <= it.first_entry <= (many if it.last_entry is None else it.last_entry) <= many:
+            yield f"season {it.name} began with entry {it.first_entry} and ended with entry {it.last_entry}"
+    for one, other in zip(them, them[1:]):
+        if not one.ended or one.ended > other.begun or (one.last_entry or 0) > other.first_entry:
+            yield f"season {other.name} began before season {one.name} ended"
+    for number, count in store.rows("SELECT season, entries FROM ruling WHERE rules != ''"):
+        one = them[number - 1] if 0 < number <= len(them) else them[-1]
+        if not one.first_entry <= count <= (many if one.last_entry is None else one.last_entry):
+            yield f"season {one.name} got other rules when it didn't go on"
+    for number, division in store.rows("SELECT season, division FROM member"):
+        if not 1 <= division <= them[min(number, len(them)) - 1].rules.divisions:
+            yield f"season {number} has no division {division}"
+
+
+def corrected(store: Store) -> Iterator[str]:
+    """Corrections of what isn't there, or wasn't there then."""
+    numbered = {ENTRY: "entry", BEGIN: "season", END: "ending"}
+    many = store.one("SELECT count(*) FROM entry")[0]
+    for it in corrections(store):
+        key = "season" if it.what == END else "number"
+        there = store.one(f"SELECT 1 FROM {numbered[it.what]} WHERE {key} = ?", it.of)
+        if not there or not it.entries <= many or (it.what == ENTRY and not it.of <= it.entries):
+            yield f"there is no {it.what} {it.of} to correct"
+        elif it.day is None and it.what != ENTRY:
+            yield f"the {it.what} of season {it.of} has no day"
+
+
+def chained(store: Store) -> Iterator[str]:
+    """Publications whose hash isn't that of their rows, or that don't name the one before."""
+    found, before = chain.hashes(store), ""
+    for it in every(store):
+        if it.hash:
+            if it.hash != found.pop(it.number, ""):
+                yield f"publication {it.number} of {it.day} has another hash than its rows: something of it was changed"
+            if it.before != before:
+                yield f"publication {it.number} of {it.day} doesn't name the hash of the one before"
+            before = it.hash
+        elif before:
+            yield f"publication {it.number} of {it.day} has no hash"
+    if found and before:
+        yield "there are rows that no publication shows"
+
+
+def last_table(store: Store, table: list[Standing]) -> Iterator[str]:
+    """Rows of the last publication that aren't those of a table."""
+    them = [it for it in every(store) if it.hash]
+    if them:
+        shown, wanted = ({it.robot: it if them[-1].scale == SCALE else replace(it, rating=NOTHING, close=False) for it in rows}
+                         for rows in (published(store, them[-1].number), table))
+        for robot in sorted(shown.keys() | wanted.keys()):
+            if not are_equal(shown.get(robot), wanted.get(robot)):
+                yield f"the last publication has other numbers of {robot} than its results come to"
+
+
+def are_equal(one: Standing | None, other: Standing | None) -> bool:
+    """Reports whether two rows are the same, but for the last digits of ratings, which machines may round otherwise."""
+    if one is None or other is None:
+        return one is other
+    pairs = ((one.rating.value, other.rating.value), (one.rating.low, other.rating.low), (one.rating.high, other.rating.high))
+    bare = (values(replace(it, rating=NOTHING)) for it in (one, other))
+    return next(bare) == next(bare) and all(abs(this - that) < NEAR for this, that in pairs)

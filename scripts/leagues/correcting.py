@@ -1,0 +1,70 @@
+"""The command correct: takes the latest entries back, or gives them another day, or the season. All of it stays in the
+history."""
+
+from __future__ import annotations
+
+import argparse
+
+from tools.faults import Fault
+from tools.output import show
+
+from . import seasons
+from .days import given_day, today
+from .entering import named
+from .entries import BEGIN, END, ENTRY, entries
+from .store import Store, opened
+
+
+def correct(given: argparse.Namespace) -> None:
+    """Puts right what was entered last."""
+    if given.undo == bool(given.to):
+        raise Fault("`correct` takes --to with the right day, or --undo")
+    if given.to and given.to > today() and not given.future:
+        raise Fault(f"{given.to} is in the future; --future takes it")
+    with opened(given.league) as store, store.change():
+        if given.what == ENTRY:
+            said = correct_entries(store, given)
+        elif given.undo or given.last != 1:
+            raise Fault(f"of a season's {given.what} only the day can be corrected")
+        else:
+            said = correct_season(store, given)
+        named(store, seasons.season(store).rules)
+    show(f"{it}\n" for it in said)
+
+
+def correct_entries(store: Store, given: argparse.Namespace) -> list[str]:
+    """Corrects the latest entries."""
+    them = entries(store)
+    chosen, before = them[-given.last:], them[:-given.last]
+    if len(chosen) < given.last:
+        raise Fault(f"there are only {len(chosen)} entries")
+    ended = max([it.last_entry or 0 for it in seasons.seasons(store)])
+    if chosen[0].number <= ended:
+        raise Fault(f"a season ended with entry {ended}, whose table stays")
+    if given.to and before and given.to < before[-1].day:
+        raise Fault(f"the entry before is of {before[-1].day}, so none can be of {given.to}")
+    for it in reversed(chosen):
+        write_down(store, ENTRY, it.number, given)
+    return [f"entry {it.number}, {it.what} of {it.robot}: {f'is of {given.to}' if given.to else 'is taken back'}"
+            for it in chosen]
+
+
+def correct_season(store: Store, given: argparse.Namespace) -> list[str]:
+    """Corrects the day on which the last season began or ended."""
+    it = seasons.season(store)
+    others = [one.ended for one in seasons.seasons(store)[:-1]]
+    inside = [one.day for one in entries(store, it.last_entry)]
+    if given.what == END and not it.ended:
+        raise Fault(f"the season {it.name} goes on")
+    earliest, latest = (max([*others, ""]), it.ended) if given.what == BEGIN else (max([it.begun, *inside]), "")
+    if given.to < earliest or (latest and given.to > latest):
+        raise Fault(f"the {given.what} of season {it.name} can't be on {given.to}")
+    write_down(store, given.what, it.number, given)
+    return [f"season {it.name}: the {given.what} is on {given.to}"]
+
+
+def write_down(store: Store, what: str, of: int, given: argparse.Namespace) -> None:
+    count = store.one("SELECT count(*) FROM entry")[0]
+    columns = "day, what, of, other_day, why, entries, publication"
+    store.run(f"INSERT INTO correction ({columns}) VALUES (?, ?, ?, ?, ?, ?, ?)", given_day(given), what, of,
+              given.to, given.why, count, store.next())

@@ -1,0 +1,54 @@
+"""What the sequential test says of all pairs of a season: as a table, as data, and in short."""
+
+from __future__ import annotations
+
+from collections import Counter
+from typing import Any, Iterator, Sequence
+
+from tournaments.tables import aligned, comma_separated
+
+from .results import Results
+from .schedules import Schedule
+from .sequential import EVEN
+from .verdicts import Told, Verdicts, data, said
+
+HEAD = ["robot", "against", "tested", "won", "even", "lost", "share", "low", "high"]
+# Both robots of a pair by their ids, and what is said from the side of the first one.
+Pair = tuple[str, str, Told]
+
+
+def decided(schedule: Schedule, results: Results) -> Iterator[Pair]:
+    """The pairs in the order of the robots' ids; none if the season has no test."""
+    if schedule.field.rules.sure:
+        verdicts, names = Verdicts(schedule, results), [it.robot for it in schedule.field.robots]
+        found = ((names[pair[0]], names[pair[1]], verdicts.told((pair[0], pair[1]))) for pair in schedule.groups())
+        yield from sorted(((one, other, told) if one < other else (other, one, told.turned) for one, other, told in found if told),
+                          key=lambda it: it[:2])
+
+
+def table(pairs: list[Pair]) -> str:
+    """The pairs in columns, with the verdict in words."""
+    rows = [[one, other, *map(str, counts(it)), *(f"{100 * share:.1f} %" for share in (it.share, it.low, it.high)), said(it, one, other)]
+            for one, other, it in pairs]
+    return aligned([[*HEAD, ""], *rows], (0, 1, len(HEAD)))
+
+
+def comma(pairs: list[Pair]) -> str:
+    """The pairs as comma-separated values."""
+    return comma_separated([[*HEAD, "verdict"], *([one, other, *counts(it), *(f"{share:.4f}" for share in (it.share, it.low, it.high)),
+                                                   data(it)["verdict"]] for one, other, it in pairs)])
+
+
+def counts(it: Told) -> tuple[int, int, int, int]:
+    return it.matches, it.count.won, it.count.even, it.count.lost
+
+
+def everything(pairs: Sequence[Pair]) -> list[dict[str, Any]]:
+    """The pairs for JSON."""
+    return [{"robot": one, "against": other, **dict(zip(HEAD[2:6], counts(it))), **data(it)} for one, other, it in pairs]
+
+
+def in_short(pairs: list[Pair]) -> str:
+    """How many pairs are decided, and how."""
+    many = Counter("even" if it.decision == EVEN else "better" if it.decision else "not decided" for _, _, it in pairs)
+    return f"of {len(pairs)} pairs {many['better']} better, {many['even']} even, {many['not decided']} not decided"

@@ -1,0 +1,79 @@
+"""Robots with the same code: what a source compiles to, without names, and who had it first."""
+
+from __future__ import annotations
+
+import os
+import re
+import subprocess
+from concurrent.futures import ThreadPoolExecutor
+from typing import Iterable, Mapping, NamedTuple, Sequence
+
+from tools.faults import PROGRAM, Fault
+
+from .entries import WITHDRAW, Entry, hashed
+from .store import Store
+
+SCHEMA = """
+CREATE TABLE IF NOT EXISTS code (sha256 TEXT NOT NULL, profile INTEGER NOT NULL, hash TEXT NOT NULL,
+    PRIMARY KEY (sha256, profile)) WITHOUT ROWID"""
+FUNCTION = re.compile(r"^Function \d+ \w+ (vars \d+ at \d+)$", re.MULTILINE)
+
+
+class Compiled(NamedTuple):
+    """What a source compiles to: the hash of its code, or what the program says of its fault."""
+
+    code: str
+    fault: str
+
+
+def compiled(crobots: str, profile: int, path: str) -> Compiled:
+    """Compiles a file."""
+    words = [crobots, "-c", f"-p{profile}", "--", path]
+    try:
+        ran = subprocess.run(words, stdin=subprocess.DEVNULL, capture_output=True, check=False)
+    except OSError as why:
+        raise Fault(f"{crobots} can't be run: {why.strerror}", PROGRAM) from why
+    if ran.returncode not in (0, 1):
+        raise Fault(f"{crobots} -c ended with status {ran.returncode}: {os.fsdecode(ran.stderr).strip()}", PROGRAM)
+    return Compiled("", os.fsdecode(ran.stderr)) if ran.returncode else Compiled(code_of(ran.stdout.decode("utf-8", "replace")), "")
+
+
+def code_of(listing: str) -> str:
+    """The hash of a listing without its names: of functions their places and sizes stay, and all instructions."""
+    head, _, code = listing.partition("\nCode ")
+    return hashed(f"{FUNCTION.findall(head)} {code}".encode())
+
+
+def codes(store: Store, profile: int, crobots: str, sources: Mapping[str, str], jobs: int) -> dict[str, str]:
+    """The code of each source, by the hashes of their bytes and their files. What was compiled before is kept."""
+    store.run(SCHEMA)
+    known = dict(store.rows("SELECT sha256, hash FROM code WHERE profile = ?", profile))
+    new = [it for it in sources if it not in known]
+    with ThreadPoolExecutor(jobs) as pool:
+        found = [*pool.map(lambda it: compiled(crobots, profile, sources[it]), new)]
+    rows = [(sha256, profile, it.code) for sha256, it in zip(new, found) if it.code]
+    store.database.executemany("INSERT OR IGNORE INTO code VALUES (?, ?, ?)", rows)
+    return known | {sha256: code for sha256, _, code in rows}
+
+
+def copied(happened: Sequence[Entry], authors: Mapping[str, str], code: Mapping[str, str]) -> dict[str, str]:
+    """The robots whose last code another author's robot had before, each with the first of these."""
+    first: dict[str, list[Entry]] = {}
+    last: dict[str, Entry] = {}
+    for it in entered(happened):
+        last[it.robot] = it
+        if it.sha256 in code:
+            first.setdefault(code[it.sha256], []).append(it)
+    found: dict[str, str] = {}
+    for robot, own in last.items():
+        had = first.get(code.get(own.sha256, ""), [])
+        mine = next((it.number for it in had if it.robot == robot), 0)
+        others = [it.robot for it in had if it.number < mine and authors[it.robot] and authors[robot]
+                  and authors[it.robot] != authors[robot]]
+        found |= {robot: others[0]} if others else {}
+    return found
+
+
+def entered(happened: Iterable[Entry]) -> Iterable[Entry]:
+    """The entries by which robots got bytes."""
+    return (it for it in happened if it.what != WITHDRAW)

@@ -1,0 +1,71 @@
+"""Databases of the version before, which had no chain of publications: how they become those of this one."""
+
+from __future__ import annotations
+
+import sqlite3
+
+from .schema import SCHEMA, VERSION
+
+BEFORE = 1
+# The tables of the version before, in an order in which rows name only rows before them.
+KEPT = ("robot", "entry", "season", "member", "seating", "battle", "publication", "standing")
+TABLES = """
+CREATE TABLE source (sha256 TEXT PRIMARY KEY, bytes BLOB NOT NULL) WITHOUT ROWID;
+CREATE TABLE robot (id TEXT PRIMARY KEY, author TEXT NOT NULL) WITHOUT ROWID;
+CREATE TABLE entry (number INTEGER PRIMARY KEY, day TEXT NOT NULL, what TEXT NOT NULL, robot TEXT NOT NULL,
+    sha256 TEXT NOT NULL, copy INTEGER NOT NULL);
+CREATE TABLE season (number INTEGER PRIMARY KEY, name TEXT NOT NULL, begun TEXT NOT NULL, ended TEXT,
+    first_entry INTEGER NOT NULL, last_entry INTEGER, rules TEXT NOT NULL);
+CREATE TABLE member (season INTEGER NOT NULL, robot TEXT NOT NULL, division INTEGER NOT NULL);
+CREATE TABLE seating (number INTEGER PRIMARY KEY, hashes TEXT NOT NULL, seed TEXT NOT NULL, cycles INTEGER NOT NULL,
+    profile INTEGER NOT NULL, program TEXT NOT NULL);
+CREATE TABLE battle (seating INTEGER NOT NULL, number INTEGER NOT NULL, cycles INTEGER NOT NULL,
+    damage1 INTEGER NOT NULL, damage2 INTEGER NOT NULL, damage3 INTEGER, damage4 INTEGER, day TEXT NOT NULL);
+CREATE TABLE publication (number INTEGER PRIMARY KEY, season INTEGER NOT NULL, day TEXT NOT NULL,
+    final INTEGER NOT NULL);
+CREATE TABLE standing (publication INTEGER NOT NULL, robot TEXT NOT NULL, sha256 TEXT NOT NULL,
+    division INTEGER NOT NULL, rank INTEGER NOT NULL, played INTEGER NOT NULL, won INTEGER NOT NULL,
+    tied INTEGER NOT NULL, lost INTEGER NOT NULL, points TEXT NOT NULL, rating REAL NOT NULL, low REAL NOT NULL,
+    high REAL NOT NULL);
+"""
+# What was there is shown first by the next publication. Which rules a season had before, and how much was missing when
+# it ended, isn't known.
+NEXT = "(SELECT coalesce(max(number), 0) + 1 FROM old_publication)"
+MOVES = f"""
+INSERT INTO source SELECT sha256, bytes FROM old_source;
+INSERT INTO robot SELECT id, author, {NEXT} FROM old_robot;
+INSERT INTO entry SELECT number, day, what, robot, sha256, copy, {NEXT} FROM old_entry;
+INSERT INTO season SELECT number, name, begun, first_entry, rules, {NEXT} FROM old_season;
+INSERT INTO ruling SELECT number, begun, number, first_entry, '', {NEXT} FROM old_season;
+INSERT INTO ending SELECT number, ended, last_entry, NULL, {NEXT} FROM old_season WHERE ended IS NOT NULL;
+INSERT INTO member SELECT season, robot, division, {NEXT} FROM old_member;
+INSERT INTO seating SELECT number, hashes, seed, cycles, profile, program, {NEXT} FROM old_seating;
+INSERT INTO battle SELECT seating, number, cycles, damage1, damage2, damage3, damage4, day, NULL, {NEXT}
+    FROM old_battle;
+INSERT INTO publication SELECT number, season, day, final, NULL, 1, '', '' FROM old_publication;
+INSERT INTO standing SELECT publication, robot, sha256, division, rank, played, won, tied, lost, points, rating, low,
+    high, NULL FROM old_standing;
+"""
+
+
+def renew(database: sqlite3.Connection) -> None:
+    """Makes a database of the version before one of this version, in one piece; another one stays as it is."""
+    database.execute("PRAGMA foreign_keys = OFF")
+    database.execute("BEGIN IMMEDIATE")
+    try:
+        if database.execute("PRAGMA user_version").fetchone()[0] == BEFORE:
+            moved(database)
+    except BaseException:
+        database.execute("ROLLBACK")
+        raise
+    database.execute("COMMIT")
+    database.execute("PRAGMA foreign_keys = ON")
+
+
+def moved(database: sqlite3.Connection) -> None:
+    """Moves all rows into tables of this version."""
+    tables = ("source", *KEPT)
+    renaming = (f"ALTER TABLE {it} RENAME TO old_{it}" for it in tables)
+    removing = (f"DROP TABLE old_{it}" for it in reversed(tables))
+    for statement in (*renaming, *SCHEMA.split(";\n"), *MOVES.split(";\n"), *removing, f"PRAGMA user_version = {VERSION}"):
+        database.execute(statement)

@@ -1,0 +1,89 @@
+"""What the site's script shows, as data: the names of all robots, and of each robot its source and its pairs.
+
+They are scripts that hand in JSON, since a page that is opened from a file can't read other files. A robot's data don't depend on the
+table. So they stay as they are until it plays again."""
+
+from __future__ import annotations
+
+import json
+from typing import Any, Iterator, Sequence
+
+from . import places, sources
+from .addresses import is_page
+from .battles import Replays
+from .facts import Battle, Notable, Pair, Robot, RobotId, Score
+from .lookups import Lookup
+from .names import file_name, named, shown
+from .verdicts import verdict
+
+# The kinds of matches that are worth a look, as the bits of a number.
+WHAT = ("closest", "shortest", "longest", "greatest upset")
+
+
+def handed(name: str, value: str) -> str:
+    """A script that hands in a value, as JSON."""
+    return f"site.take({written(name)}, {value});\n"
+
+
+def written(value: Any) -> str:
+    """JSON that is ASCII, so a script in any encoding reads the same. What can't be shown was replaced before."""
+    return json.dumps(value, separators=(",", ":"))
+
+
+def names(lookup: Lookup) -> str:
+    """The robots in the order of the table, those without a row last; and what all matches have in common."""
+    facts = lookup.facts
+    said = {"limit": facts.settings.cycles, "profile": facts.settings.profile, "page": facts.page if is_page(facts.page) else ""}
+    rows = [written([file_name(it.id), named(it.name)]) for it in sorted(facts.robots, key=lambda it: (lookup.row(it.id), it.id))]
+    return handed("", f'{written(said)[:-1]},"robots":[\n{lines(rows)}]}}')
+
+
+def lines(rows: Sequence[str]) -> str:
+    """Values, a line each."""
+    return ",\n".join(rows) + "\n" * bool(rows)
+
+
+def robot_data(lookup: Lookup, replays: Replays, it: Robot) -> str:
+    """A robot's data: its source, and its pairs by the other robots' files."""
+    last = it.versions[-1] if it.versions else None
+    source = sources.text(last.source) if last and last.source is not None else None
+    head = {"file": places.source_file(it.id, last) if last else "", "name": shown(it.name), "source": source}
+    rows = sorted(f"{written(file_name(pair.other))}:{written([*of_pair(lookup, replays, pair)])}" for pair in lookup.opponents(it.id))
+    return handed(file_name(it.id), f'{written(head)[:-1]},"pairs":{{\n{lines(rows)}}}}}')
+
+
+def of_pair(lookup: Lookup, replays: Replays, pair: Pair) -> Iterator[Any]:
+    """A pair's score, interval and verdict from this robot's side; and what it did by seat, and the matches that are worth a look."""
+    said = verdict(pair)
+    yield numbers(pair.score)
+    yield [round(pair.low, 4), round(pair.high, 4)]
+    yield [said.what, said.matches] if said.matches else [said.what]
+    if places.has_details(pair.one, pair.other):
+        yield [[it.seat, it.against, *numbers(it.score)] for it in sorted(pair.seats, key=lambda it: (it.seat, it.against))]
+        yield [[bits, *of_battle(lookup, replays, battle, (pair.one, pair.other))] for bits, battle in merged(pair.notable)]
+
+
+def numbers(it: Score) -> list[int]:
+    return [it.won, it.tied, it.lost, it.both]
+
+
+def merged(notable: Sequence[Notable]) -> list[tuple[int, Battle]]:
+    """Each match once, with all that it is."""
+    found: dict[Battle, int] = {}
+    for it in notable:
+        found[it.battle] = found.get(it.battle, 0) | 1 << WHAT.index(it.what)
+    return [(bits, battle) for battle, bits in found.items()]
+
+
+def of_battle(lookup: Lookup, replays: Replays, it: Battle, pair: tuple[RobotId, RobotId]) -> Iterator[Any]:
+    """A match: its robots with their damages, its number, seed and cycles, and its replay if there is one.
+
+    The robots of the pair are 0 and 1, others are named by their files. A seed is a text: numbers of scripts are too short for it."""
+    yield [part for seat in it.seats for part in (seated(seat.robot, pair), seat.damage)]
+    yield from (it.number, str(it.seed), it.cycles)
+    if replays and (place := lookup.replay(it)) in replays:
+        yield place
+
+
+def seated(robot: RobotId, pair: tuple[RobotId, RobotId]) -> int | str:
+    return pair.index(robot) if robot in pair else file_name(robot)

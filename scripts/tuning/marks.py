@@ -1,0 +1,200 @@
+"""The numbers of a robot that may be changed: constants with a mark in the comment behind them, or named by line and column.
+
+The proved lexer says where constants stand. Between a token and the next one are blanks and comments alone, so that is where
+a mark is looked for: `/* tune 100..900 */`, which may go on with `step 50` and with `name near`."""
+
+from __future__ import annotations
+
+import re
+from dataclasses import dataclass
+from typing import Iterator, NamedTuple, Sequence
+
+from tools import programs
+from tools.faults import FAULTY, FILE, Fault, plain
+
+STAGES = "crobots-stages"
+# What a constant of the language can be.
+MOST = 2**31 - 1
+# So many values a sweep has at most if no step is given.
+VALUES = 20
+NAME = re.compile(r"[A-Za-z_][A-Za-z0-9_]{0,30}")
+BOUNDS = re.compile(r"([0-9]{1,10})\.\.([0-9]{1,10})")
+
+
+class Place(NamedTuple):
+    """A line and a column in bytes, both from 1."""
+
+    line: int
+    column: int
+
+    def __str__(self) -> str:
+        return f"{self.line}:{self.column}"
+
+
+class Token(NamedTuple):
+    """A token: its place, its kind, and where its bytes are."""
+
+    place: Place
+    kind: str
+    begin: int
+    end: int
+
+
+@dataclass(frozen=True)
+class Range:
+    """The values that a number may have: from `low` on, in steps, up to `high`. Without a step of its own each is meant."""
+
+    low: int
+    high: int
+    step: int | None = None
+    name: str = ""
+
+    def values(self, today: int, many: int = VALUES) -> list[int]:
+        """The values of a sweep in their order, today's among them."""
+        step = self.step or coarse(self.high - self.low, many)
+        return sorted({*range(self.low, self.high + 1, step), today})
+
+    def nearest(self, value: float) -> int:
+        """The value that is nearest to a number."""
+        step = self.step or 1
+        most = (self.high - self.low) // step
+        return self.low + min(max(round((value - self.low) / step), 0), most) * step
+
+
+@dataclass(frozen=True)
+class Number:
+    """A constant that may be changed: its place, where its bytes are, its value today, and the values that it may have."""
+
+    place: Place
+    begin: int
+    end: int
+    value: int
+    range: Range
+
+    @property
+    def name(self) -> str:
+        return self.range.name or str(self.place)
+
+
+def coarse(width: int, many: int) -> int:
+    """The next of 1, 2, 5, 10, 20, .. by which a width has at most so many steps."""
+    power = 1
+    while True:
+        for factor in (1, 2, 5):
+            if factor * power * many >= width:
+                return factor * power
+        power *= 10
+
+
+def tokens(path: str, shown: str, source: bytes, profile: int, program: str | None = None) -> list[Token]:
+    """The tokens of a source that compiles, as the proved lexer finds them in a copy of it."""
+    begins = [0]
+    for part in source.split(b"\n"):
+        begins.append(begins[-1] + len(part) + 1)
+    found: list[Token] = []
+
+    def judge(status: int, said: list[str]) -> None:
+        if status:
+            why = said[-1].strip() if said else f"it ended with status {status}"
+            raise Fault(f"{STAGES} shows no tokens of {shown}: {why}", FAULTY if status == 1 else FILE)
+
+    with programs.lines(programs.found(STAGES, program), ["--tokens", f"-p{profile}", "--", path], judge) as lines:
+        for text in lines:
+            line, column, kind, *rest = text.split()
+            begin = begins[int(line) - 1] + int(column) - 1
+            word = " ".join(rest).encode("ascii")
+            if source[begin:begin + len(word)] != word:
+                raise Fault(f"{STAGES} shows other tokens than {shown} has", FILE)
+            found.append(Token(Place(int(line), int(column)), kind, begin, begin + len(word)))
+    return found
+
+
+def numbers(source: bytes, found: Sequence[Token], shown: str, given: Sequence[tuple[Place, Range]] = ()) -> list[Number]:
+    """The numbers of a source that have a mark, or are given with their place, in their order."""
+    ranges = {token: text_range(text, at, shown) for token, text, at in marked(source, found, shown)}
+    constants = {it.place: it for it in found if it.kind == "constant"}
+    for place, several in given:
+        token = constants.get(place)
+        if token is None:
+            raise Fault(f"{plain(shown)}:{place}: no number stands there")
+        ranges[token] = several
+    them = [number(source, token, ranges[token], shown) for token in sorted(ranges, key=lambda it: it.begin)]
+    names = [it.name for it in them]
+    twice = next((name for name in names if names.count(name) > 1), None)
+    if twice:
+        raise Fault(f"{plain(shown)}: two numbers have the name {twice}")
+    return them
+
+
+def marked(source: bytes, found: Sequence[Token], shown: str) -> Iterator[tuple[Token, str, str]]:
+    """Each constant with a mark behind it, the mark's text, and where that stands."""
+    begins = [*found, None]
+    for token, after in zip([None, *found], begins):
+        several = [*comments(source, token.end if token else 0, after.begin if after else len(source))]
+        for at, text in [(at, text) for at, text in several if is_mark(text)]:
+            where = f"{plain(shown)}:{place_of(source, at)}"
+            if token is None or token.kind != "constant" or at != several[0][0]:
+                raise Fault(f"{where}: the mark '{text}' has no number before it")
+            yield token, text, where
+
+
+def comments(source: bytes, begin: int, end: int) -> Iterator[tuple[int, str]]:
+    """The comments between two tokens: where each begins, and its words with a blank between them."""
+    while (at := source.find(b"/*", begin, end)) >= 0:
+        close = source.find(b"*/", at + 2, end)
+        yield at, " ".join(source[at + 2:close].decode("ascii", "replace").split())
+        begin = close + 2
+
+
+def is_mark(text: str) -> bool:
+    """Whether a comment is meant as a mark: it begins with 'tune' and a number."""
+    first, *rest = text.split(" ")
+    return first == "tune" and bool(rest) and rest[0][:1].isdigit()
+
+
+def place_of(source: bytes, at: int) -> Place:
+    """The line and column of a byte."""
+    return Place(source.count(b"\n", 0, at) + 1, at - source.rfind(b"\n", 0, at))
+
+
+def text_range(text: str, where: str, shown: str) -> Range:
+    """The range of a mark."""
+    words = text.split(" ")[1:]
+    options = dict(zip(words[1::2], words[2::2]))
+    if len(words) % 2 == 0 or not {*options} <= {"step", "name"} or len(options) != len(words) // 2:
+        raise Fault(f"{where}: a mark is 'tune LOW..HIGH', and perhaps 'step STEP' and 'name NAME', not '{text}'")
+    name = options.get("name", "")
+    if name and not NAME.fullmatch(name):
+        raise Fault(f"{where}: '{name}' is no name")
+    return ranged(words[0], options.get("step"), where, name)
+
+
+def ranged(bounds: str, step: str | None, where: str, name: str = "") -> Range:
+    """The range of bounds as 100..900 and a step."""
+    found = BOUNDS.fullmatch(bounds)
+    if not found:
+        raise Fault(f"{where}: '{bounds}' is no range as 100..900")
+    low, high = map(int, found.groups())
+    if not low < high <= MOST:
+        raise Fault(f"{where}: {bounds} has to rise, up to {MOST} at most")
+    if step is None:
+        return Range(low, high, None, name)
+    if not step.isascii() or not step.isdigit() or not 1 <= int(step[:11]) <= high - low:
+        raise Fault(f"{where}: '{step}' is no step from 1 to {high - low}")
+    return Range(low, high, int(step), name)
+
+
+def number(source: bytes, token: Token, several: Range, shown: str) -> Number:
+    """The number of a constant."""
+    value = int(source[token.begin:token.end])
+    if not several.low <= value <= several.high:
+        raise Fault(f"{plain(shown)}:{token.place}: {value} isn't from {several.low} to {several.high}")
+    return Number(token.place, token.begin, token.end, value, several)
+
+
+def changed(source: bytes, them: Sequence[Number], values: Sequence[int]) -> bytes:
+    """The source with other values: only the bytes of these numbers change. One that keeps its value keeps its digits."""
+    for it, value in reversed([*zip(them, values)]):
+        if value != it.value:
+            source = source[:it.begin] + str(value).encode("ascii") + source[it.end:]
+    return source

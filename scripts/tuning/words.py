@@ -1,0 +1,92 @@
+"""The words of the command line."""
+
+from __future__ import annotations
+
+import argparse
+import re
+from fractions import Fraction
+
+from tools.faults import Fault
+from tools.output import written_over
+from tournaments.words import Parser, common, settle, within
+
+from .marks import STAGES, Place, Range, ranged
+from .opponents import BEST, League
+
+BUDGET, ROUND = 100_000, 160
+PLACED = re.compile(r"([0-9]{1,9}):([0-9]{1,9})=([^/]*)(?:/([^/]*))?")
+WEIGHT = re.compile(r"(.+)=([0-9]{1,6}(?:\.[0-9]{1,3})?)")
+
+
+def numbered(text: str) -> tuple[Place, Range]:
+    """Reads LINE:COLUMN=LOW..HIGH/STEP."""
+    found = PLACED.fullmatch(text)
+    if not found:
+        raise argparse.ArgumentTypeError(f"'{text}' isn't LINE:COLUMN=LOW..HIGH or LINE:COLUMN=LOW..HIGH/STEP")
+    line, column, bounds, step = found.groups()
+    place = Place(int(line), int(column))
+    try:
+        return place, ranged(bounds, step, f"--number {place}")
+    except Fault as why:
+        raise argparse.ArgumentTypeError(str(why)) from why
+
+
+def weighed(text: str) -> tuple[str, Fraction]:
+    """Reads FILE=WEIGHT or FOLDER=WEIGHT."""
+    found = WEIGHT.fullmatch(text)
+    if not found:
+        raise argparse.ArgumentTypeError(f"'{text}' isn't FILE=WEIGHT or FOLDER=WEIGHT")
+    return found[1], Fraction(found[2])
+
+
+def league(text: str) -> League:
+    """Reads LEAGUE or LEAGUE=N."""
+    if not text:
+        raise argparse.ArgumentTypeError("an empty value")
+    folder, equals, best = text.rpartition("=")
+    return League(folder, within(1, 10_000)(best)) if equals and best.isdigit() else League(text, BEST)
+
+
+def parser(name: str) -> Parser:
+    """The words of `tune`, under the name by which it was called."""
+    it = common(name, "Says what the numbers of a robot are worth, by a sweep, or tunes them.")
+    it.add_argument("--sweep", action="store_true", help="play each value of one number, or of two, and print a table")
+    it.add_argument("--until", metavar="sure", choices=["sure"], help="with --sweep: double the matches of values that aren't surely worse, up to -m")
+    it.add_argument("--number", metavar="LINE:COLUMN=LOW..HIGH", type=numbered, action="append", default=[],
+                    help="a number without a mark, and its range; /STEP may follow; may be given often")
+    it.add_argument("--only", metavar="NAME", action="append", default=[], help="of the marked numbers take this one; may be given often")
+    it.add_argument("--league", metavar="LEAGUE", type=league, help="play against the best 10 robots of a league, too; of LEAGUE=N the best N")
+    it.add_argument("--weight", metavar="ROBOT=WEIGHT", type=weighed, action="append", default=[],
+                    help="what an opponent, or each of a folder, weighs (default 1); may be given often")
+    it.add_argument("--against-itself", action="store_true", help="tune against its own versions, too")
+    it.add_argument("--judge", metavar="ROBOT", action="append", default=[], help="judge against this robot or folder instead; may be given often")
+    it.add_argument("--budget", metavar="MATCHES", type=within(1, 1_000_000_000), help=f"matches of the search (default {BUDGET})")
+    it.add_argument("--minutes", metavar="MINUTES", type=within(1, 100_000), help="end the search after this time, too")
+    it.add_argument("--round", metavar="MATCHES", type=within(2, 1_000_000), help=f"matches of each trial of the search (default {ROUND})")
+    it.add_argument("--plan", metavar="FOLDER", help="with --sweep: put the variants into this folder, print the command lines, and play nothing")
+    forms = it.add_mutually_exclusive_group()
+    for form, does in {"csv": "comma-separated values", "json": "JSON"}.items():
+        forms.add_argument(f"--{form}", dest="form", action="store_const", const=form, default="table", help=f"print {does}")
+    it.add_argument("-o", dest="output", metavar="FILE", help="write the tuned robot into this file; with --sweep a picture, as SVG")
+    it.add_argument("--stages", metavar="PROGRAM", help=f"the program that finds numbers (default: {STAGES} on the path, or the one installed or built with this script)")
+    it.add_argument("robot", metavar="ROBOT", help="the robot whose numbers are meant")
+    it.add_argument("field", metavar="OPPONENT", nargs="*", help="robots to play against, and folders with robots")
+    return it
+
+
+def check(given: argparse.Namespace) -> None:
+    """Refuses words that don't go with each other, and fills in those that weren't given."""
+    search = {"--budget": given.budget, "--minutes": given.minutes, "--round": given.round, "--judge": given.judge, "--against-itself": given.against_itself}
+    of_sweeps = {"--until": given.until, "--plan": given.plan}
+    alien = [name for name, value in (search if given.sweep else of_sweeps).items() if value]
+    if alien:
+        raise Fault(f"{alien[0]} goes with{'out' if given.sweep else ''} --sweep")
+    if given.plan and (given.until or given.journal or given.output):
+        raise Fault("--plan plays nothing, so it takes no --until, no --journal and no -o")
+    if given.output and (why := written_over(given.output, [given.robot, *given.field])):
+        raise Fault(f"-o {why}")
+    if not given.field and not given.league:
+        raise Fault("there is no robot to play against")
+    given.budget = given.budget or BUDGET
+    given.round = given.round or ROUND
+    settle(given)

@@ -1,0 +1,244 @@
+"""The script `tune` with robots whose points are known beforehand: one that shoots itself loses, and else both live to the limit,
+which is a tie. It draws a number, so in a part of its matches it loses that is known."""
+
+from __future__ import annotations
+
+import csv
+import io
+import json
+import os
+import random
+import re
+import shutil
+import signal
+import subprocess
+import tempfile
+import time
+import xml.etree.ElementTree
+from pathlib import Path
+from typing import Any
+
+from harness import skip
+from packages import lacking
+
+TOP = Path(__file__).resolve().parent.parent.parent
+STILL = "main(){while(1);}"
+# It loses in so many of a thousand matches.
+DRAWS = "main(){if (rand(1000) < 400 /* tune 0..1000 step 100 name lost */) while(1) cannon(0,0); while(1);}"
+# It loses the oftener the further its numbers are from 600 and 200.
+TWO = """distance(a, b) int a, b; { if (a < b) return b - a; return a - b; }
+main() {
+  if (rand(1000) < distance(%s /* tune 0..1000 name one */, 600) / 2 + distance(%s /* tune 0..1000 name two */, 200) / 2)
+    while (1) cannon(0, 0);
+  while (1);
+}
+"""
+UNUSED = "main(){int a; a = 5 /* tune 0..20 name unused */; if (rand(1000) < 300) while(1) cannon(0,0); while(1);}"
+FILES = {"still.r": STILL, "other.r": STILL + "/* other */", "draws.r": DRAWS, "two.r": TWO % (100, 900), "best.r": TWO % (600, 200),
+         "unused.r": UNUSED, "bad.r": "main(){\nbreak; }", "plain.r": "main(){int a; a = 7;}", "field/a.r": STILL + "/* a */",
+         "field/b.r": "main(){while(1) cannon(0,0);}", "field/notes.txt": "no robot"}
+WORDS = ("-l400", "--quiet")
+SAID = "tune: the tuned robot is judged against the robots that it was tuned against; --judge names others\n"
+Ran = subprocess.CompletedProcess[str]
+
+
+class Playing:
+    """Each method whose name does not begin with _ is a test: it answers what is wrong."""
+
+    def __init__(self, stages: str, crobots: str) -> None:
+        self._programs = ["--stages", stages, "--crobots", crobots]
+        self._crobots = crobots
+        self._kept = tempfile.TemporaryDirectory()
+        self._folder = Path(self._kept.name)
+        for name, text in FILES.items():
+            (self._folder / name).parent.mkdir(exist_ok=True)
+            (self._folder / name).write_text(text, encoding="utf-8")
+
+    def _words(self, *words: str) -> list[str]:
+        return [str(TOP / "scripts" / "tune"), *self._programs[:2 if "--crobots" in words else 4], *WORDS, *words]
+
+    def _run(self, *words: str, **how: Any) -> Ran:
+        given: dict[str, Any] = {"capture_output": True, "text": True, "timeout": 300} | how
+        return subprocess.run(self._words(*words), cwd=self._folder, check=False, **given)
+
+    def _refused(self, said: str, *words: str, status: int = 2) -> list[str]:
+        ran = self._run(*words)
+        return [] if (ran.stdout, ran.stderr, ran.returncode) == ("", said, status) else [f"{words}: {ran!r:.500}"]
+
+    def _rows(self, *words: str) -> list[dict[str, str]]:
+        ran = self._run("--sweep", "--csv", *words)
+        assert not ran.returncode and not ran.stderr, f"{ran!r:.500}"
+        return [*csv.DictReader(io.StringIO(ran.stdout))]
+
+    def a_sweep_of_known_chances(self) -> list[str]:
+        """A value of v loses v of 1000 matches, and a tie is a point. The same starts draw the same number, so each value loses what
+        a lesser one loses: a change is that of a part of the matches that is known, within four times its spread."""
+        rows = self._rows("-m400", "draws.r", "still.r", "other.r")
+        wrong = []
+        for row in rows:
+            lost = int(row["lost"]) / 1000
+            for name, wanted in (("points", 1 - lost), ("change", 0.4 - lost)):
+                part = abs(wanted) * (1 - abs(wanted)) / 800
+                wrong += [f"{name}: {row}"] if abs(float(row[name]) - wanted) > 4 * part**0.5 + 0.0006 else []
+        held = sum(float(row["low"]) <= 0.4 - int(row["lost"]) / 1000 <= float(row["high"]) for row in rows)
+        wrong += [] if held >= 7 else [f"{held} of 11 intervals hold"]
+        verdicts = [row["verdict"] for row in rows]
+        return wrong if verdicts == ["better"] * 4 + ["today's"] + ["worse"] * 6 else [*wrong, f"{verdicts}"]
+
+    def a_row_is_what_challenge_says(self) -> list[str]:
+        """With the same words: another program of this repository works the change out."""
+        (self._folder / "lost700.r").write_text(DRAWS.replace("400 /*", "700 /*"), encoding="utf-8")
+        row = next(row for row in self._rows("-m60", "-s9", "draws.r", "still.r", "other.r") if row["lost"] == "700")
+        words = [TOP / "scripts" / "challenge", "--crobots", self._crobots, "-m60", "-s9", "-l400", "--quiet", "lost700.r", "--old", "draws.r", "still.r", "other.r"]
+        told = subprocess.run(words, cwd=self._folder, capture_output=True, text=True, check=True).stdout
+        new, _, change, *_ = map(float, next(line for line in told.splitlines() if line.startswith("all ")).split()[1:])
+        right = abs(float(row["points"]) - new) <= 0.0055 and abs(float(row["change"]) - change) <= 0.0055
+        return [] if right else [f"{row}, not {told}"]
+
+    def a_number_that_changes_nothing(self) -> list[str]:
+        verdicts = [row["verdict"] for row in self._rows("-m40", "unused.r", "still.r", "other.r")]
+        wanted = ["no difference that these matches could show"] * 20
+        return [] if verdicts == [*wanted[:5], "today's", *wanted[5:]] else [f"{verdicts}"]
+
+    def until_sure_spends_matches_where_it_matters(self) -> list[str]:
+        """Today's value and the best one get all matches, the worst one only those of the first look."""
+        rows = {row["lost"]: row for row in self._rows("-m320", "--until", "sure", "draws.r", "still.r", "other.r")}
+        counts = [int(rows[value]["matches"]) for value in ("0", "400", "1000")]
+        return [] if counts == [640, 640, 40] and rows["0"]["verdict"] == "better" else [f"{rows}"]
+
+    def forms_have_the_same(self) -> list[str]:
+        """The table, its comma-separated values and JSON, by the same matches."""
+        words = ("-m20", "draws.r", "still.r")
+        rows, table = self._rows(*words), self._run("--sweep", *words).stdout.splitlines()
+        made = json.loads(self._run("--sweep", "--json", *words).stdout)
+        wrong = [] if [[*map(str, it["values"]), f"{it['points']:.3f}", it["verdict"]] for it in made["sweep"]] == \
+            [[row["lost"], row["points"], row["verdict"]] for row in rows] else [f"{made}"]
+        wrong += [] if made["numbers"] == [{"name": "lost", "line": 1, "column": 25, "low": 0, "high": 1000, "today": 400}] else [f"{made['numbers']}"]
+        shown = [line.split(None, 6) for line in table[: len(rows) + 1]]
+        wrong += [] if shown == [[*rows[0]], *([*row.values()] for row in rows)] else [f"{shown}"]
+        return wrong if table[len(rows) + 1].startswith("surely better than today's 400: ") else [*wrong, f"{table}"]
+
+    def pictures_are_drawings(self) -> list[str]:
+        """Well-formed; a dot for each value with its row, and for two numbers a field for each pair."""
+        wrong = []
+        self._run("--sweep", "-m4", "-o", "curve.svg", "draws.r", "still.r")
+        self._run("--sweep", "-m2", "-o", "map.svg", "two.r", "still.r")
+        for name, shape, count in (("curve.svg", "circle", 11), ("map.svg", "rect", 49)):
+            drawn = xml.etree.ElementTree.parse(self._folder / name)
+            titles = [it.findtext("{*}title") or "" for it in drawn.iterfind(f".//{{*}}{shape}")]
+            wrong += [] if len(titles) == count and len({title.split(":")[0] for title in titles}) == count else [f"{name}: {titles}"]
+            wrong += [] if sum("today's" in title for title in titles) == 1 else [f"{name}: {titles}"]
+        return wrong
+
+    def tuning_finds_what_is_better(self) -> list[str]:
+        """The numbers are 500 and 700 from the best ones, so it loses in 60 of 100 and could lose in none."""
+        (self._folder / "tuned.r").unlink(missing_ok=True)
+        ran = self._run("-m200", "--budget", "30000", "--json", "-o", "tuned.r", "two.r", "still.r", "other.r")
+        if ran.returncode or ran.stderr != SAID:
+            return [f"{ran!r:.500}"]
+        made = json.loads(ran.stdout)
+        one, two = (it["tuned"] for it in made["numbers"])
+        wrong = [] if abs(one - 600) + abs(two - 200) < 150 and made["better"] and made["change"] > 0.5 else [ran.stdout]
+        return wrong if (self._folder / "tuned.r").read_text(encoding="utf-8") == TWO % (one, two) else [*wrong, "other bytes"]
+
+    def nothing_is_better_of_what_is_best(self) -> list[str]:
+        """Neither a robot at its best, nor one whose number does nothing: no file is written."""
+        wrong = []
+        for name in ("best.r", "unused.r"):
+            ran = self._run("-m60", "--budget", "4000", "-o", "no.r", name, "still.r")
+            wrong += [] if "nothing is surely better\n" in ran.stdout and ran.stdout.endswith("no.r isn't written\n") else [f"{ran!r:.500}"]
+        return [*wrong, "no.r is written"] if (self._folder / "no.r").exists() else wrong
+
+    def killed_and_resumed(self) -> list[str]:
+        """At eight moments: with its journal a search ends as one that wasn't stopped. So does a sweep."""
+        wrong, rest = [], random.Random(3)
+        for words in (("-m40", "--budget", "3000", "two.r", "still.r"), ("--sweep", "-m100", "draws.r", "still.r", "other.r")):
+            begun = time.monotonic()
+            wanted = self._run(*words).stdout
+            taken = time.monotonic() - begun
+            for number in range(4):
+                journal = f"killed{number}{len(words)}"
+                with subprocess.Popen(self._words(*words, "--journal", journal), cwd=self._folder, start_new_session=True, stdout=subprocess.PIPE,
+                                      stderr=subprocess.DEVNULL) as child:
+                    time.sleep(rest.uniform(0.1, taken))
+                    os.killpg(child.pid, signal.SIGKILL)
+                ran = self._run(*words, "--journal", journal)
+                wrong += [] if ran.stdout == wanted else [f"{words} {number}: {ran!r:.500}, not {wanted:.300}"]
+        return wrong
+
+    def a_plan_is_played_elsewhere(self) -> list[str]:
+        """Its lines write records; with these as a journal the sweep plays nothing, and says the same."""
+        words = ("--sweep", "-m20", "draws.r", "still.r", "other.r")
+        plan = self._run(*words, "--plan", "variants")
+        (self._folder / "plan").write_text(plan.stdout, encoding="utf-8")
+        subprocess.run("xargs -P 4 -d '\\n' -n 1 sh -c < plan > played", shell=True, cwd=self._folder, check=True)
+        before = (self._folder / "played").read_bytes()
+        got = self._run(*words, "--journal", "played").stdout
+        wrong = [] if (self._folder / "played").read_bytes() == before else ["something was played again"]
+        return wrong if got == self._run(*words).stdout and plan.stdout.count("\n") >= 44 else [*wrong, got, plan.stdout[:500]]
+
+    def opponents_of_all_kinds(self) -> list[str]:
+        """A folder, weights, a league. Against b.r, which shoots itself too, draws.r ties or wins."""
+        league = [str(TOP / "scripts" / "league")]
+        for words in (["init", "league", "-l400", "--crobots", self._crobots], ["add", "league", "field/a.r", "field/b.r", "--crobots", self._crobots],
+                      ["play", "league", "--quiet", "--crobots", self._crobots]):
+            subprocess.run([*league, *words], cwd=self._folder, check=True, capture_output=True)
+        rows = {words: self._rows("-m20", *words)[0]["points"] for words in (
+            ("draws.r", "field"), ("draws.r", "field/a.r", "field/b.r"), ("draws.r", "--league", "league"), ("draws.r", "--league", "league=1"),
+            ("draws.r", "field/a.r"), ("draws.r", "field", "--weight", "field/b.r=0"), ("draws.r", "field", "--weight", "field=2"))}
+        both, alone = rows["draws.r", "field"], rows["draws.r", "field/a.r"]
+        wanted = [both, both, both, alone, alone, alone, both]
+        return [] if [*rows.values()] == wanted and both != alone else [f"{rows}"]
+
+    def its_own_versions(self) -> list[str]:
+        """They join the opponents of the search alone: the judgement is against the others."""
+        ran = self._run("-m20", "--budget", "3000", "--against-itself", "two.r", "still.r")
+        judged = self._run("-m20", "--budget", "3000", "--judge", "other.r", "--judge", "field", "two.r", "still.r")
+        right = ran.stderr == "" and "fresh matches against each of 1\n" in ran.stdout and judged.stderr == "" and "against each of 3\n" in judged.stdout
+        return [] if right else [f"{ran!r:.400} {judged!r:.400}"]
+
+    def a_robot_that_is_edited_meanwhile(self) -> list[str]:
+        """What is played, and written, is what was read first: here the first match edits the robot."""
+        shutil.copy(self._folder / "two.r", self._folder / "edited.r")
+        edits = self._folder / "edits"
+        edits.write_text(f"""#!/bin/sh\ncase $1 in -c) ;; *) echo "main(){{}}" > edited.r;; esac\nexec {self._crobots} "$@"\n""", encoding="ascii")
+        edits.chmod(0o755)
+        ran = self._run("--crobots", str(edits), "-m60", "--budget", "12000", "-o", "edited.out.r", "edited.r", "still.r")
+        if not ran.stdout.endswith("edited.out.r is written\n") or (self._folder / "edited.r").read_text(encoding="ascii") != "main(){}\n":
+            return [f"{ran!r:.500}"]
+        written = (self._folder / "edited.out.r").read_text(encoding="utf-8")
+        return [] if re.sub(r"\d+ /\*", "N /*", written) == TWO % ("N", "N") else [written]
+
+    def wrong_words(self) -> list[str]:
+        wrong = self._refused("tune: there is no robot to play against\n", "draws.r")
+        wrong += self._refused("tune: there is no robot to play against\n", "draws.r", "draws.r")
+        wrong += self._refused("tune: plain.r has no marked number; a mark is a comment as /* tune 100..900 */ behind it, or --number gives one\n",
+                               "--sweep", "plain.r", "still.r")
+        wrong += self._refused("tune: plain.r:1:1: no number stands there\n", "--sweep", "--number", "1:1=0..9", "plain.r", "still.r")
+        wrong += self._refused("tune: two.r has no number x; it has one, two\n", "--only", "x", "two.r", "still.r")
+        wrong += self._refused("tune: --until goes with --sweep\n", "--until", "sure", "two.r", "still.r")
+        wrong += self._refused("tune: --budget goes without --sweep\n", "--sweep", "--budget", "9", "two.r", "still.r")
+        wrong += self._refused("tune: --weight names gone.r, which isn't played against\n", "--weight", "gone.r=2", "two.r", "still.r")
+        (self._folder / "field/c").mkdir()
+        wrong += self._refused("tune: field/c has no robots, whose names end with '.r'\n", "two.r", "field/c")
+        wrong += self._refused("bad.r:2: reserved word\n", "--sweep", "draws.r", "bad.r", status=1)
+        wrong += self._refused("tune: cannot read gone.r: No such file or directory\n", "--sweep", "gone.r", "still.r", status=3)
+        wrong += self._refused("tune: argument --number: 'x' isn't LINE:COLUMN=LOW..HIGH or LINE:COLUMN=LOW..HIGH/STEP\n", "--number", "x", "a", "b")
+        return wrong + self._refused("tune: argument --number: --number 1:1: '9' is no range as 100..900\n", "--number", "1:1=9", "a", "b")
+
+    def outputs_that_can_t_be_written(self) -> list[str]:
+        wrong = self._refused("tune: cannot write /dev/full: No space left on device\n", "--sweep", "-m2", "-o", "/dev/full", "draws.r", "still.r", status=3)
+        return wrong + self._refused("tune: cannot write gone/s.svg: No such file or directory\n", "--sweep", "-m2", "-o", "gone/s.svg", "draws.r", "still.r", status=3)
+
+    def a_curve_as_it_is_seen(self) -> list[str]:
+        """In a browser no text of the picture is beyond its edges."""
+        if why := lacking(["chromium"]):
+            skip("a curve in a browser", why)
+            return []
+        from browsers import Browser, chromium
+        self._run("--sweep", "-m4", "-o", "seen.svg", "draws.r", "still.r")
+        with Browser(chromium() or "") as browser:
+            browser.load(str(self._folder / "seen.svg"))
+            beyond = browser.value("[...document.querySelectorAll('text')].filter(it => { const b = it.getBBox(); const v = document.documentElement.viewBox.baseVal;"
+                                   " return b.x < 0 || b.y < 0 || b.x + b.width > v.width || b.y + b.height > v.height; }).map(it => it.textContent)")
+        return [] if beyond == [] else [f"{beyond}"]

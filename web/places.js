@@ -1,0 +1,35 @@
+// The three places of the page: to write, to fight and to watch. Where there is room they stand side by side, else one is shown.
+import {byId} from "./dom.js";
+
+const NAMES = ["write", "fight", "watch"];
+const WIDE = matchMedia("(min-width: 60.01rem)");
+
+export class Places {
+    /** `focus` says where the focus goes from the links at the page's start: to the editor, and to the field. */
+    constructor(focus) {
+        NAMES.forEach(name => byId(`to-${name}`).addEventListener("click", () => this.go(name)));
+        for (const [id, name] of [["to-editor", "write"], ["to-field", "watch"]]) {
+            byId(id).addEventListener("click", event => {
+                event.preventDefault();
+                this.go(name);
+                focus[name]();
+            });
+        }
+        // what stays in sight while one steps stands below the bar
+        new ResizeObserver(() => document.documentElement.style.setProperty("--bar", `${byId("bar").offsetHeight}px`)).observe(byId("bar"));
+        this.go("write");
+    }
+
+    /** Whether all places are shown side by side. */
+    get isWide() {
+        return WIDE.matches;
+    }
+
+    /** Shows a place. */
+    go(name) {
+        this.shown = name;
+        byId("main").dataset.place = name;
+        NAMES.forEach(it => byId(`to-${it}`).setAttribute("aria-pressed", String(it === name)));
+        window.dispatchEvent(new Event("resize"));
+    }
+}
