@@ -10,7 +10,7 @@ from dataclasses import dataclass, field
 from typing import Callable, Generator, Iterable, Iterator
 
 from tools.faults import FAULTY, PROGRAM, Fault
-from tools.signals import ENDING, Stopped, watch
+from tools.signals import ENDING, Stopped
 
 from .programs import Program
 from .records import NoRecord, Record, check_results
@@ -74,22 +74,16 @@ class Player:
             output, writing = os.pipe()
         except OSError as why:
             raise Fault(f"{len(self._running) + 1} series at a time can't be run: {why.strerror}", PROGRAM) from why
-        # a signal that comes meanwhile ends the child, too
-        with watch() as heard:
-            self._running[output] = Child(record, self._begun(words, output, writing))
-            self._selector.register(output, selectors.EVENT_READ)
-        heard.check()
-
-    def _begun(self, words: list[str], output: int, writing: int) -> int:
-        """The process of a child, which writes into a pipe; this side closes that end."""
         actions = [(os.POSIX_SPAWN_OPEN, 0, os.devnull, os.O_RDONLY, 0), *((os.POSIX_SPAWN_DUP2, writing, to) for to in (1, 2))]
         try:
-            return os.posix_spawn(words[0], words, self._environment, file_actions=actions, setsigdef=[signal.SIGPIPE])
+            process = os.posix_spawn(words[0], words, self._environment, file_actions=actions, setsigdef=[signal.SIGPIPE])
         except OSError as why:
             os.close(output)
             raise Fault(f"{words[0]} can't be run: {why.strerror}", PROGRAM) from why
         finally:
             os.close(writing)
+        self._running[output] = Child(record, process)
+        self._selector.register(output, selectors.EVENT_READ)
 
     def _read(self, output: int) -> tuple[Child, int] | None:
         """Takes what a child wrote; answers it with its status if it ended."""
