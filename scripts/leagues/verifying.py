@@ -11,7 +11,7 @@ from itertools import zip_longest
 from typing import Iterator
 
 from tools.faults import FAULTY, Fault
-from tools.output import say, show
+from tools.output import replaced, say, show
 from tools.signals import watch
 from tournaments import seats
 from tournaments.playing import Player
@@ -32,7 +32,6 @@ from .publications import final
 from .results import Results, ended
 from .schedules import Schedule
 from .seasons import Season, field, seasons
-from .sources import replaced
 from .standings import Standing, standings
 from .store import Store
 
