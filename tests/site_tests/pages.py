@@ -203,7 +203,8 @@ def the_settings(folder: str) -> Results:
     yield "settings", facts == {
         "Played as": "pairs", "Matches of a group": "10", "Cycles of a match, at most": "500,000", "Seed": "7",
         "Language profile": "1", "Sample": "every pair", "Version": "crobots <1>", "SHA-256 of its file": "ab" * 32,
-        "File": f"League 1.tar ({len(ARCHIVE)} bytes)", "SHA-256": hashlib.sha256(ARCHIVE).hexdigest()}
+        "File": f"League 1.tar ({len(ARCHIVE)} bytes)", "SHA-256": hashlib.sha256(ARCHIVE).hexdigest(),
+        "Hash of the publication": "cd" * 32}
     yield "how it is checked", page.one("pre").text() == "crobots-league verify 20 'the archive.tar'"
     with open(os.path.join(folder, "archive", "_4ceague_201.tar"), "rb") as file:
         yield "the archive", file.read() == ARCHIVE
