@@ -44,6 +44,15 @@ def mean(classes: Sequence[Sequence[float]], weights: Sequence[float] = (), unse
     return Mean(value, value - margin, value + margin)
 
 
+def together(parts: Sequence[tuple[float, int]]) -> float:
+    """The degrees of freedom of a sum of variances, of which each has its own: Satterthwaite's, without the bias that variances of few
+    degrees have. They are 1 at least, and at most as many as all have."""
+    most, whole = max(1, sum(freedom for _, freedom in parts)), sum(variance for variance, _ in parts)
+    if not whole:
+        return most
+    return min(max(1.0, whole**2 / sum(variance**2 / (freedom + 2) for variance, freedom in parts) - 2), most)
+
+
 def quantile(freedom: float, level: float = LEVEL) -> float:
     """Student's quantile, beyond which there is half of what is outside of an interval of this level: by its series in 1 / freedom
     from three degrees on; below that of fewer, whole ones, which have formulas."""

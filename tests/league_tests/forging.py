@@ -313,6 +313,17 @@ class Forging(Base):
                     wrong.append(f"{gone} matches that {robot} lost are gone, and an older archive doesn't show it")
         return wrong
 
+    def how_many_are_missing(self) -> list[str]:
+        """An archive that says that matches are missing, where none is, is told the numbers: of a season that ended, and of the last one."""
+        last, wrong = Archive(self._archives()[-1]), []
+        for table, said in (("ending", "one"), ("publication", "two")):
+            forged = last.copy()
+            forged.tables[table][-1]["missing"] = "3"
+            found = self._said(forged.linked())
+            if f"0 matches of season {said} are missing, and the archive says 3" not in found:
+                wrong.append(f"{table}.missing: {found}")
+        return wrong
+
     def _fitted(self, forged: Archive, missing: bool) -> None:
         """Makes the tables of a forged archive fit its matches, as its own verification has them; and the chain."""
         with archives.read(forged.write(self.at("fitting.zip"))) as (store, _):
