@@ -229,8 +229,15 @@ def the_data(folder: str) -> Results:
         "matches": 10, "cycles": 500000, "seed": 7, "profile": 1, "sizes": [2], "Sample": "every pair"}
     listed = [it["page"] for it in told["robots"] + told["pairs"]] + [it["data"] for it in told["robots"]]
     yield "places as JSON", all(os.path.isfile(os.path.join(folder, it.partition("#")[0])) for it in listed)
+    row = told["table"][2]
+    yield f"a row as JSON {row}", {**row, "points": round(row["points"], 3)} == {
+        "division": 1, "rank": 3, "robot": made.NAMES[2], "played": 110, "won": 58, "tied": 11, "lost": 41, "points": 1.682,
+        "rating": 200.0, "low": 140.0, "high": 260.0, "close": True}
+    place = told["earlier"][0]["table"][made.NAMES[1]]
+    yield f"an earlier row as JSON {place}", [place[it] for it in ("rank", "rating", "low", "high")] == [3, 150.0, 90.0, 210.0]
     pair = told["pairs"][0]
-    yield "a pair as JSON", [pair[it] for it in ("won", "tied", "lost", "both_lost", "share", "verdict")] == [6, 1, 3, 1, 0.7, "not decided"]
+    yield "a pair as JSON", [pair[it] for it in ("won", "tied", "lost", "both_lost", "share", "low", "high", "verdict")] == [
+        6, 1, 3, 1, 0.7, 0.398, 0.892, "not decided"]
     yield "a match as JSON", {**told["robots"][1]["lost"][0], "command": ""} == {
         "robots": ["hunter.r", made.SCRIPT], "damage": [0, 100], "match": 4001, "seed": 2**64 - 4001, "cycles": 15, "command": ""}
     yield "names as JSON", [it["name"] for it in told["robots"]] == made.NAMES
