@@ -12,13 +12,14 @@ import shlex
 import subprocess
 import zlib
 from base64 import urlsafe_b64decode
+from dataclasses import replace
 from pathlib import Path
 from typing import Any, Iterator
 
 from harness import skip
 from packages import lacking
-from sites import addresses, charts, colours, commands, links, lookups, names, notables, places, robot_data, scales, shares, sources, sums
-from sites.facts import Battle, BySeat, Place, Score, Seat, Settings
+from sites import addresses, charts, colours, commands, links, lookups, names, notables, places, robot_data, scales, shares, sources, sums, verdicts
+from sites.facts import Battle, BySeat, Pair, Place, Score, Seat, Settings
 from sites.gathering import Gathering, Losses
 from sites.lookups import Stay
 from sites.markup import Markup, block, tag
@@ -106,6 +107,9 @@ def scores() -> Results:
         yield f"the interval of {counts}", abs(found[0] - low) < 5e-5 and abs(found[1] - high) < 5e-5
     yield "the share of ties", shares.share(Score(6, 1, 3, 1)) == 0.7
     yield "the other side", shares.turned(Score(6, 1, 3, 1)) == Score(2, 1, 7, 1)
+    even = Pair("a", "b", Score(5, 0, 5), 0.5, 0.5)
+    said = [verdicts.verdict(replace(even, low=low, high=high)).what for low, high in ((0.5, 0.9), (0.501, 0.9), (0.1, 0.5), (0.1, 0.499))]
+    yield f"decided by the interval {said}", said == ["not decided", "better", "not decided", "worse"]
     yield "no match", (shares.share(Score(0, 0, 0)), shares.interval(Score(0, 0, 0))) == (0.5, (0.0, 1.0))
 
 
