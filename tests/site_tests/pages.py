@@ -156,6 +156,11 @@ def a_pairs_data(folder: str) -> Results:
         ["hunter.r", "hunter.r"], ["_3cscript_3ealert_281_29_3c_2fscript_3e.r", made.SCRIPT]]
 
 
+def hash_of(path: str) -> str:
+    with open(path, "rb") as file:
+        return hashlib.file_digest(file, "sha256").hexdigest()
+
+
 def a_robot(folder: str) -> Results:
     """The page of a robot."""
     page = read(os.path.join(folder, "robots", "hunter.r.html"))
@@ -166,6 +171,8 @@ def a_robot(folder: str) -> Results:
     tables = {it.one("caption").text(): rows(it) for it in page.all("table")}
     versions = tables["Versions, the last one first"]
     yield "its versions", [row[0] for row in versions[1:]] == ["2026-11-10", "2026-10-01"]
+    found = [hash_of(os.path.join(folder, "robots", it.attributes["href"]))[:16] for it in sections["Versions"].all("a")]
+    yield f"each version's link leads to its source {found}", found == [row[1] for row in versions[1:]]
     yield "all opponents", [it.attributes["data-opponents"] for it in page.all("div") if "data-opponents" in it.attributes] == ["hunter.r"]
     best = tables["Its best opponents"]
     yield "its best opponents", len(best) == 6
