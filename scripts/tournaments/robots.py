@@ -67,6 +67,11 @@ def copy(path: str, folder: str) -> Robot:
             source = file.read()
     except OSError as why:
         unreadable(path, why)
+    return laid(path, source, folder)
+
+
+def laid(path: str, source: bytes, folder: str) -> Robot:
+    """A robot with these bytes, which are put into a folder under their hash."""
     it = Robot(path, hashlib.sha256(source).hexdigest())
     place = os.path.join(folder, it.sha256)
     try:
