@@ -49,6 +49,8 @@ def serve(given: argparse.Namespace) -> None:
         outside = site.outside or f"http://{given.address or LOCAL}:{port}"
         show([f"The ladder is at {outside}{site.to('')}\n", *([f"The organiser joins at {outside}{site.to('join')}#{token}\n"] if token else [])])
         clean()
+        # it is read once, and not by each child anew
+        importlib.import_module("ladder.app")
         Keeper(given.script, [lambda: web(waitress, site, heard), lambda: play(given)]).keep()
 
 

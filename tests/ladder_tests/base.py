@@ -115,6 +115,12 @@ class Ladder:
                 time.sleep(0.05)
         raise AssertionError("it doesn't answer")
 
+    def verified(self) -> str:
+        """What `verify` says of all matches of an archive."""
+        words = [LEAGUE, "verify", "--all", "--quiet", self.folder]
+        ran = subprocess.run(words, env=self.environment, capture_output=True, text=True, timeout=5 * SECONDS, check=False)
+        return f"{ran.stdout}{ran.stderr}"
+
     def ask(self, method: str, path: str, body: bytes | str | None = None, token: str = "", cookie: str = "", origin: str | None = None,
             **heads: str) -> Answer:
         """Asks it: with a token in the head, or with a cookie, and from this origin."""
@@ -149,6 +155,7 @@ class Ladder:
     def terms(self, **changes: Any) -> None:
         """Changes the terms."""
         with opened(self.folder) as store:
+            schema.ready(store)
             settle(store, replace(terms(store), **changes))
 
     def add(self, robot: str, text: str, day: str = TODAY) -> None:
