@@ -1,0 +1,194 @@
+"""Tests of what the page says of a change of a robot and of a number's values: the intervals, starts, marks and points are those of
+crobots-challenge and crobots-tune."""
+
+from __future__ import annotations
+
+import json
+import os
+import random
+import shutil
+import subprocess
+import sys
+import tempfile
+from typing import Any, Iterator
+
+import packages
+
+HERE = os.path.dirname(os.path.abspath(__file__))
+TOP = os.path.normpath(os.path.join(HERE, "..", ".."))
+sys.path.insert(0, os.path.join(TOP, "scripts"))
+# pylint: disable=wrong-import-position
+from tools.faults import Fault  # noqa: E402
+from tournaments import intervals, seats  # noqa: E402
+from tune_tests import marks as tables  # noqa: E402
+from tuning import marks, scoring  # noqa: E402
+
+from .battles import samples  # noqa: E402
+from .stores import modules  # noqa: E402
+
+SECONDS = 600
+SEED = 20261129
+# by how much numbers of two programs may differ that are added up in another order
+NEAR = 1e-9
+# Classes of numbers, their mean, and half of its interval, worked out by hand. The ten numbers have the variance 82.5 / 9 and so the
+# error 0.9574; nine degrees of freedom have the quantile 2.2622 in all tables. Both classes have the variance 2 and the error 1, the
+# mean of both the error 0.7071 and, by Welch and Satterthwaite, two degrees of freedom, whose quantile is 4.3027.
+BY_HAND = (([[1, 1, 1]], 1.0, 0.0), ([[*range(10)]], 4.5, 2.1659), ([[0, 2], [1, 3]], 1.5, 3.0425))
+# what tables of the normal distribution have
+QUANTILES = {0.5: 0.0, 0.975: 1.959964, 0.025: -1.959964, 0.995: 2.575829, 0.9999: 3.719016, 0.9999999999: 6.361341}
+
+
+def lacking(_folder: str) -> str:
+    """What is lacking for these tests."""
+    return packages.lacking(["node"])
+
+
+def answers(jobs: list[tuple[str, tuple[Any, ...]]], module: str = "") -> list[Any]:
+    """What the page's modules answer by Node."""
+    with modules() as place:
+        words = [shutil.which("node") or "node", os.path.join(HERE, "worked.mjs"), place, *([module] if module else [])]
+        text = json.dumps([{"what": what, "words": given} for what, given in jobs])
+        ran = subprocess.run(words, input=text, capture_output=True, text=True, check=False, timeout=SECONDS)
+    if ran.returncode:
+        raise RuntimeError(ran.stderr[-2000:])
+    return list(json.loads(ran.stdout))
+
+
+def is_near(got: Any, wanted: tuple[float, float, float]) -> bool:
+    """Whether an interval is this one."""
+    return all(abs(got[name] - value) <= NEAR * max(1, abs(value)) for name, value in zip(("value", "low", "high"), wanted))
+
+
+def by_hand() -> list[str]:
+    """Means, their intervals and quantiles that were worked out by hand or stand in tables."""
+    got = answers([("mean", (classes,)) for classes, _, _ in BY_HAND] + [("normal", (chance,)) for chance in QUANTILES])
+    wrong = [f"{classes}: {it}, not {value} and {half}" for (classes, value, half), it in zip(BY_HAND, got)
+             if abs(it["value"] - value) > 1e-4 or abs(it["high"] - value - half) > 2e-3 or abs(value - it["low"] - half) > 2e-3]
+    return wrong + [f"{chance}: {it}" for chance, it in zip(QUANTILES, got[len(BY_HAND):]) if abs(it - QUANTILES[chance]) > 1e-6]
+
+
+def drawn_classes(draw: random.Random) -> list[list[float]]:
+    """Differences of matches with some opponents: many, few, all alike."""
+    worth = draw.choice(((-3, 0, 3), (-3, -2, -1, 0, 1, 2, 3), (0,), (0, 0, 0, 0, 0, 0, 0, 3)))
+    return [[float(draw.choice(worth)) for _ in range(draw.choice((2, 3, 4, 10, 100)))] for _ in range(draw.randint(1, 13))]
+
+
+def like_python() -> list[str]:
+    """Of drawn differences the intervals are those of the scripts, for a change and for a value, at each level."""
+    draw = random.Random(SEED)
+    several = [drawn_classes(draw) for _ in range(300)]
+    levels = [draw.choice((0.95, 0.99, 1 - 0.01 / 19)) for _ in several]
+    got = answers([("mean", (it,)) for it in several] + [("estimate", (it, 3, level)) for it, level in zip(several, levels)])
+    changes = [intervals.mean(it) for it in several]
+    values = [scoring.estimate([(1.0, numbers) for numbers in it], 3, level) for it, level in zip(several, levels)]
+    wanted = [(it.value, it.low, it.high) for it in (*changes, *values)]
+    return [f"{numbers}: {it}, not {right}" for numbers, it, right in zip(several * 2, got, wanted) if not is_near(it, right)][:5]
+
+
+def starts() -> list[str]:
+    """The seeds of both orders are those of tournaments, for each seed and each text of a robot."""
+    sources = ["", "main(){}", "main(){ /* \u00e4\U0001f600 */ }", "\ufeffmain(){}\r\n", *(text.decode() for _, text in samples())]
+    seeds = (0, 1, 2**63, 2**64 - 1)
+    asked = [(seed, source) for seed in seeds for source in sources]
+    got = answers([("seatings", (f"00{seed}", source)) for seed, source in asked])
+    wrong = []
+    for (seed, source), both in zip(asked, got):
+        right = seats.seatings(seed, ["challenger", robot_key(source)])
+        if [(it["isFirst"], it["seed"]) for it in both] != [(it.order == (0, 1), str(it.seed)) for it in right]:
+            wrong.append(f"{seed} {source[:40]!r}: {both}, not {right}")
+    return wrong
+
+
+def robot_key(source: str) -> str:
+    """What stands for a robot."""
+    with tempfile.NamedTemporaryFile(suffix=".r") as file:
+        file.write(source.encode())
+        file.flush()
+        return subprocess.run(["sha256sum", file.name], capture_output=True, text=True, check=True).stdout.split()[0]
+
+
+def constants(source: bytes) -> list[dict[str, int]]:
+    """Where the constants of a source are, by a plain reader of its own."""
+    return [{"line": it.place.line, "column": it.place.column} for it in tables.read(source) if it.kind == "constant"]
+
+
+def judged(source: str) -> list[dict[str, Any]] | str:
+    """What crobots-tune says of a source's marks: their numbers, or what is wrong."""
+    data = source.encode()
+    try:
+        found = marks.numbers(data, tables.read(data), "r")
+    except Fault as why:
+        return str(why).removeprefix("r:").removeprefix(" ")
+    return [{"line": it.place.line, "column": it.place.column, "value": it.value, "low": it.range.low, "high": it.range.high, "step": it.range.step,
+             "name": it.name, "text": data[it.begin:it.end].decode()} for it in found]
+
+
+def marked_sources() -> list[str]:
+    """Sources of all kinds of marks, right and wrong, and some put together of pieces."""
+    draw = random.Random(SEED)
+    pieces = ["1", "23", "0007", "a", "a1", " ", "\n", "\t", "/**/", "/* \u00e9 */", "/* tune 0..9 */", "/* tune 1..30 step 7 name b */", "/*tune\n5..6\nname\tc*/",
+              "/* tune */", "/* tune 1.2 */", "/* tune it 0..9 */", ";", "=", "*", "/", "(", "\u00e4"]
+    put = ["".join(draw.choice(pieces) for _ in range(draw.randint(1, 12))) for _ in range(2000)]
+    return [source for source, _ in (*tables.RIGHT, *tables.WRONG)] + put
+
+
+def listed(source: str, it: dict[str, Any]) -> dict[str, Any]:
+    """A number as the page has it, with its digits in place of where they are."""
+    return {**{name: value for name, value in it.items() if name not in ("begin", "end")}, "text": source[it["begin"]:it["end"]]}
+
+
+def marked() -> list[str]:
+    """Numbers with marks, their values, and what is wrong with a mark, are those of crobots-tune, also behind letters of two bytes."""
+    sources = marked_sources()
+    got = answers([("tunables", (source, constants(source.encode()))) for source in sources])
+    wrong = []
+    for source, it in zip(sources, got):
+        right = judged(source)
+        if isinstance(right, str):
+            wrong += [] if it == {"fault": right} else [f"{source!r}: {it}, not {right!r}"]
+        elif isinstance(it, dict) or [listed(source, number) for number in it] != right:
+            wrong.append(f"{source!r}: {it}, not {right}")
+    return wrong[:5]
+
+
+def values() -> list[str]:
+    """The values of a sweep, and a source with other values, are those of crobots-tune."""
+    draw = random.Random(SEED)
+    them = []
+    for _ in range(500):
+        low = draw.choice((0, 1, 100, draw.randrange(10**6)))
+        high = low + draw.choice((1, 2, 19, 20, 21, 99, 1000, 2**30))
+        them.append({"low": low, "high": high, "step": draw.choice((None, None, 1 + (high - low) // draw.randint(1, 30))), "value": draw.randint(low, high)})
+    got = answers([("values", (it,)) for it in them])
+    right = [marks.Range(it["low"] or 0, it["high"] or 0, it["step"]).values(it["value"] or 0) for it in them]
+    wrong = [f"{it}: {values[:30]}, not {wanted[:30]}" for it, values, wanted in zip(them, got, right) if values != wanted][:3]
+    source = "main(){ \u00e4 007 /* tune 0..9 */; 5 /* tune 0..9 */; }"
+    made = answers([("changed", (source, constants(source.encode()), pair)) for pair in ((7, 5), (8, 5), (0, 123))])
+    texts = [source, source.replace("007", "8"), source.replace("007", "0").replace("5", "123")]
+    return wrong + ([] if made == texts else [f"{made}"])
+
+
+HEAD = "cycle\trobot\tkind\ta\tb\tc\td\te\n"
+SAME = "0\t1\tat\t1\n0\t2\tat\t2\n9\t2\tscan\t7\n4\t1\tshot\t5\n15\t1\tat\t3\n"
+# two films, and the cycle in which they first differ: a row is lacking, another, in another order, of a match that ends later
+FILMS = (
+    (SAME, SAME, None), (SAME, SAME.replace("4\t1\tshot\t5\n", ""), 4), (SAME, SAME.replace("scan\t7", "scan\t8"), 9),
+    (SAME.replace("9\t2\tscan\t7\n4\t1\tshot\t5\n", "4\t1\tshot\t5\n9\t2\tscan\t7\n"), SAME, None),
+    (SAME.replace("scan\t7", "scan\t8"), SAME.replace("shot\t5", "shot\t6"), 4), (SAME, SAME + "30\t1\tat\t4\n", 30), (SAME + "16\t1\tend\t0\n", SAME, 16),
+)
+
+
+def partings() -> list[str]:
+    """Where films first differ, by hand."""
+    got = answers([("parting", (HEAD + one, HEAD + other)) for one, other, _ in FILMS])
+    return [f"{film[:2]}: {cycle}, not {film[2]}" for film, cycle in zip(FILMS, got) if cycle != film[2]]
+
+
+def results(crobots: str, stages: str, folder: str) -> Iterator[tuple[str, list[str]]]:
+    """The tests' names, and what is wrong."""
+    yield "intervals by hand", by_hand()
+    yield "intervals of the scripts", like_python()
+    yield "starts", starts()
+    yield "marks", marked()
+    yield "values", values()
+    yield "where films part", partings()
