@@ -29,10 +29,12 @@ const FAR = [
 
 const sum = numbers => numbers.reduce((whole, it) => whole + it, 0);
 const average = numbers => sum(numbers) / numbers.length;
-const quotient = ([above, below], x) => {
-    const [top, bottom] = [above, below].map(factors => factors.reduce((value, factor) => value * x + factor, 0));
-    return top / bottom;
-};
+
+/** The quotient of two polynomials. @param {number[][]} both */
+function quotient(both, x) {
+    const [above, below] = both.map(factors => factors.reduce((value, factor) => value * x + factor, 0));
+    return above / below;
+}
 
 /** The variance of numbers, without bias. */
 function varianceOf(numbers) {
