@@ -9,17 +9,19 @@ const USUAL_SPEED = 300;
 const MOST_SECONDS = 45;
 // so many cycles before the first difference the films begin
 const CYCLES_BEFORE = 300;
-const LEAST_HEIGHT = 200;
-// what stands above and below the films, in pixels
-const AROUND_FILMS = 190;
+const LEAST_HEIGHT = 150;
+// what is around the parts of the dialog, and the head of a film, in pixels
+const AROUND = 60;
+const HEAD = 28;
+const STACKED = matchMedia("(orientation: portrait)");
 
 const shown = cycle => Math.floor(cycle).toLocaleString("en");
 
 /** A film that is led by the buttons below it. */
 class Half extends Screen {
     get room() {
-        const high = window.innerHeight - AROUND_FILMS;
-        return Math.max(LEAST_HEIGHT, window.innerWidth > window.innerHeight ? high : high / 2);
+        const others = [...byId("duo").children].filter(({id}) => id !== "duo-films").reduce((sum, it) => sum + it.offsetHeight, 0);
+        return Math.max(LEAST_HEIGHT, (window.innerHeight - AROUND - others) / (STACKED.matches ? 2 : 1) - HEAD);
     }
 
     fit() {
@@ -91,7 +93,7 @@ export class Duo {
         byId("duo-slider").max = `${this.last}`;
         byId("duo-mark").hidden = byId("duo-parting").disabled = this.parting === null;
         byId("duo-mark").style.setProperty("--part", `${(this.parting ?? 0) / this.last}`);
-        byId("duo-parting").textContent = this.parting === null ? "They never differ" : `To the first difference, cycle ${shown(this.parting)}`;
+        byId("duo-parting").textContent = this.parting === null ? "They never differ" : `To the first difference: cycle ${shown(this.parting)}`;
     }
 
     /** Goes to a cycle, and pauses there. */
@@ -143,9 +145,12 @@ export class Duo {
         }
     }
 
+    /** The dialog was closed, if it isn't open for another match already. */
     end() {
-        this.isPlaying = false;
-        this.bench.stop();
-        this.halves.forEach(({frame}) => { frame.hidden = true; });
+        if (!byId("duo").open) {
+            this.isPlaying = false;
+            this.bench.stop();
+            this.halves.forEach(({frame}) => { frame.hidden = true; });
+        }
     }
 }

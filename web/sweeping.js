@@ -16,7 +16,8 @@ const cellsOf = ({value, points, change, matches, verdict}) =>
 /** The result in words. */
 export function toldOf(rows, {name, value}) {
     const [better, worse] = ["better", "worse"].map(verdict => rows.filter(it => it.verdict === verdict));
-    const listed = several => several.sort((one, other) => other.points - one.points).map(it => it.value).join(", ") || "none";
+    better.sort((one, other) => other.points - one.points);
+    const listed = several => several.map(it => it.value).join(", ") || "none";
     return `${name}: surely better than today's ${value}: ${listed(better)}. Surely worse: ${listed(worse)}. Of the others: ${NOTHING}.`;
 }
 
