@@ -24,7 +24,7 @@ from tune_tests import marks as tables  # noqa: E402
 from tuning import marks, scoring  # noqa: E402
 
 from .battles import samples  # noqa: E402
-from .stores import modules  # noqa: E402
+from .stores import modules, told  # noqa: E402
 
 SECONDS = 600
 SEED = 20261129
@@ -186,6 +186,7 @@ def partings() -> list[str]:
 
 def results(crobots: str, stages: str, folder: str) -> Iterator[tuple[str, list[str]]]:
     """The tests' names, and what is wrong."""
+    yield from told("contests.test.mjs", "trials")
     yield "intervals by hand", by_hand()
     yield "intervals of the scripts", like_python()
     yield "starts", starts()
