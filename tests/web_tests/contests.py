@@ -23,7 +23,7 @@ from tournaments import intervals, seats  # noqa: E402
 from tune_tests import marks as tables  # noqa: E402
 from tuning import marks, scoring  # noqa: E402
 
-from .battles import samples  # noqa: E402
+from .battles import random_battles, samples  # noqa: E402
 from .stores import modules, told  # noqa: E402
 
 SECONDS = 600
@@ -127,7 +127,8 @@ def marked_sources() -> list[str]:
     """Sources of all kinds of marks, right and wrong, and some put together of pieces."""
     draw = random.Random(SEED)
     pieces = ["1", "23", "0007", "a", "a1", " ", "\n", "\t", "/**/", "/* \u00e9 */", "/* tune 0..9 */", "/* tune 1..30 step 7 name b */", "/*tune\n5..6\nname\tc*/",
-              "/* tune */", "/* tune 1.2 */", "/* tune it 0..9 */", ";", "=", "*", "/", "(", "\u00e4"]
+              "/* tune */", "/* tune 1.2 */", "/* tune it 0..9 */", "/* tune 0..9\x1cname d */", "/* tune 0..9\u00a0name e */",
+              "\ufeff", ";", "=", "*", "/", "(", "\u00e4"]
     put = ["".join(draw.choice(pieces) for _ in range(draw.randint(1, 12))) for _ in range(2000)]
     return [source for source, _ in (*tables.RIGHT, *tables.WRONG)] + put
 
@@ -173,6 +174,7 @@ SAME = "0\t1\tat\t1\n0\t2\tat\t2\n9\t2\tscan\t7\n4\t1\tshot\t5\n15\t1\tat\t3\n"
 # two films, and the cycle in which they first differ: a row is lacking, another, in another order, of a match that ends later
 FILMS = (
     (SAME, SAME, None), (SAME, SAME.replace("4\t1\tshot\t5\n", ""), 4), (SAME, SAME.replace("scan\t7", "scan\t8"), 9),
+    (SAME + "30\t1\tat\t4\n30\t2\tat\t5\n", SAME + "30\t2\tat\t5\n30\t1\tat\t4\n", None),
     (SAME.replace("9\t2\tscan\t7\n4\t1\tshot\t5\n", "4\t1\tshot\t5\n9\t2\tscan\t7\n"), SAME, None),
     (SAME.replace("scan\t7", "scan\t8"), SAME.replace("shot\t5", "shot\t6"), 4), (SAME, SAME + "30\t1\tat\t4\n", 30), (SAME + "16\t1\tend\t0\n", SAME, 16),
 )
@@ -184,6 +186,122 @@ def partings() -> list[str]:
     return [f"{film[:2]}: {cycle}, not {film[2]}" for film, cycle in zip(FILMS, got) if cycle != film[2]]
 
 
+def robot(name: str) -> str:
+    """The source of a sample."""
+    return dict(samples())[name].decode()
+
+
+def answered(script: str, words: list[str], files: dict[str, str]) -> Any:
+    """What a script answers as JSON, in a folder with some files."""
+    with tempfile.TemporaryDirectory() as place:
+        for name, source in files.items():
+            with open(os.path.join(place, name), "w", encoding="utf-8", newline="") as file:
+                file.write(source)
+        ran = subprocess.run([os.path.join(TOP, "scripts", script), "--json", "-j2", *words], cwd=place, capture_output=True, text=True, check=False, timeout=SECONDS)
+    if ran.returncode:
+        raise RuntimeError(ran.stderr[-2000:])
+    return json.loads(ran.stdout)
+
+
+# Changes of a robot: how it was, how it is now, its opponents, and the words for the match: matches, limit, seed, profile.
+CHANGES = (
+    ("sweeper.r", ("scan(angle, 10)", "scan(angle, 5)"), ("hunter.r", "sniper.r", "jumpy.r"), (20, 50_000, 1, 1)),
+    ("hunter.r", ("main", "/* \u00e4 */ main"), ("sniper.r", "wanderer.r"), (5, 3_000, 2**64 - 1, 2)),
+    ("runner.r", ("main()", "main() { while (1) cannon(rand(360), 300); } old()"), ("leader.r", "centre.r", "boxer.r", "jouster.r"), (7, 20_000, 0, 1)),
+)
+
+
+def rules_of(numbers: tuple[int, int, int, int]) -> tuple[list[str], dict[str, Any], int]:
+    """The words of a script, the page's settings, and the matches in each seat."""
+    matches, limit, seed, profile = numbers
+    return [f"-m{matches}", f"-l{limit}", f"-s{seed}", f"-p{profile}"], {"limit": limit, "seed": str(seed), "profile": profile}, -(-matches // 2)
+
+
+def differing(got: Any, wanted: Any, names: dict[str, str]) -> list[str]:
+    """Which of some numbers differ: the page's names, and those of the script."""
+    return [f"{mine}: {got[mine]}, not {wanted[theirs]}" for mine, theirs in names.items() if abs(got[mine] - wanted[theirs]) > NEAR]
+
+
+def worth(got: Any, wanted: Any) -> list[str]:
+    """Where what a change is worth differs."""
+    return differing({**got, **got["change"]}, wanted, {"fresh": "new", "old": "old", "value": "change", "low": "low", "high": "high"})
+
+
+def pairs_of(flipped: Any) -> list[tuple[Any, ...]]:
+    """The matches that changed, of the page."""
+    return sorted((it["opponent"]["name"], it["number"], 1 if it["isFirst"] else 2, it["seed"], *(it[version][fact] for version in ("fresh", "old") for fact in ("did", "cycles")))
+                  for it in flipped)
+
+
+def changes_of(changed: Any) -> list[tuple[Any, ...]]:
+    """The matches that changed, of crobots-challenge."""
+    return sorted((it["against"], it["match"], it["seat"], it["seed"], *(it[version][fact] for version in ("new", "old") for fact in ("did", "cycles"))) for it in changed)
+
+
+def contests(crobots: str, folder: str) -> list[str]:
+    """What a change is worth, against each opponent and all, and which matches it changed, is what crobots-challenge says."""
+    wrong, jobs, wanted = [], [], []
+    for name, (before, after), against, numbers in CHANGES:
+        words, settings, each = rules_of(numbers)
+        old, opponents = robot(name), [{"name": it, "source": robot(it)} for it in against]
+        files = {"old.r": old, "new.r": old.replace(before, after, 1), **{it["name"]: it["source"] for it in opponents}}
+        wanted.append(answered("challenge", ["--all", "--crobots", crobots, *words, "new.r", "--old", "old.r", *against], files))
+        jobs.append(("contest", (settings, files["new.r"], old, opponents, each)))
+    for got, right in zip(answers(jobs, f"{folder}.wasm"), wanted):
+        mine, theirs = ({it[key]: it for it in them} for them, key in ((got["opponents"], "name"), (right["opponents"], "against")))
+        wrong += worth(got["all"], right["all"]) + ([] if mine.keys() == theirs.keys() else [f"{mine.keys()}, not {theirs.keys()}"])
+        wrong += [f"{name}: {line}" for name in theirs for line in worth(mine[name], theirs[name])]
+        wrong += [] if pairs_of(got["flipped"]) == changes_of(right["changed"]) else [f"{pairs_of(got['flipped'])[:3]}, not {changes_of(right['changed'])[:3]}"]
+    return wrong if any(it["changed"] for it in wanted) else ["no match changed"]
+
+
+# Marks in samples, and the words for their sweeps; a mark stands behind letters of two bytes.
+SWEEPS = (
+    ("sweeper.r", ("> 40)", "> 40 /* tune 0..400 step 100 name near */)"), ("runner.r", "hunter.r"), (20, 20_000, 1, 1)),
+    ("sweeper.r", ("angle + 20", "/* \u00e4\u00f6 */ angle + 20 /* tune 1..60 */"), ("wanderer.r", "sweeper.r", "jumpy.r"), (6, 30_000, 77, 2)),
+)
+
+
+def sweeps(crobots: str, stages: str, folder: str) -> list[str]:
+    """The points, changes, intervals and verdicts of a sweep are those of crobots-tune."""
+    wrong, jobs, wanted = [], [], []
+    for name, (before, after), against, numbers in SWEEPS:
+        words, settings, each = rules_of(numbers)
+        opponents = [{"name": it, "source": robot(it)} for it in against]
+        files = {"marked.r": robot(name).replace(before, after, 1), **{it["name"]: it["source"] for it in opponents}}
+        wanted.append(answered("tune", ["--sweep", "--crobots", crobots, "--stages", stages, *words, "marked.r", *against], files))
+        jobs.append(("sweep", (settings, files["marked.r"], opponents, each)))
+    for got, right in zip(answers(jobs, f"{folder}.wasm"), wanted):
+        facts = [[(it["value"], it["matches"], it["verdict"]) for it in got["rows"]], [(it["values"][0], it["matches"], it["verdict"]) for it in right["sweep"]]]
+        wrong += [] if facts[0] == facts[1] else [f"{facts[0]}, not {facts[1]}"]
+        place = {name: right["numbers"][0][name] for name in ("name", "line", "column", "low", "high")}
+        wrong += [] if place == {name: got["number"][name] for name in place} else [f"{got['number']}, not {place}"]
+        for mine, theirs in zip(got["rows"], right["sweep"]):
+            wrong += differing({**mine, **mine["change"]}, theirs, {"points": "points", "low": "low", "high": "high"})
+    return wrong if any(it["verdict"] == "worse" for right in wanted for it in right["sweep"]) else [*wrong, "no value is worse"]
+
+
+def constants_of(stages: str, source: bytes, profile: int) -> list[dict[str, int]] | None:
+    """Where the constants of a source are, by the tokens of crobots-stages; nothing of one with a fault."""
+    with tempfile.NamedTemporaryFile(suffix=".r") as file:
+        file.write(source)
+        file.flush()
+        ran = subprocess.run([stages, "--tokens", f"-p{profile}", file.name], capture_output=True, text=True, check=False, timeout=SECONDS)
+    rows = [line.split() for line in ran.stdout.splitlines()]
+    return None if ran.returncode else [{"line": int(row[0]), "column": int(row[1])} for row in rows if row[2] == "constant"]
+
+
+def placed(stages: str, folder: str) -> list[str]:
+    """Where the page takes constants to be is where crobots-stages has them, in samples and random sources of both profiles."""
+    sources = {source for _, source in samples()} | {source for battle in random_battles(40, 29) for _, source in battle.robots}
+    asked = [(source, profile) for source in sorted(sources) for profile in (1, 2)]
+    wanted = [constants_of(stages, *it) for it in asked]
+    got = answers([("constants", (source.decode("latin-1"), profile)) for source, profile in asked if source.isascii()], f"{folder}.wasm")
+    right = [it for (source, _), it in zip(asked, wanted) if source.isascii()]
+    wrong = [f"{mine}, not {it}" for mine, it in zip(got, right) if it is not None and sorted(mine, key=str) != sorted(it, key=str)]
+    return wrong[:3] if sum(bool(it) for it in right) > 40 else [*wrong[:3], "few sources have constants"]
+
+
 def results(crobots: str, stages: str, folder: str) -> Iterator[tuple[str, list[str]]]:
     """The tests' names, and what is wrong."""
     yield from told("contests.test.mjs", "trials")
@@ -193,3 +311,6 @@ def results(crobots: str, stages: str, folder: str) -> Iterator[tuple[str, list[
     yield "marks", marked()
     yield "values", values()
     yield "where films part", partings()
+    yield "a change as crobots-challenge has it", contests(crobots, folder)
+    yield "a sweep as crobots-tune has it", sweeps(crobots, stages, folder)
+    yield "constants as crobots-stages has them", placed(stages, folder)
