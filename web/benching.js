@@ -94,12 +94,6 @@ export class Far {
     }
 }
 
-/** A number with its sign and some digits; a zero has a plus. */
-export function signed(value, digits = 2) {
-    const text = Math.abs(value).toFixed(digits);
-    return `${value < 0 && Number(text) ? "-" : "+"}${text}`;
-}
-
 /** A table of rows of texts; the first cell of each names it. */
 export function tableOf(heads, rows, caption) {
     const table = made("table", "", "trials");

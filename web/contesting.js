@@ -1,18 +1,19 @@
 // What a change of a robot is worth: a version and the robot as it is now play in the same matches, beside the list of versions.
-import {buttonOf} from "./asking.js";
-import {Choice, Far, signed, tableOf} from "./benching.js";
+import {buttonOf, reveal} from "./asking.js";
+import {Choice, Far, tableOf} from "./benching.js";
 import {STOPPED} from "./calling.js";
 import {contestOf, matchesOf} from "./contests.js";
 import {byId, made} from "./dom.js";
-import {isSure} from "./intervals.js";
+import {fixed, isSure, withSign} from "./intervals.js";
 import {opponentsOf, seated} from "./trials.js";
 
 // of the matches that changed so many can be pressed
 const MOST_SHOWN = 40;
 const HEADS = ["against", "now", "version", "change", "95 % interval"];
 
+const signed = value => withSign(value, 2);
 const cellsOf = ({name, fresh, old, change}) =>
-    [name, fresh.toFixed(2), old.toFixed(2), signed(change.value), `${signed(change.low)} to ${signed(change.high)}`];
+    [name, fixed(fresh, 2), fixed(old, 2), signed(change.value), `${signed(change.low)} to ${signed(change.high)}`];
 
 /** What a change is, in words. */
 function verdictOf(change) {
@@ -46,12 +47,15 @@ export class Contesting {
     /** The choice is that of the battle; what was found goes with the robot. */
     follow() {
         this.choice.offer();
-        if (this.store.robot.key !== this.key) {
-            this.key = this.store.robot.key;
-            this.bench.stop();
+        const {key, source} = this.store.robot;
+        if (key !== this.key) {
+            this.key = key;
+            this.weighed = source;
+            this.far.end(this.far.run, () => this.bench.stop());
             byId("contest").replaceChildren();
             this.tell("");
         }
+        byId("contest-age").hidden = source === this.weighed || !byId("contest-told").textContent;
     }
 
     tell(text) {
@@ -72,7 +76,10 @@ export class Contesting {
         const run = this.bench.begin();
         byId("contest").replaceChildren();
         this.tell("Both are playing.");
+        this.weighed = fresh.source;
+        this.follow();
         this.far.begin(run, matchesOf(opponents, each));
+        reveal(byId("contest-told"));
         try {
             const found = await contestOf({...task, call: (settings, robots) => run.call("run", settings, robots), onSlice: count => this.far.add(run, count)});
             this.show(task, found);

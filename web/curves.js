@@ -1,4 +1,6 @@
 // The curve of a sweep: the change in points over the values, with the band of its intervals; today's value is at 0.
+import {withSign} from "./intervals.js";
+
 const WIDTH = 640, HEIGHT = 300;
 const LEFT = 52, RIGHT = 16, TOP = 12, BOTTOM = 44;
 const TICKS = 6;
@@ -22,7 +24,7 @@ export function ticksOf(low, high) {
 }
 
 const scaleOf = (low, high, from, to) => value => from + (value - low) / (high - low) * (to - from);
-const signed = value => `${value < -1e-9 ? "-" : "+"}${Math.abs(value).toFixed(2)}`;
+const signed = value => withSign(value, 2);
 
 /** What is drawn of a row: its dot with what a pointer says of it. */
 function dotOf({value, change, verdict}, x, y) {

@@ -99,3 +99,16 @@ export function estimateOf(classes, most, level = 0.95) {
     const quantile = student(normalQuantile(1 - (1 - level) / 2), Math.max(freedom, 1), 5);
     return around(sum(classes.map(it => share * average(it))), quantile * Math.sqrt(variance));
 }
+
+/** A number of at least 0 with some digits, as the scripts write it: of a number in the middle of two the even one. */
+export function fixed(value, digits) {
+    const isMiddle = value * 2 ** (digits + 1) % 2 === 1;
+    const below = Math.floor(value * 10 ** digits);
+    return isMiddle ? ((below + below % 2) / 10 ** digits).toFixed(digits) : value.toFixed(digits);
+}
+
+/** A number with its sign and some digits; a zero has a plus. */
+export function withSign(value, digits) {
+    const text = fixed(Math.abs(value), digits);
+    return `${value < 0 && Number(text) ? "-" : "+"}${text}`;
+}

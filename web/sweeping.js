@@ -1,9 +1,10 @@
 // Sweeps of the numbers of the robot that is edited: those with a mark have a button, and a curve by the page's own engine.
-import {buttonOf} from "./asking.js";
-import {Choice, Far, signed, tableOf} from "./benching.js";
+import {buttonOf, reveal} from "./asking.js";
+import {Choice, Far, tableOf} from "./benching.js";
 import {STOPPED} from "./calling.js";
 import {curveOf} from "./curves.js";
 import {byId, made} from "./dom.js";
+import {fixed, withSign} from "./intervals.js";
 import {NOTHING, matchesOf, sweepOf} from "./sweeps.js";
 import {opponentsOf} from "./trials.js";
 import {constantsOf, tunablesOf} from "./tuning.js";
@@ -11,7 +12,7 @@ import {constantsOf, tunablesOf} from "./tuning.js";
 const HEADS = ["value", "points", "change", "95 % interval", "matches", "verdict"];
 
 const cellsOf = ({value, points, change, matches, verdict}) =>
-    [`${value}`, points.toFixed(3), signed(change.value, 3), `${signed(change.low, 3)} to ${signed(change.high, 3)}`, matches.toLocaleString("en"), verdict];
+    [`${value}`, fixed(points, 3), withSign(change.value, 3), `${withSign(change.low, 3)} to ${withSign(change.high, 3)}`, matches.toLocaleString("en"), verdict];
 
 /** The result in words. */
 export function toldOf(rows, {name, value}) {
@@ -86,6 +87,7 @@ export class Sweeping {
         byId("sweep").replaceChildren();
         this.tell(`The values of ${number.name} are playing.`);
         this.far.begin(run, matchesOf(number, opponents, each));
+        reveal(byId("sweep-told"));
         await this.play({source, number, opponents, each, settings: {...this.store.battle.settings}}, run);
         this.far.end(run);
     }

@@ -10,7 +10,7 @@ import shutil
 import subprocess
 import sys
 import tempfile
-from typing import Any, Iterator
+from typing import Any, Iterator, Sequence
 
 import packages
 
@@ -43,7 +43,7 @@ def lacking(_folder: str) -> str:
     return packages.lacking(["node"])
 
 
-def answers(jobs: list[tuple[str, tuple[Any, ...]]], module: str = "") -> list[Any]:
+def answers(jobs: Sequence[tuple[str, tuple[Any, ...]]], module: str = "") -> list[Any]:
     """What the page's modules answer by Node."""
     with modules() as place:
         words = [shutil.which("node") or "node", os.path.join(HERE, "worked.mjs"), place, *([module] if module else [])]
@@ -79,10 +79,24 @@ def like_python() -> list[str]:
     several = [drawn_classes(draw) for _ in range(300)]
     levels = [draw.choice((0.95, 0.99, 1 - 0.01 / 19)) for _ in several]
     got = answers([("mean", (it,)) for it in several] + [("estimate", (it, 3, level)) for it, level in zip(several, levels)])
-    changes = [intervals.mean(it) for it in several]
-    values = [scoring.estimate([(1.0, numbers) for numbers in it], 3, level) for it, level in zip(several, levels)]
-    wanted = [(it.value, it.low, it.high) for it in (*changes, *values)]
+    changes = [(it.value, it.low, it.high) for it in map(intervals.mean, several)]
+    estimates = [scoring.estimate([(1.0, numbers) for numbers in it], 3, level) for it, level in zip(several, levels)]
+    wanted = changes + [(it.value, it.low, it.high) for it in estimates]
     return [f"{numbers}: {it}, not {right}" for numbers, it, right in zip(several * 2, got, wanted) if not is_near(it, right)][:5]
+
+
+def signed(value: float, digits: int) -> str:
+    """A number as the scripts write it: with its sign, a zero with a plus."""
+    return f"{round(value, digits) + 0.0:+.{digits}f}"
+
+
+def written() -> list[str]:
+    """Numbers are written as the scripts write them, those in the middle of two too."""
+    numbers = [at / 2**power for power in range(6) for at in range(-200, 200)] + [0.565, 1.005, 2.675, -0.001, -0.0049, -0.005, 0.285, 299 / 300, -1e-17]
+    asked = [(number, digits) for number in numbers for digits in (2, 3)]
+    got = answers([("written", it) for it in asked])
+    wanted = [[f"{round(abs(number), digits):.{digits}f}", signed(number, digits)] for number, digits in asked]
+    return [f"{it}: {mine}, not {right}" for it, mine, right in zip(asked, got, wanted) if mine != right][:5]
 
 
 def starts() -> list[str]:
@@ -93,18 +107,19 @@ def starts() -> list[str]:
     got = answers([("seatings", (f"00{seed}", source)) for seed, source in asked])
     wrong = []
     for (seed, source), both in zip(asked, got):
-        right = seats.seatings(seed, ["challenger", robot_key(source)])
+        right = seatings(seed, source)
         if [(it["isFirst"], it["seed"]) for it in both] != [(it.order == (0, 1), str(it.seed)) for it in right]:
             wrong.append(f"{seed} {source[:40]!r}: {both}, not {right}")
     return wrong
 
 
-def robot_key(source: str) -> str:
-    """What stands for a robot."""
+def seatings(seed: int, source: str) -> list[seats.Seating]:
+    """The seats and seeds of versions of a robot with an opponent."""
     with tempfile.NamedTemporaryFile(suffix=".r") as file:
         file.write(source.encode())
         file.flush()
-        return subprocess.run(["sha256sum", file.name], capture_output=True, text=True, check=True).stdout.split()[0]
+        key = subprocess.run(["sha256sum", file.name], capture_output=True, text=True, check=True).stdout.split()[0]
+    return seats.seatings(seed, ["challenger", key])
 
 
 def constants(source: bytes) -> list[dict[str, int]]:
@@ -307,6 +322,7 @@ def results(crobots: str, stages: str, folder: str) -> Iterator[tuple[str, list[
     yield from told("contests.test.mjs", "trials")
     yield "intervals by hand", by_hand()
     yield "intervals of the scripts", like_python()
+    yield "numbers as they are written", written()
     yield "starts", starts()
     yield "marks", marked()
     yield "values", values()

@@ -7,7 +7,7 @@ import path from "node:path";
 import {pathToFileURL} from "node:url";
 
 const load = name => import(pathToFileURL(path.join(process.argv[2], `${name}.js`)));
-const {estimateOf, meanOf, normalQuantile} = await load("intervals");
+const {estimateOf, fixed, meanOf, normalQuantile, withSign} = await load("intervals");
 const {seatingsOf, keyOf, CHALLENGER} = await load("seatings");
 const {constantsOf, tunablesOf, valuesOf, withValue} = await load("tuning");
 const {partingOf} = await load("partings");
@@ -34,6 +34,7 @@ async function sweep(settings, source, opponents, each) {
 const WORKS = {
     mean: classes => meanOf(classes),
     estimate: (classes, most, level) => estimateOf(classes, most, level),
+    written: (value, digits) => [fixed(Math.abs(value), digits), withSign(value, digits)],
     normal: chance => normalQuantile(chance),
     seatings: async (seed, source) => seatingsOf(seed, CHALLENGER, await keyOf(source)),
     tunables: (source, places) => tunablesOf(source, places),
