@@ -17,7 +17,7 @@ const cellsOf = ({name, fresh, old, change}) =>
 
 /** What a change is, in words. */
 function verdictOf(change) {
-    return !isSure(change) ? "These matches could show no difference." : change.low > 0 ? "The change is surely a gain." : "The change is surely a loss.";
+    return isSure(change) ? `The interval excludes 0: ${change.low > 0 ? "a gain" : "a loss"}.` : "No difference that these matches could show.";
 }
 
 /** The result in words. */
