@@ -62,3 +62,35 @@ export class Caller {
         failing.forEach(({fail}) => fail(new Error(why)));
     }
 }
+
+/** An engine of its own for trials, which starts when it is first needed. It does one thing at a time: what begins ends what ran. */
+export class Bench {
+    /** @param {() => Caller} newCaller */
+    constructor(newCaller) {
+        this.newCaller = newCaller;
+        /** @type {Caller | null} */
+        this.caller = null;
+        /** @type {{isOver: boolean, call: (call: string, settings: any, robots: any) => Promise<any>} | null} */
+        this.run = null;
+    }
+
+    /** Begins something. Returns a run, whose `call` calls the engine and fails once the run was stopped. */
+    begin() {
+        this.stop();
+        this.caller ??= this.newCaller();
+        const {caller} = this;
+        const run = {isOver: false, call: (call, settings, robots) => run.isOver ? Promise.reject(new Error(STOPPED)) : caller.call(call, settings, robots)};
+        this.run = run;
+        return run;
+    }
+
+    /** Ends what runs. */
+    stop() {
+        if (this.run) {
+            this.run.isOver = true;
+        }
+        if (this.caller?.waiting.size) {
+            this.caller.stop();
+        }
+    }
+}

@@ -140,6 +140,9 @@ class PlainEditor {
     /** A plain field can't mark places. */
     markAll() {}
 
+    /** Nor has it room for buttons. */
+    offer() {}
+
     /** Where the cursor is drawn isn't known. */
     get cursorBox() {
         return null;
@@ -161,6 +164,7 @@ class ColouredEditor {
         this.documents = new Map();
         this.marks = new WeakMap();
         this.found = [];
+        this.offered = [];
     }
 
     /** Says to assistive technology what the field is. */
@@ -290,6 +294,20 @@ class ColouredEditor {
         const ends = [from, to].map(at => this.mirror.posFromIndex(at));
         this.mirror.setSelection(...ends);
         this.mirror.scrollIntoView({from: ends[0], to: ends[1]}, 60);
+    }
+
+    /** Offers a sweep behind numbers, each {line, at, call}, and behind no others. */
+    offer(numbers) {
+        const {mirror} = this;
+        mirror.operation(() => {
+            this.offered.forEach(it => it.clear());
+            this.offered = numbers.map(({line, at, call}) => {
+                // who has no pointer finds the same below the editor
+                const widget = Object.assign(document.createElement("button"), {type: "button", className: "sweep", textContent: "sweep", tabIndex: -1, ariaHidden: "true"});
+                widget.addEventListener("click", call);
+                return mirror.setBookmark({line: line - 1, ch: at}, {widget, insertLeft: true});
+            });
+        });
     }
 
     /** Marks the places of a text of this length, and no others. */

@@ -37,10 +37,11 @@ function shownDiff(before, after) {
 
 export class Histories {
     /**
-     * `say` says what was done; `refresh` reads what other tabs have kept.
+     * `say` says what was done; `refresh` reads what other tabs have kept; `weigh` says what a change is worth since a robot's version.
      * @param {import("./store.js").Store} store
      */
-    constructor(store, say, refresh) {
+    constructor(store, say, refresh, weigh) {
+        this.weigh = weigh;
         this.store = store;
         this.say = say;
         byId("kept").addEventListener("toggle", async () => {
@@ -135,8 +136,9 @@ export class Histories {
         });
         const isNow = robot.source === store.robot.source;
         const back = buttonOf("Bring back", () => store.replaceRobot(store.robot.key, robot, true));
-        back.disabled = isNow;
-        row.append(`${robot.name}, ${this.factsOf(version)}${isNow ? ": as it is now" : ""} `, compare, " ", back);
+        const worth = Object.assign(buttonOf("Play both", () => this.weigh(robot)), {title: "What is the change since then worth?"});
+        back.disabled = worth.disabled = isNow;
+        row.append(`${robot.name}, ${this.factsOf(version)}${isNow ? ": as it is now" : ""} `, compare, " ", worth, " ", back);
         return row;
     }
 }

@@ -29,6 +29,11 @@ export class Workbench {
         this.editor = editor;
         this.compiler = compiler;
         this.faults = new Map();
+        /**
+         * Is called with a source that was compiled, and with its listing and places if it has no fault.
+         * @type {((source: string, compiled: {listing: string, places: string} | null) => void) | null}
+         */
+        this.onCompile = null;
         this.listing = new Listing(byId("code"), line => editor.goTo(line));
         editor.onChange(() => this.edited());
         editor.onMove(line => this.listing.mark(line));
@@ -154,6 +159,7 @@ export class Workbench {
             this.editor.warn(warningsOf(explained).filter(({line}) => line !== fault?.line));
             this.listing.show(listed.text, linesOf(places.text), turnsOf(turns));
             this.listing.mark(this.editor.line);
+            this.onCompile?.(source, listed.ending === Ending.DONE ? {listing: listed.text, places: places.text} : null);
             this.showDiagnostic(fault, listed);
             showExplanation(byId("explanation"), explained, line => this.editor.goTo(line));
         }

@@ -1,6 +1,7 @@
 // Runs the engine beside the page, so that the page stays alive while matches are played and their films are read.
 import {Engine} from "./engine.js";
 import {Ending} from "./limits.js";
+import {partingOf} from "./partings.js";
 import {cyclesOf, filmOf, isFilm} from "./player/films.js";
 
 const FILMS = ["film", "windows"];
@@ -29,11 +30,26 @@ function read({ending, text, faults}, {beyond = -1}, robots) {
     return {ending, faults, film: filmOf(text, names.length === 1 ? [...names, ...names] : names)};
 }
 
+/** Plays the same match with other robots, and reads the films; `parting` is the cycle in which the first two differ, if they do. */
+function compare(filming, settings, battles) {
+    const films = battles.map(robots => filming.film(settings, robots));
+    const [one, other] = films.map(({text}) => text);
+    return {films: films.map((film, at) => read(film, settings, battles[at])), parting: partingOf(one, other)};
+}
+
+function resultOf(called, {call, settings, robots}) {
+    if (call === "compare") {
+        return compare(called, settings, robots);
+    }
+    const answered = called[call](settings, robots);
+    return FILMS.includes(call) ? read(answered, settings, robots) : answered;
+}
+
 /** Does what a message asks for, and answers by its number. */
-async function answer({number, call, settings, robots}) {
+async function answer(data) {
+    const {number} = data;
     try {
-        const answered = (await engine)[call](settings, robots);
-        postMessage({number, result: FILMS.includes(call) ? read(answered, settings, robots) : answered});
+        postMessage({number, result: resultOf(await engine, data)});
     } catch (fault) {
         if (fault instanceof WebAssembly.RuntimeError) {
             // a call that was cut off leaves its stack; the next one gets a module of its own

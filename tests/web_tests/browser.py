@@ -11,7 +11,7 @@ from typing import Any, Callable, ContextManager, Iterator
 
 from harness import loaded
 
-from . import everyone, helping, inside, keeping, paths, robust, seeing, seen
+from . import everyone, helping, inside, keeping, paths, robust, seeing, seen, worths
 from .battles import Battle, Mistake, Settings, mistakes, outcome, random_battles, sample_battles, samples, vectors
 from .pages import Page, as_loaded, chromium, console, served, without
 
@@ -417,7 +417,7 @@ def speed(page: Page) -> list[str]:
     return [] if took <= 1 and report.startswith("Match 1: cycles = 100000\n") else [f"100,000 cycles in {took} s: {report}"]
 
 
-def results(crobots: str, _stages: str, folder: str) -> Iterator[tuple[str, list[str]]]:
+def results(crobots: str, stages: str, folder: str) -> Iterator[tuple[str, list[str]]]:
     """The tests' names, and what is wrong."""
     with served(folder) as address, chromium() as driver:
         page = Page(driver, address)
@@ -443,6 +443,7 @@ def results(crobots: str, _stages: str, folder: str) -> Iterator[tuple[str, list
         yield from seeing.results(page, crobots)
         yield from inside.results(page)
         yield from helping.results(page, crobots, folder)
+        yield from worths.results(page, crobots, stages, folder)
         yield from robust.results(page, folder)
         yield from everyone.results(page)
         yield from paths.results(page, folder)

@@ -5,7 +5,7 @@ from __future__ import annotations
 import os
 from typing import Iterator
 
-from . import browser, everyone, inside, paths
+from . import browser, everyone, inside, paths, worths
 from .battles import random_battles, sample_battles
 from .marionette import firefox, program
 from .pages import Page, served
@@ -17,7 +17,7 @@ def lacking(folder: str) -> str:
     return f"there is no {' and no '.join(missing)}" if missing else ""
 
 
-def results(crobots: str, _stages: str, folder: str) -> Iterator[tuple[str, list[str]]]:
+def results(crobots: str, stages: str, folder: str) -> Iterator[tuple[str, list[str]]]:
     """The tests' names, and what is wrong."""
     with served(folder) as address, firefox() as driver:
         page = Page(driver, address)
@@ -30,6 +30,7 @@ def results(crobots: str, _stages: str, folder: str) -> Iterator[tuple[str, list
         yield "watched matches", browser.watched(page, crobots)
         yield "widths", everyone.widths(page)
         yield from inside.results(page)
+        yield from worths.few(page, crobots, stages, folder)
         yield from paths.results(page, folder)
         other = Page(driver, "file://" + os.path.join(os.path.abspath(folder), "index.html"))
         other.open()

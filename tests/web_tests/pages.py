@@ -183,6 +183,10 @@ class Page:
         self.js("const it = document.getElementById(arguments[0]); it.value = arguments[1];"
                 "it.dispatchEvent(new Event('input', {bubbles: true}))", name, value)
 
+    def set_matches(self, choice: str, matches: int) -> None:
+        """Says how many matches trials have."""
+        self.js("document.querySelector(`#${arguments[0]} input`).value = arguments[1]", choice, matches)
+
     def write(self, source: str) -> None:
         """Writes a source in place of the one that is shown, until it is compiled."""
         self.js("const it = document.querySelector('.CodeMirror').CodeMirror; if (it.getValue() !== arguments[0]) {"

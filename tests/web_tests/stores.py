@@ -33,15 +33,20 @@ def modules() -> Iterator[str]:
         yield place
 
 
-def results(_crobots: str, _stages: str, _folder: str) -> Iterator[tuple[str, list[str]]]:
-    """The tests' names, and what is wrong."""
+def told(script: str, what: str) -> Iterator[tuple[str, list[str]]]:
+    """The tests of a script of Node's test runner on something, and what is wrong."""
     with modules() as place:
-        words = [shutil.which("node") or "node", "--test", os.path.join(HERE, "stores.test.mjs")]
+        words = [shutil.which("node") or "node", "--test", os.path.join(HERE, script)]
         ran = subprocess.run(words, capture_output=True, text=True, check=False, timeout=SECONDS, env={**os.environ, "CROBOTS_WEB": place})
     found = list(TEST.finditer(ran.stdout))
     if not found:
-        yield "the store", [ran.stdout[-1000:] + ran.stderr[-1000:]]
+        yield what, [ran.stdout[-1000:] + ran.stderr[-1000:]]
     for at, it in enumerate(found):
         end = found[at + 1].start() if at + 1 < len(found) else len(ran.stdout)
         fault = FAULT.search(ran.stdout, it.end(), end)
-        yield f"the store: {it[2]}", [] if it[1] == "ok" else [fault[1] if fault else "it failed"]
+        yield f"{what}: {it[2]}", [] if it[1] == "ok" else [fault[1] if fault else "it failed"]
+
+
+def results(_crobots: str, _stages: str, _folder: str) -> Iterator[tuple[str, list[str]]]:
+    """The tests' names, and what is wrong."""
+    yield from told("stores.test.mjs", "the store")

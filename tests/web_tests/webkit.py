@@ -11,7 +11,7 @@ import subprocess
 import tempfile
 from typing import Any, Iterator
 
-from . import browser, everyone, inside, paths, robust
+from . import browser, everyone, inside, paths, robust, worths
 from .battles import random_battles, sample_battles
 from .pages import Page, served
 
@@ -87,7 +87,7 @@ def webkit() -> Iterator[Any]:
         driver.quit()
 
 
-def results(crobots: str, _stages: str, folder: str) -> Iterator[tuple[str, list[str]]]:
+def results(crobots: str, stages: str, folder: str) -> Iterator[tuple[str, list[str]]]:
     """The tests' names, and what is wrong."""
     with display(), style(), served(folder) as address, webkit() as driver:
         page = Page(driver, address)
@@ -108,6 +108,7 @@ def results(crobots: str, _stages: str, folder: str) -> Iterator[tuple[str, list
         yield "widths", everyone.widths(page)
         yield "keys", browser.keys(page)
         yield from inside.results(page)
+        yield from worths.few(page, crobots, stages, folder)
         yield from paths.results(page, folder)
         yield "the page as a file", browser.story(page, crobots, folder, webkit)
         yield "a plain text field", robust.plain(page, folder)

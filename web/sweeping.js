@@ -1,0 +1,112 @@
+// Sweeps of the numbers of the robot that is edited: those with a mark have a button, and a curve by the page's own engine.
+import {buttonOf, reveal} from "./asking.js";
+import {Choice, Far, tableOf} from "./benching.js";
+import {STOPPED} from "./calling.js";
+import {curveOf} from "./curves.js";
+import {byId, made} from "./dom.js";
+import {fixed, withSign} from "./intervals.js";
+import {NOTHING, matchesOf, sweepOf} from "./sweeps.js";
+import {opponentsOf} from "./trials.js";
+import {constantsOf, tunablesOf} from "./tuning.js";
+
+const HEADS = ["value", "points", "change", "95 % interval", "matches", "verdict"];
+
+const cellsOf = ({value, points, change, matches, verdict}) =>
+    [`${value}`, fixed(points, 3), withSign(change.value, 3), `${withSign(change.low, 3)} to ${withSign(change.high, 3)}`, matches.toLocaleString("en"), verdict];
+
+/** The result in words. */
+export function toldOf(rows, {name, value}) {
+    const [better, worse] = ["better", "worse"].map(verdict => rows.filter(it => it.verdict === verdict));
+    better.sort((one, other) => other.points - one.points);
+    const listed = several => several.map(it => it.value).join(", ") || "none";
+    return `${name}: surely better than today's ${value}: ${listed(better)}. Surely worse: ${listed(worse)}. Of the others: ${NOTHING}.`;
+}
+
+export class Sweeping {
+    /**
+     * @param {import("./store.js").Store} store
+     * @param {import("./calling.js").Bench} bench
+     */
+    constructor(store, editor, bench, samples) {
+        this.store = store;
+        this.editor = editor;
+        this.bench = bench;
+        this.choice = new Choice(byId("sweep-choice"), store, samples, true);
+        this.far = new Far(byId("sweep-far"), () => bench.stop());
+        /** What is swept, or was. @type {{key: string, source: string} | null} */
+        this.swept = null;
+        store.onChange(() => this.follow());
+    }
+
+    /** What is written ends a sweep of what was there before; another robot has none. */
+    follow() {
+        const {key, source} = this.store.robot;
+        this.choice.offer();
+        if (this.swept && (this.swept.key !== key || this.swept.source !== source)) {
+            const isOther = this.swept.key !== key;
+            this.swept = null;
+            const told = this.far.isRunning ? "The sweep was stopped: the source has changed." : "This sweep is of an older text.";
+            this.far.end(this.far.run, () => this.bench.stop());
+            this.tell(isOther ? "" : told);
+            if (isOther) {
+                byId("sweep").replaceChildren();
+            }
+        }
+    }
+
+    /** Offers the numbers of a source, by its listing and the places of its instructions; none of one with a fault. */
+    offer(source, compiled) {
+        const {found, fault} = this.numbersOf(source, compiled);
+        this.editor.offer(found.map(it => ({line: it.line, at: it.end - source.lastIndexOf("\n", it.end - 1) - 1, call: () => this.sweep(source, it)})));
+        byId("sweep-numbers").replaceChildren(...found.map(it => this.button(source, it)), ...fault ? [made("span", fault, "fault")] : []);
+        byId("sweeps").hidden = !found.length && !fault && !byId("sweep").children.length;
+    }
+
+    numbersOf(source, compiled) {
+        try {
+            return {found: compiled ? tunablesOf(source, constantsOf(compiled.listing, compiled.places)) : [], fault: ""};
+        } catch (fault) {
+            return {found: [], fault: `A mark is wrong: ${fault.message}.`};
+        }
+    }
+
+    button(source, it) {
+        const called = it.name.includes(":") ? "" : ` ${it.name}`;
+        return buttonOf(`Sweep${called}: line ${it.line}, ${it.value} in ${it.low}..${it.high}`, () => this.sweep(source, it));
+    }
+
+    async sweep(source, number) {
+        const {each} = this.choice;
+        const opponents = opponentsOf(this.choice.robots, [source]);
+        if (!each || !opponents.length) {
+            this.tell(each ? "There is no other robot to play against: choose others." : "");
+            return;
+        }
+        const run = this.bench.begin();
+        this.swept = {key: this.store.robot.key, source};
+        byId("sweep").replaceChildren();
+        this.tell(`The values of ${number.name} are playing.`);
+        this.far.begin(run, matchesOf(number, opponents, each));
+        reveal(byId("sweep-told"));
+        await this.play({source, number, opponents, each, settings: {...this.store.battle.settings}}, run);
+        this.far.end(run);
+    }
+
+    tell(text) {
+        byId("sweep-told").textContent = text;
+    }
+
+    async play(task, run) {
+        const {number} = task;
+        const draw = rows => byId("sweep").replaceChildren(curveOf(rows, number));
+        try {
+            const rows = await sweepOf({...task, call: (settings, robots) => run.call("run", settings, robots), onSlice: count => this.far.add(run, count), onLook: draw});
+            this.tell(toldOf(rows, number));
+            const table = made("details");
+            table.append(made("summary", "Numbers"), tableOf(HEADS, rows.map(cellsOf), "'Better' and 'worse' hold for all values at once in 99 of 100 sweeps"));
+            byId("sweep").append(table);
+        } catch (fault) {
+            this.far.end(run, () => this.tell(fault.message === STOPPED ? "Stopped." : fault.message));
+        }
+    }
+}

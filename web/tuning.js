@@ -1,0 +1,157 @@
+// Numbers of a robot that may be changed: those with a mark in the comment behind them, by the rules of crobots-tune.
+//
+// The proved module says where constants stand: its listing has them, and of each instruction the place in the source. Between a
+// constant and the next token are blanks and comments alone. Places count bytes, so a source is looked at as its bytes.
+
+/**
+ * @typedef {{line: number, column: number}} Place
+ * @typedef {{low: number, high: number, step: number | null, name: string}} Range
+ * @typedef {Place & Range & {begin: number, end: number, value: number}} Tunable
+ */
+
+// what a constant of the language can be, and so many values a sweep has at most if no step is given
+const MOST = 2 ** 31 - 1;
+const VALUES = 20;
+const NAME = /^[A-Za-z_][A-Za-z0-9_]{0,30}$/;
+const BOUNDS = /^([0-9]{1,10})\.\.([0-9]{1,10})$/;
+const BLANKS = /^[\t-\r ]*$/;
+
+const encoder = new TextEncoder();
+const decoder = new TextDecoder("utf-8", {ignoreBOM: true});
+
+/** Returns where constants stand, of a listing and of the places of its instructions. @returns {Place[]} */
+export function constantsOf(listing, places) {
+    const constants = new Set([...listing.matchAll(/^ *(\d+) CONST /gm)].map(([, address]) => address));
+    const rows = places.trimEnd().split("\n").slice(1).map(row => row.split("\t"));
+    return rows.filter(([address]) => constants.has(address)).map(([, , , line, column]) => ({line: Number(line), column: Number(column)}));
+}
+
+/** A source as its bytes, a letter for each. */
+class Bytes {
+    constructor(source) {
+        this.bytes = encoder.encode(source);
+        this.text = new TextDecoder("latin1").decode(this.bytes);
+        this.begins = [0, ...[...this.text.matchAll(/\n/g)].map(({index}) => index + 1)];
+    }
+
+    /** Where a place is. */
+    at({line, column}) {
+        return this.begins[line - 1] + column - 1;
+    }
+
+    /** Where the digits at a place end; nowhere if there are none. */
+    endOf(place) {
+        const at = this.at(place);
+        const digits = /\d*/y;
+        digits.lastIndex = at;
+        const [{length}] = digits.exec(this.text);
+        return length ? at + length : Infinity;
+    }
+
+    /** The line and the column of a byte, as one writes them. */
+    placed(at) {
+        const line = this.begins.findLastIndex(begin => begin <= at) + 1;
+        return `${line}:${at - this.begins[line - 1] + 1}`;
+    }
+
+    /** How many letters stand before a byte. */
+    letters(at) {
+        return decoder.decode(this.bytes.subarray(0, at)).length;
+    }
+
+    /** All comments: where each begins, and its words with a blank between them. */
+    comments() {
+        return [...this.text.matchAll(/\/\*([^]*?)\*\//g)].map(({1: inner, index}) => {
+            const words = inner.split(/[\t-\r\x1c- ]+/).filter(it => it);
+            return {at: index, text: words.join(" ").replace(/[^\0-\x7f]/g, "\ufffd")};
+        });
+    }
+}
+
+/** Whether a comment is meant as a mark: it begins with 'tune' and a number. */
+const isMark = text => /^tune \d/.test(text);
+
+/** The range of bounds as 100..900 and a step. @returns {Range} */
+function ranged(bounds, step, where, name) {
+    const found = BOUNDS.exec(bounds);
+    if (!found) {
+        throw new Error(`${where}: '${bounds}' is no range as 100..900`);
+    }
+    const [low, high] = found.slice(1).map(Number);
+    if (low >= high || high > MOST) {
+        throw new Error(`${where}: ${bounds} has to rise, up to ${MOST} at most`);
+    }
+    if (step !== undefined && !(/^\d+$/.test(step) && Number(step.slice(0, 11)) >= 1 && Number(step) <= high - low)) {
+        throw new Error(`${where}: '${step}' is no step from 1 to ${high - low}`);
+    }
+    return {low, high, step: step === undefined ? null : Number(step), name};
+}
+
+/** The range of a mark. @returns {Range} */
+function rangeOf(text, where) {
+    const [bounds, ...words] = text.split(" ").slice(1);
+    const names = words.filter((_, at) => at % 2 === 0);
+    const isRight = words.length % 2 === 0 && names.every(it => it === "step" || it === "name") && new Set(names).size === names.length;
+    if (!isRight) {
+        throw new Error(`${where}: a mark is 'tune LOW..HIGH', and perhaps 'step STEP' and 'name NAME', not '${text}'`);
+    }
+    const options = Object.fromEntries(names.map((name, at) => [name, words[2 * at + 1]]));
+    if (options.name !== undefined && !NAME.test(options.name)) {
+        throw new Error(`${where}: '${options.name}' is no name`);
+    }
+    return ranged(bounds, options.step, where, options.name ?? "");
+}
+
+/** The number of a constant with its mark's range. @returns {Tunable} */
+function tunable(bytes, place, end, range) {
+    const begin = bytes.at(place);
+    const value = Number(bytes.text.slice(begin, end));
+    if (value < range.low || value > range.high) {
+        throw new Error(`${bytes.placed(begin)}: ${value} isn't from ${range.low} to ${range.high}`);
+    }
+    return {...place, ...range, name: range.name || `${place.line}:${place.column}`, begin: bytes.letters(begin), end: bytes.letters(end), value};
+}
+
+/**
+ * Returns the numbers of a source that have a mark, in their order: each with its place, where its letters are, its value, and the
+ * values that it may have. Throws what is wrong with a mark. `constants` are the places of all constants.
+ * @param {Place[]} constants
+ * @returns {Tunable[]}
+ */
+export function tunablesOf(source, constants) {
+    const bytes = new Bytes(source);
+    const known = constants.map(place => ({place, end: bytes.endOf(place)}));
+    const found = bytes.comments().filter(({text}) => isMark(text)).map(({at, text}) => {
+        const where = bytes.placed(at);
+        const before = known.find(({end}) => end <= at && BLANKS.test(bytes.text.slice(end, at)));
+        if (!before) {
+            throw new Error(`${where}: the mark '${text}' has no number before it`);
+        }
+        return {...before, range: rangeOf(text, where)};
+    }).map(({place, end, range}) => tunable(bytes, place, end, range));
+    const twice = found.find(({name}, at) => found.findIndex(it => it.name === name) < at);
+    if (twice) {
+        throw new Error(`two numbers have the name ${twice.name}`);
+    }
+    return found;
+}
+
+/** The next of 1, 2, 5, 10, 20, .. by which a width has at most so many steps. */
+export function coarse(width, many) {
+    for (let power = 1; ; power *= 10) {
+        const factor = [1, 2, 5].find(it => it * power * many >= width);
+        if (factor) {
+            return factor * power;
+        }
+    }
+}
+
+/** The values of a sweep in their order, today's among them. */
+export function valuesOf({low, high, step, value}) {
+    const each = step ?? coarse(high - low, VALUES);
+    const values = Array.from({length: Math.floor((high - low) / each) + 1}, (_, at) => low + at * each);
+    return [...new Set([...values, value])].sort((one, other) => one - other);
+}
+
+/** The source with another value of a number; one that keeps its value keeps its digits. */
+export const withValue = (source, {begin, end, value}, other) => other === value ? source : source.slice(0, begin) + other + source.slice(end);
