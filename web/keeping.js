@@ -43,14 +43,15 @@ export class Keeping {
         });
     }
 
-    /** Begins with the battle of a link, or with the one that was kept last, or with samples. */
+    /** Begins with the battle of a link, or with the one that was kept last, or with samples. Returns whether it is with samples. */
     begin(linked, samples) {
         const isBroken = isBattle(location.hash) && !linked;
-        this.store.begin(linked, samples);
+        const isFirst = this.store.begin(linked, samples);
         if (isBroken) {
             this.noted.say(BROKEN);
         }
         this.sayKept();
+        return isFirst;
     }
 
     /** Says what became of the battle that is current. */
@@ -146,7 +147,7 @@ export class Keeping {
         const battle = await battleOf(hash);
         if (battle) {
             this.store.openLink(battle);
-            this.watch(linkedMoment(hash));
+            this.watch(linkedMoment(hash, battle));
         } else if (isBattle(hash)) {
             this.noted.say(BROKEN);
         }

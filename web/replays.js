@@ -121,7 +121,7 @@ export class Screen {
 
     /** From where the match goes on, and whether it plays. */
     get place() {
-        const {cycle, isPlaying} = this.player;
-        return {from: cycle, isPlaying};
+        const {cycle, isPlaying, chosen} = this.player;
+        return {from: cycle, isPlaying, chosen};
     }
 }
