@@ -3,10 +3,9 @@ import {Notice, reveal} from "./asking.js";
 import {copyOf, isSame, unfit} from "./battles.js";
 import {byId} from "./dom.js";
 import {saveText} from "./files.js";
-import {MOST_LINK, battleOf, fragmentOf, isBattle, linkedMoment} from "./links.js";
+import {BROKEN, MOST_LINK, battleOf, fragmentOf, isBattle, linkedMoment} from "./links.js";
 import {exported} from "./versions.js";
 
-const BROKEN = "The link carries no battle that can be read, so this is another one.";
 const REFUSED = "This browser keeps nothing of this page: its storage is blocked or full. Save your robots as files before you leave.";
 const FULL = "The storage is full: your last changes aren't kept. Delete versions in 'My battles', or save your robots as files before you leave.";
 const APART = "Another tab has changed this battle too. Yours is now a battle of its own; both are in 'My battles'.";
@@ -48,7 +47,7 @@ export class Keeping {
         const isBroken = isBattle(location.hash) && !linked;
         const isFirst = this.store.begin(linked, samples);
         if (isBroken) {
-            this.noted.say(BROKEN);
+            this.noted.say(`${BROKEN} This is another one.`);
         }
         this.sayKept();
         return isFirst;
@@ -149,7 +148,7 @@ export class Keeping {
             this.store.openLink(battle);
             this.watch(linkedMoment(hash, battle));
         } else if (isBattle(hash)) {
-            this.noted.say(BROKEN);
+            this.noted.say(`${BROKEN} This is another one.`);
         }
     }
 

@@ -4,6 +4,8 @@ import {Limits} from "./limits.js";
 import {bytesOf, unpacked} from "./player/packing.js";
 
 const MARK = "#battle=";
+/** What is said of a link that can't be read. */
+export const BROKEN = "The link carries no battle that can be read.";
 // four sources of the greatest length, with room for what stands between them
 const MOST_BYTES = 6 * 1024 * 1024;
 /** How many letters a link's fragment has at most: programs that pass links on cut off much longer ones. */

@@ -4,6 +4,7 @@ import {FIRST_WINNER, checked, copyOf} from "./battles.js";
 import {Caller} from "./calling.js";
 import {byId} from "./dom.js";
 import {makeEditor} from "./editor.js";
+import {Alone} from "./embedding.js";
 import {onDrop, readFiles, save} from "./files.js";
 import {Finder} from "./finding.js";
 import {helpWriting} from "./helping.js";
@@ -155,11 +156,21 @@ class Page {
     }
 }
 
+/** The address of the worker's script. */
+const workerOf = ({worker}) => URL.createObjectURL(new Blob([worker], {type: "text/javascript"}));
+
+/** Shows the field alone, in a page that has no more. */
+export async function embed(module) {
+    const data = globalThis.CROBOTS;
+    byId("main").hidden = false;
+    await new Alone(new Caller(workerOf(data), module), data.robots).show();
+}
+
 /** Makes the page of what it is built with and of the module: from a file nothing can be fetched, so all of it is a script. */
 export async function make(module) {
     const data = globalThis.CROBOTS;
     byId("main").hidden = false;
-    const address = URL.createObjectURL(new Blob([data.worker], {type: "text/javascript"}));
+    const address = workerOf(data);
     // the module is compiled in its workers meanwhile
     const [compiler, runner] = [new Caller(address, module), new Caller(address, module)];
     const [battle, editor, keeper] = await Promise.all([battleOf(location.hash), makeEditor(byId("source"), data.editor), keeperOf()]);
@@ -175,7 +186,7 @@ export async function make(module) {
         throw new Error(`The page's engine doesn't start: ${fault.message}. Unpack or copy all files of the page once more.`);
     }
     if (battle) {
-        await page.playing.present(moment ?? {number: battle.settings.first, cycle: 0, robot: 0});
+        await page.playing.present(moment ?? {number: battle.settings.first, cycle: 0});
     } else if (isFirst) {
         await page.playing.presentFirst();
     }

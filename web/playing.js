@@ -6,12 +6,9 @@ import {Inside} from "./insides.js";
 import {Screen} from "./replays.js";
 import {Report, totalsOf} from "./reports.js";
 import {Series, ended} from "./series.js";
-import {Watcher, Wish} from "./watching.js";
+import {Watcher, Wish, wishOf} from "./watching.js";
 
 const NUMBERS = ["matches", "limit", "first", "profile"];
-// a link to a moment leads to so many cycles before it
-const CYCLES_BEFORE = 300;
-const CALM = matchMedia("(prefers-reduced-motion: reduce)");
 // the settings that a match depends on, beside its number
 const RULES = ["limit", "seed", "profile"];
 
@@ -75,7 +72,7 @@ export class Playing {
         this.runner = runner;
         this.places = places;
         this.reprofiled = reprofiled;
-        this.screen = new Screen(byId("film"), byId("controls"), places);
+        this.screen = new Screen(byId("film"), places);
         this.inside = new Inside(this.screen, runner, this);
         this.report = new Report(byId("report"), number => this.watch(new Wish(this.reported, number, 0)));
         byId("settings").addEventListener("input", event => this.takeSettings(event.target.id));
@@ -219,22 +216,17 @@ export class Playing {
         byId("film-age").hidden = !isOld(this.filmed, RULES);
     }
 
-    /** The wish to see a moment, from some cycles before it on. Who wants no motion sees it stand. */
-    momentary({number, cycle, robot}) {
-        return new Wish(copyOf(this.battle), number, Math.max(0, cycle - CYCLES_BEFORE), {isPlaying: !CALM.matches, robot});
-    }
-
     /** Plays the match of a moment; none if there is none. */
     async watchMoment(moment) {
         if (moment) {
-            await this.watch(this.momentary(moment));
+            await this.watch(wishOf(copyOf(this.battle), moment));
         }
     }
 
     /** Plays the match of a moment of its own accord, until something is asked for; what has the focus keeps it. */
     async present(moment, say = tellWatched) {
         this.places.go("watch");
-        this.presented = this.show(this.momentary(moment), (text, isFault) => this.isRunning || say(text, isFault));
+        this.presented = this.show(wishOf(copyOf(this.battle), moment), (text, isFault) => this.isRunning || say(text, isFault));
         const isShown = await this.presented;
         this.presented = null;
         if (!isShown && !this.isRunning) {
@@ -245,7 +237,7 @@ export class Playing {
     /** Plays the match that who comes for the first time sees, with what there is to do about it. */
     presentFirst() {
         this.welcome(true);
-        return this.present({number: FIRST_MATCH, cycle: 0, robot: 0}, () => {});
+        return this.present({number: FIRST_MATCH, cycle: 0}, () => {});
     }
 
     /** Whether the words for who comes for the first time are shown. */

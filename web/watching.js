@@ -25,6 +25,15 @@ export class Wish {
     }
 }
 
+// a link to a moment leads to so many cycles before it
+const CYCLES_BEFORE = 300;
+const CALM = matchMedia("(prefers-reduced-motion: reduce)");
+
+/** The wish to see a moment of a battle, from some cycles before it on. Who wants no motion sees it stand. */
+export function wishOf(battle, {number, cycle, robot = 0}) {
+    return new Wish(battle, number, Math.max(0, cycle - CYCLES_BEFORE), {isPlaying: !CALM.matches, robot});
+}
+
 export class Watcher {
     /** `runner` calls the engine, `screen` shows films, `say` shows how it goes. */
     constructor(runner, screen, say) {

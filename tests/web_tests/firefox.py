@@ -5,7 +5,7 @@ from __future__ import annotations
 import os
 from typing import Iterator
 
-from . import browser, everyone, firsts, inside, paths
+from . import browser, embeds, everyone, firsts, inside, paths
 from .battles import random_battles, sample_battles
 from .marionette import firefox, program
 from .pages import Page, served
@@ -30,6 +30,7 @@ def results(crobots: str, _stages: str, folder: str) -> Iterator[tuple[str, list
         yield "watched matches", browser.watched(page, crobots)
         yield "widths", everyone.widths(page)
         yield from firsts.results(page)
+        yield from embeds.results(page, folder)
         yield from inside.results(page)
         yield from paths.results(page, folder)
         other = Page(driver, "file://" + os.path.join(os.path.abspath(folder), "index.html"))

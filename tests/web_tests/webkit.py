@@ -11,7 +11,7 @@ import subprocess
 import tempfile
 from typing import Any, Iterator
 
-from . import browser, everyone, firsts, inside, paths, robust
+from . import browser, embeds, everyone, firsts, inside, paths, robust
 from .battles import random_battles, sample_battles
 from .pages import Page, served
 
@@ -108,6 +108,7 @@ def results(crobots: str, _stages: str, folder: str) -> Iterator[tuple[str, list
         yield "widths", everyone.widths(page)
         yield "keys", browser.keys(page)
         yield from firsts.results(page)
+        yield from embeds.results(page, folder)
         yield from inside.results(page)
         yield from paths.results(page, folder)
         yield "the page as a file", browser.story(page, crobots, folder, webkit)
