@@ -9,10 +9,10 @@ import threading
 from leagues import seasons
 from leagues.entries import source
 from leagues.naming import names
-from leagues.sources import replaced
 from leagues.store import Store
 from sites.facts import Battle, Seat, Settings
 from sites.films import film, order
+from tools.output import replaced
 
 from .live import folder_of
 

@@ -7,8 +7,8 @@ import subprocess
 import tempfile
 from dataclasses import dataclass
 
-from leagues.sources import replaced
 from tools.faults import PROGRAM, Fault, plain
+from tools.output import replaced
 
 # Seconds of the processor, and of the clock; KiB of memory. A proof says that the programs end: these are for the case that it doesn't
 # hold of what runs here.

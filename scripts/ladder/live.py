@@ -8,7 +8,7 @@ import json
 import os
 from dataclasses import asdict, dataclass, fields
 
-from leagues.sources import replaced
+from tools.output import replaced
 
 FOLDER, NAME = "ladder", "table.json"
 TAG_LETTERS = 20

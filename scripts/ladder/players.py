@@ -19,11 +19,11 @@ from leagues.rules import LADDER
 from leagues.schedules import Schedule
 from leagues.scores import ByRobot, points, scores, total
 from leagues.sessions import checked
-from leagues.sources import laid, replaced
+from leagues.sources import laid
 from leagues.standings import Standing, standings
 from leagues.store import Store, opened
 from tools.faults import Fault
-from tools.output import say
+from tools.output import replaced, say
 from tournaments.playing import Player
 from tournaments.plans import Plan
 from tournaments.programs import Program, program, stamp
