@@ -12,14 +12,22 @@ use tools::{Draft, Fault, Text};
 /// The most faults of a file that are explained.
 const MOST_FAULTS: usize = 20;
 
-/// Adds the explanations of the faults after the first one, which `compile` found. The only fault is that memory is
-/// refused.
+/// The most bytes of a source of which later faults are looked for: each token takes 64 bytes of memory, in three lists.
+const MOST_BYTES: usize = 262_144;
+
+/// Adds the explanations of the faults after the first one, which `compile` found, or that the source is too large. The
+/// only fault is that memory is refused.
 pub fn add_later_faults(
     text: &mut String,
     alloc: Global,
     file: &SourceFile<'_>,
     first: &Diagnostic,
 ) -> Result<(), Fault> {
+    if file.source.len() > MOST_BYTES {
+        text.push_str(file.path)?;
+        text.push_str(": over 262144 bytes: no later fault is looked for\n")?;
+        return Ok(());
+    }
     let mut rest = Rest::of(alloc, file)?;
     let mut fault = *first;
     for _ in 1..MOST_FAULTS {
