@@ -321,6 +321,15 @@ class Forging(Base):
                     wrong.append(f"{gone} matches that {robot} lost are gone, and an older archive doesn't show it")
         return wrong
 
+    def code_that_is_otherwise(self) -> list[str]:
+        """The command compiles sources again, and names one that compiles to something else."""
+        forged = Archive(self._archives()[-1])
+        row = forged.tables["code"][0]
+        row["hash"] = "0" * 64
+        ran = self.ran("verify", "1", forged.linked().write(self.at("code.zip")))
+        said = f"the source {row['sha256']} compiles to other code than the archive has of it\n1 of "
+        return [] if ran.returncode == 1 and ran.stdout.startswith(said) else [f"status {ran.returncode}, {ran.stdout}{ran.stderr}"]
+
     def how_many_are_missing(self) -> list[str]:
         """An archive that says that matches are missing, where none is, is told the numbers: of a season that ended, and of the last one."""
         last, wrong = Archive(self._archives()[-1]), []
