@@ -61,7 +61,7 @@ def verify(given: argparse.Namespace) -> None:
         changes = changed_since(store, given.since) if given.since else ()
         said = [*findings(store, table), *(Finding(True, it) for it in changes)]
         runs = chosen(store, None if given.all else given.number or MATCHES)
-        said += [Finding(True, it) for it in replayed(store, found, given, runs)]
+        said += [Finding(True, it) for it in (*recompiled(store, found), *replayed(store, found, given, runs))]
         total = store.one("SELECT count(*) FROM battle")[0]
         last = publications.latest(store)
     show(f"{archives.shown(it.said)}\n" for it in said)
@@ -164,8 +164,21 @@ def record(store: Store, run: Run) -> Record:
     return Record(settings, Series(tuple(range(many)), int(seed), run.first, len(run.matches)), robots)
 
 
+def lay(store: Store, folder: str) -> None:
+    """Puts all sources into a folder, under their hashes."""
+    for sha256, source in store.rows("SELECT sha256, bytes FROM source"):
+        replaced(os.path.join(folder, sha256), source)
+
+
+def recompiled(store: Store, found: Program) -> Iterator[str]:
+    """The sources that compile to other code than the archive has of them."""
+    with private() as folder:
+        lay(store, folder)
+        yield from likeness.otherwise(store, found, folder)
+
+
 def replayed(store: Store, found: Program, given: argparse.Namespace, runs: list[Run]) -> Iterator[str]:
-    """The matches of these runs that end otherwise now, and the sources that compile to something else."""
+    """The matches of these runs that end otherwise now."""
     records = [record(store, run) for run in runs]
     by_series = {(it.robots, it.series): run for it, run in zip(records, runs)}
     for by in sorted({it.settings.program for it in records} - {found.sha256}):
@@ -173,9 +186,7 @@ def replayed(store: Store, found: Program, given: argparse.Namespace, runs: list
         say(given.script, f"{found.path} is {ours}, and matches of the archive are by {theirs}")
     progress = Progress(len(records), given.quiet, given.script)
     with private() as folder, watch() as stop:
-        for sha256, source in store.rows("SELECT sha256, bytes FROM source"):
-            replaced(os.path.join(folder, sha256), source)
-        yield from likeness.otherwise(store, found, folder)
+        lay(store, folder)
 
         def glance() -> None:
             stop.check()

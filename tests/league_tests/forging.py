@@ -68,6 +68,7 @@ class Forging(Base):
         self._made: list[str] = []
         self._ended: dict[tuple[object, ...], tuple[object, ...]] = {}
         self._tables: dict[str, list[Standing]] = {}
+        self._compiled: dict[str, bool] = {}
 
     def _archives(self) -> list[str]:
         """Three archives of a league in which all happened that may, each with all of the one before. Made once."""
@@ -156,7 +157,7 @@ class Forging(Base):
         keeping = verifying.standings
         verifying.standings = self._standings
         try:
-            return any(it.is_wrong for it in verifying.findings(store, table)) or self._is_otherwise(store)
+            return any(it.is_wrong for it in verifying.findings(store, table)) or self._is_miscompiled(store) or self._is_otherwise(store)
         finally:
             verifying.standings = keeping
 
@@ -167,6 +168,13 @@ class Forging(Base):
         if key not in self._tables:
             self._tables[key] = standings(schedule, results)
         return self._tables[key]
+
+    def _is_miscompiled(self, store: archives.Store) -> bool:
+        """Whether a source compiles to other code, which is found out once."""
+        key = repr([store.rows(f"SELECT * FROM {table} ORDER BY 1, 2, 3") for table in ("code", "season", "ruling")])
+        if key not in self._compiled:
+            self._compiled[key] = any(verifying.recompiled(store, program(self._program)))
+        return self._compiled[key]
 
     def _is_otherwise(self, store: archives.Store) -> bool:
         """Whether a match ends otherwise when it is played again. What is known to end so isn't played once more."""
@@ -223,7 +231,7 @@ class Forging(Base):
                 forged = last.copy()
                 forged.tables[table].remove(row)
                 tried.append((forged, f"without {row}", row))
-            by = SINCE if table in ("member", "ruling", "correction", "removed", "publication", "standing", "code") else RULES
+            by = SINCE if table in ("member", "ruling", "correction", "removed", "publication", "standing", "handed", "code") else RULES
             # of bytes that don't play any more nobody knows how far they were to be played
             if table == "battle":
                 tried = [it for it in tried if self._is_wanted(last, it[-1])]
@@ -312,6 +320,15 @@ class Forging(Base):
                 if gone and not all(self._wrong(forged, *self._archives()[-2:])[1:]):
                     wrong.append(f"{gone} matches that {robot} lost are gone, and an older archive doesn't show it")
         return wrong
+
+    def code_that_is_otherwise(self) -> list[str]:
+        """The command compiles sources again, and names one that compiles to something else."""
+        forged = Archive(self._archives()[-1])
+        row = forged.tables["code"][0]
+        row["hash"] = "0" * 64
+        ran = self.ran("verify", "1", forged.linked().write(self.at("code.zip")))
+        said = f"the source {row['sha256']} compiles to other code than the archive has of it\n1 of "
+        return [] if ran.returncode == 1 and ran.stdout.startswith(said) else [f"status {ran.returncode}, {ran.stdout}{ran.stderr}"]
 
     def how_many_are_missing(self) -> list[str]:
         """An archive that says that matches are missing, where none is, is told the numbers: of a season that ended, and of the last one."""

@@ -120,14 +120,16 @@ class Older(Base):
         """Those that the second version kept beside its chain are in it now, also of folders with signs that can't be shown; its archives
         are verified, and what comes later is compared with them."""
         it = League(self, "second", "-m2")
-        for folder, name, text in (("ann", "Tank one.r", SHOOTER), ("b\nb", "robot.r", IDLE)):
+        for folder, name, text in (("ann", "Tank\tone.r", SHOOTER), ("b\nb", "robot.r", IDLE)):
             os.makedirs(self.at(f"second-in/{folder}"))
             write(self.at(f"second-in/{folder}/{name}"), text)
-        it.run("take-in", self.at("second-in"), "--day=2026-03-02")
+        write(self.at("authors.csv"), 'folder,author\nann,Ann\n"b\nb",Bob\n')
+        words = ("take-in", self.at("second-in"), "--authors", self.at("authors.csv"))
+        it.run(*words, "--day=2026-03-02")
         it.run("play", "-j2", "--day=2026-03-02")
         kept = it.rows("SELECT number, robot, name FROM handed")
         older = self._second(it, self._published(it, "2026-03-02"))
-        wrong = [] if it.run("take-in", self.at("second-in"), "--day=2026-03-03") == "0 joined, 0 changed, 2 are as they were\n" else ["they join again"]
+        wrong = [] if it.run(*words, "--day=2026-03-03") == "0 joined, 0 changed, 2 are as they were\n" else ["they join again"]
         if it.rows("SELECT number, robot, name FROM handed WHERE publication = 2") != kept or it.rows("PRAGMA user_version") != [(3,)]:
             wrong.append(f"the names are {it.rows('SELECT * FROM handed')}")
         now = self._published(it, "2026-03-04")

@@ -105,6 +105,8 @@ def two_seasons(folder: str) -> Facts:
         fight(store, Played("2026-02-02", "a", "b", (WINS, WINS)), Played("2026-02-02", "d", "c", (WINS, WINS)))
         keep_table(store, "2026-02-10")
         fight(store, Played("2026-02-11", "d", "e", (WINS, LOSES)), Played("2026-02-11", "e", "c", (WINS, TIES)))
+        # the table of the day itself is none of those before, as publishing has it
+        keep_table(store, "2026-02-20")
         return shown(store, "2026-02-20")
 
 
