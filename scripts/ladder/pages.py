@@ -2,6 +2,7 @@
 
 from __future__ import annotations
 
+import time
 from typing import Iterable, Mapping, Sequence
 
 from leagues import seasons
@@ -21,8 +22,10 @@ from .terms import ALL, Terms, terms
 
 COLUMNS = [("Rank", NUMBER), ("Robot", NAME), ("Played", NUMBER), ("Won", NUMBER), ("Tied", NUMBER), ("Lost", NUMBER), ("Points", NUMBER),
            ("Rating", NUMBER), ("95 %", TEXT)]
-# Wall and table show as many robots.
 TEXTAREA_ROWS = 18
+# The tables that were made of late, each with its time, and for how many seconds one is taken again.
+KEPT = 2.0
+kept: dict[tuple[str, str], tuple[float, Markup]] = {}
 
 
 def robot_link(site: Site, robot: str, shown: Mapping[str, str]) -> Markup:
@@ -38,7 +41,18 @@ def authors_shown(store: Store) -> dict[str, str]:
 
 
 def standing(site: Site, store: Store, it: Live) -> Markup:
-    """The live table, which is replaced as it stands."""
+    """The live table, which is replaced as it stands. It is made once, as many ask for it, and anew when names may be others."""
+    key = site.folder, it.tag
+    made = kept.get(key)
+    if made is None or made[0] + KEPT < time.monotonic():
+        if len(kept) > 8:
+            kept.clear()
+        made = kept[key] = time.monotonic(), rendered(site, store, it)
+    return made[1]
+
+
+def rendered(site: Site, store: Store, it: Live) -> Markup:
+    """The table, with what is said above it."""
     shown, by = names(store), authors_shown(store)
     rows = [row_of(site, row, shown, by) for row in it.rows]
     missing = f"{it.missing} matches of this round are missing" if it.missing else "no match is missing"

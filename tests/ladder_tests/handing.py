@@ -145,9 +145,19 @@ class Handing(Base):
                 yield f"{found[0]}"
             ladder.end()
 
+    def nothing_is_published_that_only_authors_may_read(self) -> Iterator[str]:
+        ladder = self._new("private")
+        ladder.run("publish", self._at("private-site"))
+        ladder.ask("PUT", "/robots/r", IDLE, token=ladder.author("Ann"))
+        said = ladder.run("publish", self._at("refused-site"), status=2)
+        if os.path.exists(self._at("refused-site")) or "only authors may read" not in said:
+            yield said
+        ladder.terms(readers="all")
+        ladder.run("publish", self._at("private-site"))
+
     def names_that_aren_t_shown_are_nowhere(self) -> Iterator[str]:
         ladder = self._new("names")
-        ladder.terms(names=False)
+        ladder.terms(names=False, readers="all")
         token = ladder.author("Zacharias")
         ladder.ask("PUT", "/robots/r", IDLE, token=token)
         for path in ("/", "/table", "/wall", "/robots/r"):
