@@ -11,7 +11,7 @@ from leagues.naming import names
 from leagues.store import Store
 from sites import charts
 from sites.frames import section, sentence
-from sites.markup import Markup, joined, name_of, tag
+from sites.markup import Markup, block, joined, name_of, tag
 from sites.tables import NAME, NUMBER, TEXT, command_line, table
 
 from .accounts import Who, owners
@@ -95,11 +95,11 @@ def signed_up(site: Site, name: str, token: str) -> str:
         "Your link", sentence("Keep it: it is your key, and it is shown only now."), tag("p", tag("a", link, href=f"{site.to('join')}#{token}"))))
 
 
-def told(site: Site, who: Who | None, answer: Answer) -> str:
-    """The page that says what became of something."""
+def told(site: Site, who: Who | None, answer: Answer, again: str = "") -> str:
+    """The page that says what became of something, with the form once more if there is something to be put right."""
     title = "Done" if answer.is_taken else "Refused"
-    return page(site, who, title, tag("h1", title), section(title, tag("pre", answer.words, class_="answer"),
-                                                            tag("p", tag("a", "On", href=site.to("mine" if who else "")))))
+    return page(site, who, title, tag("h1", title), section(title, tag("pre", block(answer.words.split("\n")), class_="answer"),
+                                                            tag("p", tag("a", "On", href=site.to("mine" if who else "")))), again)
 
 
 def mine(site: Site, store: Store, who: Who) -> str:
@@ -114,13 +114,14 @@ def mine(site: Site, store: Store, who: Who) -> str:
         if listed else sentence("You have handed in nothing yet.")), by_command(site), tag("div", id="own", data_own=" ".join(robots)))
 
 
-def hand_in(site: Site, by: Terms, robot: str) -> Markup:
-    """The form by which a robot is handed in."""
+def hand_in(site: Site, by: Terms, robot: str, text: str = "") -> Markup:
+    """The form by which a robot is handed in. A line end that begins a field is no part of what is in it."""
     until = f" It closes on {by.last_day()}." if by.closes else ""
     said = sentence(f"At most {by.robots} robots of {by.size} bytes, and {by.versions} versions an hour.{until}", kind="note")
-    area = tag("label", "Its source ", tag("textarea", name="source", rows=TEXTAREA_ROWS, spellcheck="false", maxlength=by.size))
+    area = tag("label", "Its source ", tag("textarea", block(["", *text.split("\n")]), name="source", rows=TEXTAREA_ROWS, spellcheck="false", maxlength=by.size))
     return section("Hand in", form(site, "robots", entry("Name", "robot", value=robot, maxlength=40), entry("A file", "file", "file"), area,
-                                   tag("button", "Send to the league"), kind="hand-in"), said)
+                                   tag("p", tag("button", "Send to the league"), " ", tag("button", "Only compile it", formaction=site.to("check"))),
+                                   kind="hand-in"), said)
 
 
 def by_command(site: Site) -> Markup:

@@ -21,12 +21,12 @@ ADDRESSES: dict[tuple[str, str], tuple[int, int, int, int]] = {
     ("GET", "/robots/mine"): (200, 200, 200, 200), ("GET", "/robots/mine/versions/1"): (404, 404, 200, 200),
     ("GET", "/replays/999/1"): (404, 404, 404, 404), ("GET", "/organiser"): (404, 404, 404, 200), ("GET", "/checklist"): (404, 404, 404, 200),
     ("GET", "/checklist.csv"): (404, 404, 404, 200),
-    ("POST", "/robots"): (401, 403, 200, 200), ("PUT", "/robots/mine"): (401, 403, 200, 200),
+    ("POST", "/robots"): (401, 403, 200, 200), ("POST", "/check"): (401, 200, 200, 200), ("PUT", "/robots/mine"): (401, 403, 200, 200),
     ("POST", "/robots/mine/back"): (401, 403, 200, 200), ("POST", "/robots/mine/withdraw"): (401, 403, 200, 422),
     ("POST", "/organiser/invite"): (401, 404, 404, 200), ("POST", "/organiser/withdraw"): (401, 404, 404, 200),
     ("POST", "/join"): (401, 401, 401, 401), ("POST", "/leave"): (303, 303, 303, 303), ("POST", "/sign-up"): (429, 429, 429, 429),
 }
-FIELDS = {"/robots": {"robot": "mine", "source": other(2)}, "/robots/mine/back": {"version": "1"}, "/organiser/invite": {"name": "New"},
+FIELDS = {"/robots": {"robot": "mine", "source": other(2)}, "/check": {"robot": "mine", "source": other(2)}, "/robots/mine/back": {"version": "1"}, "/organiser/invite": {"name": "New"},
           "/organiser/withdraw": {"name": "New"}, "/join": {"token": "x"}, "/sign-up": {"name": "Sue"}}
 WRITES = [path for method, path in ADDRESSES if method == "POST"]
 
