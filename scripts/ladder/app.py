@@ -222,7 +222,7 @@ def replay(seating: int, number: int) -> Response:
     made_ = films.page(store(), seating, number) if max(seating, number) < 1 << 62 else None
     if made_ is None:
         abort(404)
-    answer = Response(made_, mimetype="text/html")
+    answer = Response(made_ + (films.PLAYING if "play" in request.args else b""), mimetype="text/html")
     answer.headers["Content-Security-Policy"] = FILM_POLICY
     return answer
 
