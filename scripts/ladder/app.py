@@ -18,8 +18,8 @@ from .accounts import SESSION_SECONDS, Who
 from .frames import SCRIPT, STYLES, Site
 from .handing import FAULTY, MANY, TAKEN, Answer
 from .live import read
-from .requests import (COOKIE, FILM_POLICY, SOURCE_POLICY, address, answered, attempts, configured, html, is_from_here, organiser, site, store, who,
-                       writer)
+from .requests import (COOKIE, FILM_POLICY, SOURCE_POLICY, address, answered, attempts, configured, html, is_from_here, organiser, site, store, wants_page,
+                       who, writer)
 from .terms import terms
 
 HERE = os.path.dirname(os.path.abspath(__file__))
@@ -118,7 +118,7 @@ def join() -> Response:
     refuse_foreign()
     session = accounts.join(store(), request.form.get("token", "").strip(), address())
     if not session:
-        attempts().failed(address())
+        attempts().count(address())
         return answered(Answer(401, "this link isn't one of this league, or was withdrawn: ask the organiser for a new one"), None)
     answer = away("mine")
     answer.set_cookie(COOKIE, session, max_age=int(SESSION_SECONDS), path=site().to(""), httponly=True, samesite="Strict", secure=is_secure())
@@ -169,14 +169,35 @@ def handed(name: str, text: bytes, by: Who) -> Response:
     return answered(handing.hand_in(store(), by, name, text, site().programs, address()), by)
 
 
-def by_form() -> Response:
-    """A robot of a form: a file, or what was written. A browser sends line ends that nobody typed."""
-    by = writer()
-    file = request.files.get("file")
+def filled_in() -> tuple[str, bytes]:
+    """The name and the source of a form: of a file, or what was written. A browser sends line ends that nobody typed."""
+    file, name = request.files.get("file"), request.form.get("robot", "").strip()
     if file is not None and file.filename:
-        return handed(request.form.get("robot", "").strip() or file.filename, file.read(), by)
-    text = request.form.get("source", "").replace("\r\n", "\n").encode("utf-8", "replace")
-    return handed(request.form.get("robot", "").strip(), text, by)
+        return name or file.filename, file.read()
+    return name, request.form.get("source", "").replace("\r\n", "\n").encode("utf-8", "replace")
+
+
+def by_form() -> Response:
+    """A robot of a form. What is refused comes back with the form, so nobody loses what was written."""
+    by = writer()
+    name, text = filled_in()
+    it = handing.hand_in(store(), by, name, text, site().programs, address())
+    return answered(it, by) if it.is_taken else again(it, by, name, text)
+
+
+def again(it: Answer, by: Who, name: str, text: bytes) -> Response:
+    """An answer with the form as it was filled in."""
+    if not wants_page():
+        return answered(it, by)
+    form = pages.hand_in(site(), terms(store()), name, text.decode("utf-8", "replace"))
+    return html(pages.told(site(), by, it, form), it.status)
+
+
+def check() -> Response:
+    """What the compiler says of a source, which isn't handed in."""
+    by = writer()
+    name, text = filled_in()
+    return again(handing.checked(store(), by, name, text, site().programs), by, name, text)
 
 
 def by_file(name: str) -> Response:
@@ -201,7 +222,7 @@ def replay(seating: int, number: int) -> Response:
     made_ = films.page(store(), seating, number) if max(seating, number) < 1 << 62 else None
     if made_ is None:
         abort(404)
-    answer = Response(made_, mimetype="text/html")
+    answer = Response(made_ + (films.PLAYING if "play" in request.args else b""), mimetype="text/html")
     answer.headers["Content-Security-Policy"] = FILM_POLICY
     return answer
 
@@ -252,7 +273,7 @@ ROUTES: tuple[tuple[str, Does, str], ...] = (
     ("/", index, GET), ("/tag", tag, GET), ("/table", table, GET), ("/wall", wall, GET),
     (f"/{STYLES[0]}", lambda: shared(STYLES[0]), GET), (f"/{STYLES[1]}", lambda: shared(STYLES[1]), GET), (f"/{SCRIPT}", lambda: shared(SCRIPT), GET),
     ("/join", join_page, GET), ("/join", join, POST), ("/leave", leave, POST), ("/sign-up", sign_up, POST),
-    ("/mine", mine, GET), ("/robots", by_form, POST), ("/robots/<name>", robot, GET), ("/robots/<name>", by_file, PUT),
+    ("/mine", mine, GET), ("/robots", by_form, POST), ("/check", check, POST), ("/robots/<name>", robot, GET), ("/robots/<name>", by_file, PUT),
     ("/robots/<name>/versions/<int:number>", version, GET), ("/robots/<name>/back", back, POST), ("/robots/<name>/withdraw", withdraw, POST),
     ("/replays/<int:seating>/<int:number>", replay, GET), ("/organiser", organiser_page, GET), ("/organiser/invite", invite, POST),
     ("/organiser/withdraw", withdraw_link, POST), ("/checklist", checklist, GET), ("/checklist.csv", checklist_csv, GET),

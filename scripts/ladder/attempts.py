@@ -1,4 +1,4 @@
-"""A limit of attempts: who gives wrong tokens often has to wait."""
+"""A limit of attempts: who gives wrong tokens often, or has much compiled, has to wait."""
 
 from __future__ import annotations
 
@@ -9,7 +9,7 @@ MOST, SECONDS, ADDRESSES = 20, 60.0, 10_000
 
 
 class Attempts:
-    """How often wrong tokens came of late, by addresses. Of these only so many are kept, the oldest ones less."""
+    """How often something was tried of late, by addresses or names. Of these only so many are kept, the last ones."""
 
     def __init__(self, most: int = MOST) -> None:
         self._most = most
@@ -21,8 +21,8 @@ class Attempts:
         with self._lock:
             return len(self._fresh(address)) >= self._most
 
-    def failed(self, address: str) -> None:
-        """Takes note of a wrong token."""
+    def count(self, address: str) -> None:
+        """Takes note of an attempt."""
         with self._lock:
             found = self._fresh(address)
             self._times.pop(address, None)

@@ -18,6 +18,15 @@ from .live import folder_of
 
 FOLDER = "replays"
 AT_A_TIME, KEPT = 2, 400
+# What lets a film begin by itself: on the wall nobody presses a button.
+PLAYING = b"""<script>
+const waiting = setInterval(() => {
+    if (!globalThis.player) return;
+    clearInterval(waiting);
+    globalThis.player.toggle();
+}, 100);
+</script>
+"""
 turns = threading.BoundedSemaphore(AT_A_TIME)
 
 

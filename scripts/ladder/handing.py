@@ -16,6 +16,7 @@ from leagues.store import Store
 from tools.faults import Fault
 
 from .accounts import Who, authors, owners
+from .attempts import Attempts
 from .audits import HERE, note
 from .judging import Programs, fault
 from .terms import Terms, terms
@@ -24,6 +25,8 @@ TAKEN, NOT_THEIRS, GONE, LARGE, FAULTY, MANY, SHUT, FULL = 200, 403, 404, 413, 4
 HOUR = 3600.0
 HAND_IN = "hand in"
 MEGABYTE = 1_000_000
+CHECKS = 60
+checks = Attempts(CHECKS)
 
 
 @dataclass(frozen=True)
@@ -64,6 +67,21 @@ def hand_in(store: Store, who: Who, name: str, source: bytes, programs: Programs
         return why.answer
     except Fault as why:
         return Answer(FAULTY, str(why))
+
+
+def checked(store: Store, who: Who, name: str, source: bytes, programs: Programs) -> Answer:
+    """What the compiler says of a source. So many are compiled for an author within a minute."""
+    if checks.are_many(who.name):
+        return Answer(MANY, "many sources were compiled for you within a minute: wait a while")
+    checks.count(who.name)
+    try:
+        refuse_size(store, source)
+        refuse_fault(store, source, programs, name or "robot")
+    except Refused as why:
+        return why.answer
+    except Fault as why:
+        return Answer(FAULTY, str(why))
+    return Answer(TAKEN, "it compiles; it isn't handed in yet")
 
 
 def id_of(name: str) -> str:

@@ -3,6 +3,7 @@
 from __future__ import annotations
 
 import contextlib
+import functools
 import hashlib
 import json
 import os
@@ -54,7 +55,7 @@ class Live:
     def text(self) -> str:
         return json.dumps(asdict(self), sort_keys=True)
 
-    @property
+    @functools.cached_property
     def tag(self) -> str:
         """What changes if anything of it does."""
         return hashlib.sha256(self.text().encode()).hexdigest()[:TAG_LETTERS]
@@ -75,7 +76,17 @@ def write(league: str, it: Live) -> None:
 
 
 def read(league: str) -> Live:
-    """The table that was written last; an empty one if there is none, or one of another version."""
+    """The table that was written last; an empty one if there is none. It is read once, as many ask for it."""
+    try:
+        it = os.stat(path_of(league))
+    except OSError:
+        return Live()
+    return parsed(league, (it.st_ino, it.st_mtime_ns, it.st_size))
+
+
+@functools.lru_cache(8)
+def parsed(league: str, _: tuple[int, ...]) -> Live:
+    """The table of a file as it was then; an empty one if it is one of another version."""
     with contextlib.suppress(OSError, ValueError, TypeError, KeyError), open(path_of(league), encoding="utf-8") as file:
         said = json.load(file)
         rows = tuple(Row(**{it.name: row[it.name] for it in fields(Row)}) for row in said["rows"])

@@ -2,6 +2,7 @@
 
 from __future__ import annotations
 
+import time
 from typing import Iterable, Mapping, Sequence
 
 from leagues import seasons
@@ -10,7 +11,7 @@ from leagues.naming import names
 from leagues.store import Store
 from sites import charts
 from sites.frames import section, sentence
-from sites.markup import Markup, joined, name_of, tag
+from sites.markup import Markup, block, joined, name_of, tag
 from sites.tables import NAME, NUMBER, TEXT, command_line, table
 
 from .accounts import Who, owners
@@ -21,8 +22,10 @@ from .terms import ALL, Terms, terms
 
 COLUMNS = [("Rank", NUMBER), ("Robot", NAME), ("Played", NUMBER), ("Won", NUMBER), ("Tied", NUMBER), ("Lost", NUMBER), ("Points", NUMBER),
            ("Rating", NUMBER), ("95 %", TEXT)]
-# Wall and table show as many robots.
 TEXTAREA_ROWS = 18
+# The tables that were made of late, each with its time, and for how many seconds one is taken again.
+KEPT = 2.0
+kept: dict[tuple[str, str], tuple[float, Markup]] = {}
 
 
 def robot_link(site: Site, robot: str, shown: Mapping[str, str]) -> Markup:
@@ -38,7 +41,18 @@ def authors_shown(store: Store) -> dict[str, str]:
 
 
 def standing(site: Site, store: Store, it: Live) -> Markup:
-    """The live table, which is replaced as it stands."""
+    """The live table, which is replaced as it stands. It is made once, as many ask for it, and anew when names may be others."""
+    key = site.folder, it.tag
+    made = kept.get(key)
+    if made is None or made[0] + KEPT < time.monotonic():
+        if len(kept) > 8:
+            kept.clear()
+        made = kept[key] = time.monotonic(), rendered(site, store, it)
+    return made[1]
+
+
+def rendered(site: Site, store: Store, it: Live) -> Markup:
+    """The table, with what is said above it."""
     shown, by = names(store), authors_shown(store)
     rows = [row_of(site, row, shown, by) for row in it.rows]
     missing = f"{it.missing} matches of this round are missing" if it.missing else "no match is missing"
@@ -81,11 +95,11 @@ def signed_up(site: Site, name: str, token: str) -> str:
         "Your link", sentence("Keep it: it is your key, and it is shown only now."), tag("p", tag("a", link, href=f"{site.to('join')}#{token}"))))
 
 
-def told(site: Site, who: Who | None, answer: Answer) -> str:
-    """The page that says what became of something."""
+def told(site: Site, who: Who | None, answer: Answer, again: str = "") -> str:
+    """The page that says what became of something, with the form once more if there is something to be put right."""
     title = "Done" if answer.is_taken else "Refused"
-    return page(site, who, title, tag("h1", title), section(title, tag("pre", answer.words, class_="answer"),
-                                                            tag("p", tag("a", "On", href=site.to("mine" if who else "")))))
+    return page(site, who, title, tag("h1", title), section(title, tag("pre", block(answer.words.split("\n")), class_="answer"),
+                                                            tag("p", tag("a", "On", href=site.to("mine" if who else "")))), again)
 
 
 def mine(site: Site, store: Store, who: Who) -> str:
@@ -100,13 +114,14 @@ def mine(site: Site, store: Store, who: Who) -> str:
         if listed else sentence("You have handed in nothing yet.")), by_command(site), tag("div", id="own", data_own=" ".join(robots)))
 
 
-def hand_in(site: Site, by: Terms, robot: str) -> Markup:
-    """The form by which a robot is handed in."""
+def hand_in(site: Site, by: Terms, robot: str, text: str = "") -> Markup:
+    """The form by which a robot is handed in. A line end that begins a field is no part of what is in it."""
     until = f" It closes on {by.last_day()}." if by.closes else ""
     said = sentence(f"At most {by.robots} robots of {by.size} bytes, and {by.versions} versions an hour.{until}", kind="note")
-    area = tag("label", "Its source ", tag("textarea", name="source", rows=TEXTAREA_ROWS, spellcheck="false", maxlength=by.size))
+    area = tag("label", "Its source ", tag("textarea", block(["", *text.split("\n")]), name="source", rows=TEXTAREA_ROWS, spellcheck="false", maxlength=by.size))
     return section("Hand in", form(site, "robots", entry("Name", "robot", value=robot, maxlength=40), entry("A file", "file", "file"), area,
-                                   tag("button", "Send to the league"), kind="hand-in"), said)
+                                   tag("p", tag("button", "Send to the league"), " ", tag("button", "Only compile it", formaction=site.to("check"))),
+                                   kind="hand-in"), said)
 
 
 def by_command(site: Site) -> Markup:

@@ -12,7 +12,7 @@ from leagues.schedules import Schedule
 from leagues.sources import laid
 from leagues.store import Store
 from sites.frames import section, sentence
-from sites.markup import Markup, joined, name_of, tag
+from sites.markup import Markup, block, joined, name_of, tag
 from tools.faults import Fault
 
 from .frames import Site
@@ -99,7 +99,7 @@ def of_pair(site: Site, store: Store, it: Against, called: dict[str, str]) -> It
                            href=site.to(f"replays/{one.seating}/{one.number}"))) for one in it.worst]
     yield tag("ul", *links, class_="links")
     if it.worst and (text := summed(site, store, it.worst[0])):
-        yield tag("pre", text, class_="sum")
+        yield tag("pre", block(text.split("\n")), class_="sum")
 
 
 def summed(site: Site, store: Store, it: Lost) -> str:

@@ -68,7 +68,7 @@ def who() -> Who | None:
         abort(429)
     found = accounts.who(store(), token, (LINK,)) if token else accounts.who(store(), cookie, (SESSION,))
     if found is None:
-        attempts().failed(address())
+        attempts().count(address())
     return found
 
 

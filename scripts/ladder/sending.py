@@ -36,7 +36,8 @@ def answered(asked: urllib.request.Request, base: str) -> list[str]:
     except urllib.error.HTTPError as why:
         raise Fault("; ".join(lines(why.read(ANSWER_MAX))) or f"{base} answered {why.code}", FAULTY) from why
     except (OSError, ValueError) as why:
-        raise Fault(f"cannot reach {base}: {getattr(why, 'reason', why)}", FILE) from why
+        reason = getattr(why, "reason", why)
+        raise Fault(f"cannot reach {base}: {getattr(reason, 'strerror', None) or reason}", FILE) from why
 
 
 def lines(text: bytes) -> list[str]:

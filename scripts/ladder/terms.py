@@ -9,6 +9,8 @@ from dataclasses import asdict, dataclass, fields
 from leagues.days import today
 from leagues.store import Store
 
+from .schema import is_ready
+
 ALL, AUTHOR = "all", "author"
 
 
@@ -53,6 +55,11 @@ def terms(store: Store) -> Terms:
     said = json.loads(row[0]) if row else {}
     known = {it.name for it in fields(Terms)}
     return Terms(**{name: value for name, value in said.items() if name in known})
+
+
+def keeps_back(store: Store) -> bool:
+    """Whether sources were handed in here that only their authors may read: so none is published."""
+    return is_ready(store) and terms(store).readers == AUTHOR and bool(store.one("SELECT 1 FROM ladder_owner LIMIT 1"))
 
 
 def settle(store: Store, it: Terms) -> None:

@@ -14,7 +14,7 @@ from .pages import standing
 def wall(site: Site, store: Store) -> str:
     """The page: its script shows the films in turns, and asks now and then which ones are the last."""
     found = [it for it in (seating_of(store, it) for it in read(site.folder).last) if it]
-    films = " ".join(site.to(f"replays/{seating}/{number}") for seating, number in found) if site.programs.trace else ""
+    films = " ".join(site.to(f"replays/{seating}/{number}?play=1") for seating, number in found) if site.programs.trace else ""
     film = tag("iframe", title="The last battles", sandbox="allow-scripts", id="film", data_films=films)
     return page(site, None, "Wall", tag("h1", name_of(site.title)), tag("div", section(
         "Table", tag("div", standing(site, store, read(site.folder)), id="table")), section("The last battles", film), class_="halves"), wall=True)

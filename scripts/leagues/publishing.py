@@ -6,6 +6,7 @@ import argparse
 import os
 import shlex
 
+from ladder.terms import keeps_back
 from sites.facts import Facts
 from sites.folders import Foreign
 from sites.publishing import publish as write_site
@@ -44,6 +45,8 @@ def publish(given: argparse.Namespace) -> None:
     day = given_day(given)
     name = os.path.basename(os.path.abspath(given.league))
     with opened(given.league) as store:
+        if keeps_back(store):
+            raise Fault("only authors may read the sources that were handed in, so nothing is published; `terms --readers all` shows them")
         with store.change():
             copied = copies(store, given.jobs)
         with published(store, day) as now:

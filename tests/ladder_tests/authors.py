@@ -10,6 +10,7 @@ from typing import Callable, Iterator
 
 from .base import IDLE, Answer, Base, Ladder, other
 
+TOP = os.path.join(os.path.dirname(os.path.abspath(__file__)), "..", "..")
 NOBODY, OTHER, AUTHOR, ORGANISER = "nobody", "another author", "the author", "the organiser"
 ROLES = (NOBODY, OTHER, AUTHOR, ORGANISER)
 # Each address, and what each role is answered. The robot is the author's, and one that left can't leave again.
@@ -20,12 +21,12 @@ ADDRESSES: dict[tuple[str, str], tuple[int, int, int, int]] = {
     ("GET", "/robots/mine"): (200, 200, 200, 200), ("GET", "/robots/mine/versions/1"): (404, 404, 200, 200),
     ("GET", "/replays/999/1"): (404, 404, 404, 404), ("GET", "/organiser"): (404, 404, 404, 200), ("GET", "/checklist"): (404, 404, 404, 200),
     ("GET", "/checklist.csv"): (404, 404, 404, 200),
-    ("POST", "/robots"): (401, 403, 200, 200), ("PUT", "/robots/mine"): (401, 403, 200, 200),
+    ("POST", "/robots"): (401, 403, 200, 200), ("POST", "/check"): (401, 200, 200, 200), ("PUT", "/robots/mine"): (401, 403, 200, 200),
     ("POST", "/robots/mine/back"): (401, 403, 200, 200), ("POST", "/robots/mine/withdraw"): (401, 403, 200, 422),
     ("POST", "/organiser/invite"): (401, 404, 404, 200), ("POST", "/organiser/withdraw"): (401, 404, 404, 200),
     ("POST", "/join"): (401, 401, 401, 401), ("POST", "/leave"): (303, 303, 303, 303), ("POST", "/sign-up"): (429, 429, 429, 429),
 }
-FIELDS = {"/robots": {"robot": "mine", "source": other(2)}, "/robots/mine/back": {"version": "1"}, "/organiser/invite": {"name": "New"},
+FIELDS = {"/robots": {"robot": "mine", "source": other(2)}, "/check": {"robot": "mine", "source": other(2)}, "/robots/mine/back": {"version": "1"}, "/organiser/invite": {"name": "New"},
           "/organiser/withdraw": {"name": "New"}, "/join": {"token": "x"}, "/sign-up": {"name": "Sue"}}
 WRITES = [path for method, path in ADDRESSES if method == "POST"]
 
@@ -47,6 +48,15 @@ class Authors(Base):
         shapes = {(method, re.sub(r"<name>", "mine", rule)) for rule, _, method in app.ROUTES}
         shapes = {(method, rule.replace("<int:seating>", "999").replace("<int:number>", "1")) for method, rule in shapes}
         yield from (f"{it} has no row" for it in sorted(shapes ^ {*ADDRESSES}))
+
+    def each_threat_has_its_test(self) -> Iterator[str]:
+        """The table of the page names tests, and each of them is there."""
+        with open(os.path.join(TOP, "docs", "ladder.md"), encoding="utf-8") as file:
+            rows = re.findall(r"^\|.*\|.*\|(.*)\|$", file.read().partition("## What may go wrong")[2], re.MULTILINE)[2:]
+        parts = [importlib.import_module(f"ladder_tests.{name}") for name in ("authors", "crashes", "handing", "hostile", "passes", "seeing")]
+        known = {name.replace("_", " ") for part in parts for it in vars(part).values() if isinstance(it, type) for name in vars(it)}
+        yield from (f"there is no test {name}" for row in rows for name in re.findall("`([^`]*)`", row) if name not in known)
+        yield from [] if len(rows) > 12 and all("`" in row for row in rows) else [f"{len(rows)} rows"]
 
     def a_page_of_another_origin_changes_nothing(self) -> Iterator[str]:
         ladder, tokens = self._people("origins")
@@ -113,6 +123,7 @@ class Authors(Base):
         token = ladder.author("Tom")
         cookie = ladder.joined(token).partition("=")[2]
         ladder.ask("PUT", "/robots/own", IDLE, token=token)
+        ladder.terms(readers="all")
         files = [path for path in (f"{ladder.folder}/league.db", f"{ladder.folder}/league.db-wal") if os.path.exists(path)]
         text = b"".join(open(path, "rb").read() for path in files)
         yield from (f"the database has a token: {what}" for what, it in (("link", token), ("session", cookie), ("organiser", ladder.organiser)) if it.encode() in text)

@@ -32,7 +32,7 @@ LEAGUE = os.path.join(HERE, "..", "..", "scripts", "league")
 NAMES = ("crobots", "crobots-why", "crobots-trace")
 # A robot that shoots itself at once, one that stands still, and one with a fault.
 SHOOTER, IDLE, BAD = "main(){while(1)cannon(0,0);}", "main(){while(1);}", "main(){\nbreak; }"
-SECONDS = 60
+SECONDS = 120
 TODAY = datetime.date.today().isoformat()
 
 

@@ -24,7 +24,7 @@ class Crashes(Base):
     def nothing_that_was_taken_is_lost(self) -> Iterator[str]:
         """Server, player and all of it are killed in turns while robots are handed in and matches are played."""
         ladder = self._made("kills")
-        ladder.terms(robots=1000, versions=10_000)
+        ladder.terms(robots=1000, versions=10_000, readers="all")
         ladder.serve()
         token, chance = ladder.author("Ann"), random.Random(1)
         answers: list[int] = []

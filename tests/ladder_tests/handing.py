@@ -4,7 +4,9 @@ from __future__ import annotations
 
 import datetime
 import hashlib
+import html
 import os
+import re
 import subprocess
 import threading
 from typing import Iterator
@@ -112,6 +114,28 @@ class Handing(Base):
         if ladder.rows("SELECT 1 FROM robot WHERE id = 'bad'"):
             yield "it joined"
 
+    def what_only_compiles_isn_t_handed_in(self) -> Iterator[str]:
+        ladder, token = self._author("Fay")
+        before = ladder.written()
+        for text, status, words in ((IDLE, 200, "it compiles; it isn't handed in yet"), (BAD, 422, "c.r:2"), ("", 422, "the source is empty")):
+            answer = ladder.post("/check", {"robot": "c", "source": text}, token=token)
+            if answer.status != status or words not in answer.text:
+                yield f"{text!r}: {answer.status} {answer.text!r}"
+        if ladder.written() != before:
+            yield "rows were changed"
+        found = [ladder.post("/check", {"robot": "c", "source": ""}, token=token).status for _ in range(60)]
+        if found[:57] != [422] * 57 or found[57:] != [429] * 3:
+            yield f"{found}"
+
+    def a_refused_source_comes_back(self) -> Iterator[str]:
+        """Nobody loses what was written: the page that refuses it has it in its form."""
+        ladder, token = self._author("Gus")
+        text = "\n<b>main(){\nbreak;}</b></textarea>"
+        page = ladder.post("/robots", {"robot": "back", "source": text.replace("\n", "\r\n")}, token=token, Accept="text/html").text
+        found = re.search("<textarea[^>]*>\n(.*?)</textarea>", page, re.DOTALL)
+        if not found or html.unescape(found[1]) != text:
+            yield f"{found and found[1]!r}"
+
     def a_wrong_clock_keeps_nobody_out(self) -> Iterator[str]:
         ladder = self._new("clock")
         token = ladder.author("Ann")
@@ -145,9 +169,19 @@ class Handing(Base):
                 yield f"{found[0]}"
             ladder.end()
 
+    def nothing_is_published_that_only_authors_may_read(self) -> Iterator[str]:
+        ladder = self._new("private")
+        ladder.run("publish", self._at("private-site"))
+        ladder.ask("PUT", "/robots/r", IDLE, token=ladder.author("Ann"))
+        said = ladder.run("publish", self._at("refused-site"), status=2)
+        if os.path.exists(self._at("refused-site")) or "only authors may read" not in said:
+            yield said
+        ladder.terms(readers="all")
+        ladder.run("publish", self._at("private-site"))
+
     def names_that_aren_t_shown_are_nowhere(self) -> Iterator[str]:
         ladder = self._new("names")
-        ladder.terms(names=False)
+        ladder.terms(names=False, readers="all")
         token = ladder.author("Zacharias")
         ladder.ask("PUT", "/robots/r", IDLE, token=token)
         for path in ("/", "/table", "/wall", "/robots/r"):

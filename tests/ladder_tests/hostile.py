@@ -6,8 +6,13 @@ import html.parser
 import os
 import random
 import socket
+import subprocess
 import time
 from typing import Iterator
+
+from ladder import judging, players
+from ladder.players import limited
+from tournaments.programs import program
 
 from .base import IDLE, Base, Ladder, other
 
@@ -118,6 +123,27 @@ class Hostile(Base):
             yield f"{status} after {time.monotonic() - began:.1f}"
         for it in them:
             it.close()
+
+    def what_runs_has_limits(self) -> Iterator[str]:
+        """Compiler and player: of the processor's time, of memory, of files. A program that writes a file is stopped."""
+        path = self._at("written")
+        player = limited(program("/bin/sh"), self._folder).path
+        for name, begin, seconds, memory in (("compiler", [], judging.SECONDS, judging.MEMORY), ("player", [player], players.SECONDS, players.MEMORY)):
+            words = begin or ["sh"]
+            said = subprocess.run([*words, "-c", "ulimit -t; ulimit -v; ulimit -f"], capture_output=True, text=True, check=False).stdout.split() if begin else \
+                judging.ran([*words, "-c", "ulimit -t; ulimit -v; ulimit -f"]).stdout.decode().split()
+            if said != [str(seconds), str(memory), "0"]:
+                yield f"{name}: {said}"
+            write = [*words, "-c", f"echo x > {path}"]
+            if not (subprocess.run(write, capture_output=True, check=False) if begin else judging.ran(write)).returncode or os.path.exists(path) and os.path.getsize(path):
+                yield f"{name} wrote a file"
+
+    def a_head_gives_nobody_another_address(self) -> Iterator[str]:
+        """Without a proxy nobody says from where he comes."""
+        ladder, _ = self._two("heads-of-proxies")
+        found = [ladder.ask("PUT", "/robots/x", IDLE, token="wrong", X_Forwarded_For=f"10.0.0.{at}").status for at in range(25)]
+        if found[-1] != 429:
+            yield f"{found}"
 
     def _two(self, name: str) -> tuple[Ladder, str]:
         """A ladder with a robot of one author, and the token of another."""

@@ -106,14 +106,6 @@ class Passes(Base):
             yield f"an interval is missing: {shown}"
         if ladder.run("play", "--quiet", status=3) != f"league: {ladder.folder} is being played already\n":
             yield "a second player isn't refused"
-        ladder.run("publish", self._at("live-site"))
-        archive = re.search(r"verify 100 (\S+)", self._read(self._at("live-site/settings.html")).replace("</span> <span>", " ").replace("</span>", ""))
-        if not archive:
-            yield "no archive"
-
-    def _read(self, path: str) -> str:
-        with open(path, encoding="utf-8") as file:
-            return file.read()
 
     def _order(self, ladder: Ladder, worth: dict[str, float], authors: dict[str, str] | None = None) -> tuple[list[str], list[Series]]:
         """The robots, and the next pass."""

@@ -115,6 +115,8 @@ class Seeing(Base):
             it.go(film)
             it.until("document.querySelector('canvas, svg')")
             it.picture("film")
+            it.go(f"{film}?play=1")
+            it.until("globalThis.player && player.cycle > player.match.first")
             it.go("/wall")
             it.until("document.getElementById('film').src.includes('/replays/')")
             it.picture("wall")
