@@ -4,7 +4,7 @@ from __future__ import annotations
 
 import os
 
-from tools.faults import Misuse, file_word, plain
+from tools.faults import FAULTY, Fault, Misuse, file_word, plain
 from tools.output import show
 from tools.programs import number
 from tools.running import run as begin
@@ -21,6 +21,8 @@ def check(asked: Asked, path: str) -> list[str]:
         marker = Marker(programs)
         if os.path.isdir(path):
             rows = table(path, asked.number, marker)
+            if not any(row.exercise for row in rows):
+                raise Fault(f"{file_word(path)}: no file in it is named as anna-3.txt", FAULTY)
             right = sum(row.answer == RIGHT for row in rows)
             return [*lines_of(rows), f"{right} of {len(rows)} are right"]
         text = text_of(path)
