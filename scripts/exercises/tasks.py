@@ -1,0 +1,129 @@
+"""The exercises that programs can mark. Each has numbers of a reader's own, by a seed; its answer is asked of the proved programs."""
+
+from __future__ import annotations
+
+import re
+from bisect import bisect_left
+from dataclasses import dataclass
+from random import Random
+from typing import Callable
+
+from .programs import Programs
+
+STILL = "main(){ while (1); }\n"
+# Matches go on in steps of so many cycles.
+UPDATE, MOST_UPDATES = 15, 200
+
+
+@dataclass(frozen=True)
+class Task:
+    """What is asked: a text, the robot that it is about, and how the lines of the answer are found."""
+
+    asked: str
+    robot: str
+    answer: Callable[[Programs], list[str]]
+
+
+def listing(random: Random) -> Task:
+    """A whole listing."""
+    one, two, three = (random.randrange(2, 99) for _ in range(3))
+    first, second = random.sample(["+", "-", "*", "/", "%"], 2)
+    robot = f"main()\n{{\n  int a, b;\n  a = {one} {first} {two} {second} {three};\n  b = a;\n}}\n"
+    return Task("Write down what `crobots -c robot.r` prints of this robot, all lines.", robot, lambda them: them.listing(robot))
+
+
+def faults(random: Random) -> Task:
+    """Four faults, one after the other."""
+    one, other, parameter = random.sample(["turn", "look", "aim", "step", "hide", "seek"], 2) + [random.choice("abcde")]
+    gap = "\n" * random.randrange(1, 6)
+    steps = [f"{one}({parameter}, {parameter}) {{}}{gap}{one}() {{ {other}(); }}\n", f"{one}({parameter}) {{}}{gap}{one}() {{ {other}(); }}\n",
+             f"{one}({parameter}) {{}}{gap}far() {{ {other}(); }}\n", f"{one}({parameter}) {{}}{gap}far() {{ {one}(9); }}\n"]
+    return Task("Write down the line that `crobots -c robot.r` prints. Mend that fault alone: leave out the second parameter, call the second\n"
+                f"function far, then have it call {one}(9). Write down the line after each step: four lines.",
+                steps[0], lambda them: [them.listing(step)[0] for step in steps])
+
+
+def shot(random: Random) -> Task:
+    """The cycle after which a robot has damage."""
+    count, more = random.randrange(5, 40), random.randrange(1, 6)
+    robot = f"main()\n{{\n  int n;\n  while (n < {count}) n = n + 1;\n{'  1;' * more}\n  cannon(0, 0);\n  while (1) ;\n}}\n"
+    return Task("After which cycle does this robot have damage? Write down the number alone.", robot,
+                lambda them: [str(UPDATE * bisect_left(range(MOST_UPDATES), 1, key=lambda it: them.damage(robot, UPDATE * max(it, 1))))])
+
+
+def life(random: Random) -> Task:
+    """The end of a match of a robot that shoots at itself."""
+    metres, more = random.choice([0, 3, 8, 15, 25, 30, 39]), random.randrange(1, 6)
+    robot = f"main()\n{{\n  while (1) {{\n    cannon(0, {metres});\n   {' 1;' * more}\n  }}\n}}\n"
+    return Task("In which cycle does a match of this robot against itself end? Write down the number alone.", robot,
+                lambda them: [them.cycles(robot, robot)])
+
+
+def names(random: Random) -> Task:
+    """How many names a robot may have."""
+    outside, inside = random.randrange(1, 65), random.randrange(61, 69)
+    outer, inner = ", ".join(f"e{n}" for n in range(outside)), "".join(f"v{n};\n" for n in range(inside))
+    robot = f"int {outer};\nmain() {{\n{inner}}}\n"
+    return Task("Write down what `crobots -c robot.r` prints of this robot: only the lines that begin with Externals and with Function,\n"
+                "or the diagnostic.", robot, lambda them: [line for line in them.listing(robot) if re.match(r"Externals|Function|robot\.r:", line)])
+
+
+def logic(random: Random) -> Task:
+    """The code of `&&` and `||` by both profiles."""
+    one, other = random.choice(["&&", "||"]), random.choice(["&&", "||"])
+    robot = f"main()\n{{\n  int a, b, c;\n  a {one} b {other} c;\n}}\n"
+    return Task("Write down the instructions of this robot, as `crobots -c robot.r` prints them below the line that begins with Code:\n"
+                "first those of profile 1, then those of profile 2.", robot,
+                lambda them: [line for profile in ("-p1", "-p2") for line in code_of(them.listing(robot, profile))])
+
+
+def code_of(lines: list[str]) -> list[str]:
+    """The instructions of a listing."""
+    return lines[1 + next(at for at, line in enumerate(lines) if line.startswith("Code")):]
+
+
+def frames(random: Random) -> Task:
+    """A robot that lacks room, and lives several times."""
+    more = random.randrange(1, 9)
+    robot = f"int n;\nmain()\n{{\n  if (n++ == 0) cannon(0, 0);\n {' 1;' * more}\n  main();\n}}\n"
+    return Task("In which cycle does a match of this robot against itself end, by profile 1 and by profile 2? Write down both numbers,\n"
+                "a line each.", robot, lambda them: [them.cycles(robot, robot, profile) for profile in ("-p1", "-p2")])
+
+
+def lives(random: Random) -> Task:
+    """A robot that begins anew."""
+    step = random.choice([5, 8, 10, 12, 15, 20])
+    most = step * random.randrange(50, 300)
+    robot = f"main()\n{{\n  int a;\n  cannon(0, 0);\n  while (a < {most}) {{\n    scan(a, 5);\n    a = a + {step};\n  }}\n}}\n"
+    return Task("In which cycle does a match of this robot end against one that stands still? Write down the number alone.", robot,
+                lambda them: [them.cycles(robot, STILL)])
+
+
+def turns(random: Random) -> Task:
+    """What a turn of a loop takes."""
+    acts = ["cannon(d, r);", "drive(d, 50);", "d = d + 20;", "d += 20;", "r = r / 2;", "if (damage() > 50) d = 0;"]
+    chosen = "\n    ".join(random.sample(acts, 3))
+    robot = f"main()\n{{\n  int d, r;\n  while (1) {{\n    r = scan(d, 10);\n    if (r > {random.randrange(20, 90)}) cannon(d, r);\n    {chosen}\n  }}\n}}\n"
+    return Task("How many cycles does a turn of this loop take, at least and at most? Write down what `crobots-bounds robot.r` has of it, as in\n"
+                "23 to 28; first by profile 1, then by profile 2, a line each.", robot, lambda them: [bounds(them, robot, it) for it in ("-p1", "-p2")])
+
+
+def bounds(them: Programs, robot: str, profile: str) -> str:
+    """The cycles that a turn takes."""
+    them.lay("robot.r", robot)
+    turn = (re.search(r"a turn +(\d+(?: to \d+)?) cycles", line) for line in them.lines("crobots-bounds", profile, "robot.r"))
+    return next(it[1] for it in turn if it)
+
+
+TASKS: dict[int, Callable[[Random], Task]] = {1: listing, 2: faults, 3: shot, 4: life, 5: names, 6: logic, 7: frames, 8: lives, 10: turns}
+
+
+def task_of(number: int, seed: str) -> Task:
+    """The exercise of a number, with the numbers of a seed."""
+    return TASKS[number](Random(f"{number} {seed}"))
+
+
+def text_of(number: int, seed: str) -> str:
+    """The text of an exercise."""
+    it = task_of(number, seed)
+    return f"Exercise {number}, for {seed}\n\n{it.asked}\n\n{it.robot}"
