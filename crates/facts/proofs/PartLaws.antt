@@ -1,13 +1,18 @@
 -- The parts of a robot, as their lists grow.
-use Rattle.std.specs.Prelude.{ℕ, ◌+◌, ◌≡◌, ◌<◌, ◌≤◌, List, [], ◌∷◌, ◌++◌, Some, length, map, set, slice_index_or, take}
+use Rattle.std.specs.Prelude.{ℕ, ◌+◌, ◌≡◌, ◌<◌, ◌≤◌, List, [], ◌∷◌, ◌++◌, Ok, Some, length, map, set, slice_index_or, take}
 use Rattle.std.proofs.Common.{ap, refl, sym, ◌∙◌}
 use Rattle.std.proofs.lemmas.List.{get_or-map, map-append, map-set, set-get_or, take_all, take_more}
 use Rattle.cycles.specs.declared.counted.Counted.TheVariants.{Questions}
 use Rattle.cycles.specs.declared.sources.SourceSpans.{SourceSpans}
 use Rattle.cycles.specs.Files.{AreSpansOf}
+use Rattle.grammar.specs.Building.{Representation}
+use Rattle.grammar.specs.Compiled.{compiled}
+use Rattle.grammar.specs.Pools.{Pools, pools_of}
 use Rattle.grammar.specs.Profile.{Profile}
+use Rattle.grammar.specs.Tree.{File}
+use Rattle.parser.specs.ParsedFiles.{ParsesToFile}
 use Rattle.facts.specs.declared.facts.Part.{Part}
-use Rattle.facts.specs.Facts.{Cycles, HasParts, cycles_of_run, cycles_of_turn, cycles_told}
+use Rattle.facts.specs.Facts.{AreNamesOf, Cycles, HasParts, cycles_of_run, cycles_of_turn, cycles_told}
 
 module _ {X : Type 0} (of : X → Cycles) where
   -- one more
@@ -36,13 +41,31 @@ same_cycles parts old i part other less is same before =
     (same ∙ ap cycles_told is ∙ sym (get_or-map cycles_told parts i part (cycles_told part) less))
     ∙ set-get_or (map cycles_told parts) i (cycles_told part) ∙ before
 
+-- a file's bytes are of no other file
+same_file : (p : Profile) (bytes : List ℕ) (one other : File) → compiled p bytes ≡ Ok one → compiled p bytes ≡ Ok other
+    → one ≡ other
+same_file p bytes one other is same = cc (is, same)
+
 -- the parts of a file, by what is told of it
-pub has_parts : (p : Profile) (bytes : List ℕ) (spans : SourceSpans) (functions loops : List Part) →
-    AreSpansOf Questions p (Some bytes) spans → map cycles_told functions ≡ map cycles_of_run spans.runs.items →
-    map cycles_told loops ≡ map cycles_of_turn spans.turns.items → HasParts p bytes functions loops
-has_parts p bytes spans functions loops are runs turns = record {
-  file = are.file;
-  is = are.is bytes refl;
-  runs = runs ∙ ap (map cycles_of_run) are.rows.runs;
-  turns = turns ∙ ap (map cycles_of_turn) are.rows.turns;
+pub has_parts : (p : Profile) (bytes : List ℕ) (names : Pools) (spans : SourceSpans) (functions loops : List Part) →
+    AreNamesOf p bytes names → AreSpansOf Questions p (Some bytes) spans →
+    map cycles_told functions ≡ map (cycles_of_run names) spans.runs.items →
+    map cycles_told loops ≡ map (cycles_of_turn names) spans.turns.items → HasParts p bytes functions loops
+has_parts p bytes names spans functions loops called are runs turns =
+    let file = same_file p bytes called.file are.file called.is (are.is bytes refl) in
+    let named : names ≡ pools_of are.file = called.named ∙ ap pools_of file in
+    record {
+      file = are.file;
+      is = are.is bytes refl;
+      runs = rw named at (runs ∙ ap (map (cycles_of_run names)) are.rows.runs);
+      turns = rw named at (turns ∙ ap (map (cycles_of_turn names)) are.rows.turns);
+    }
+
+-- the names that a parse of them finds
+pub are_names : (p : Profile) (bytes : List ℕ) (names : Pools) (before after : Representation) → before p [] →
+    ParsesToFile before after (Some bytes) names → AreNamesOf p bytes names
+are_names p bytes names before after begun parsed = record {
+  file = parsed.file;
+  is = parsed.is bytes refl p begun;
+  named = parsed.named;
 }

@@ -3,7 +3,7 @@
 ghost use Rattle.std.specs.Prelude.{◌≡◌, ◌++◌, ◌<◌, ◌∷◌, [], IfErr, IfOk, Ok, Some, length, map};
 ghost use Rattle.room.specs.Bounds.{IsRefusedSource};
 ghost use Rattle.cycles.specs.Files.{AreSpansOf};
-ghost use Rattle.facts.specs.Facts.{AreFactsOf, HasParts, cycles_of_run, cycles_of_turn, cycles_told};
+ghost use Rattle.facts.specs.Facts.{AreFactsOf, AreNamesOf, HasParts, cycles_of, cycles_of_run, cycles_of_turn, cycles_told, name_at};
 
 use crate::chains::{Chain, Link};
 use crate::places::Places;
@@ -123,6 +123,7 @@ struct Finder<'a> {
 impl Finder<'_> {
     /// Finds the functions and the loops. Each kind of question wants a pass over the source.
     fn parts(&self) -> Result<(Vec<Part>, Vec<Part>), ParseFault>
+        requires { AreNamesOf self.now.profile self.now.source.now self.now.names.now }
         ensures parts { IfOk result (λ parts. HasParts self.now.profile self.now.source.now parts.0.items parts.1.items) }
         ensures refused { IfErr result (IsRefusedSource self.now.profile (Some self.now.source.now)) }
     {
@@ -148,7 +149,7 @@ impl Finder<'_> {
 
     /// Lists the functions with their cycles.
     fn functions(&self, runs: &[Run]) -> Result<Vec<Part>, AllocError>
-        ensures { IfOk result (λ parts. map cycles_told parts.items ≡ map cycles_of_run runs.now) }
+        ensures { IfOk result (λ parts. map cycles_told parts.items ≡ map (cycles_of_run self.now.names.now) runs.now) }
     {
         let mut parts = Vec::new(self.alloc);
         for (index, run) in runs.iter().enumerate() {
@@ -159,7 +160,7 @@ impl Finder<'_> {
 
     /// Lists the loops with their cycles, and what lies between the questions of their turns.
     fn loops(&self, turns: &[Turn]) -> Result<Vec<Part>, AllocError>
-        ensures { IfOk result (λ parts. map cycles_told parts.items ≡ map cycles_of_turn turns.now) }
+        ensures { IfOk result (λ parts. map cycles_told parts.items ≡ map (cycles_of_turn self.now.names.now) turns.now) }
     {
         let sums: Sums<'_, Ways> = Sums::of(self.tokens, self.profile);
         let mut parts = Vec::new(self.alloc);
@@ -172,7 +173,7 @@ impl Finder<'_> {
 
     /// Makes the part of a loop, by what is told of its turn and by what lies between its questions.
     fn turn(&self, turn: Turn, found: &Loop<Ways>) -> Part
-        ensures { cycles_told result ≡ cycles_of_turn turn }
+        ensures { cycles_told result ≡ cycles_of_turn self.now.names.now turn }
     {
         let place = (found.position.line, found.position.column);
         let mut part = self.part(turn.function, place, turn.cycles);
@@ -185,7 +186,7 @@ impl Finder<'_> {
 
     /// Makes a part of the function of this number, which has asked nothing so far.
     fn part(&self, function: u8, place: (u32, u32), cycles: Option<Span>) -> Part
-        ensures { cycles_told result ≡ record { function = function; cycles = cycles } }
+        ensures { cycles_told result ≡ cycles_of self.now.names.now function cycles }
     {
         let (line, column) = place;
         Part {
@@ -233,7 +234,9 @@ impl Finder<'_> {
     }
 
     /// Returns the name of the function of this number.
-    fn name(&self, function: u8) -> Name {
+    fn name(&self, function: u8) -> Name
+        ensures { result ≡ name_at self.now.names.now function }
+    {
         match self.names.functions().get(usize::from(function)) {
             Some(function) => *function.name(),
             None => Name::new(),

@@ -4,4 +4,4 @@ use Rattle.facts.proofs.facts.Finder.functions.Given as goal
 
 -- the functions so far
 abbrev pub invariant-loop-index : goal.invariant-loop-index
-invariant-loop-index l = map cycles_told l.parts.items ≡ map cycles_of_run (take l.index l.runs)
+invariant-loop-index l = map cycles_told l.parts.items ≡ map (cycles_of_run l.self.names.now) (take l.index l.runs)

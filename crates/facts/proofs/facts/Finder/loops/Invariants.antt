@@ -4,4 +4,4 @@ use Rattle.facts.proofs.facts.Finder.loops.Given as goal
 
 -- the loops so far
 abbrev pub invariant-loop-index : goal.invariant-loop-index
-invariant-loop-index l = map cycles_told l.parts.items ≡ map cycles_of_turn (take l.index l.turns)
+invariant-loop-index l = map cycles_told l.parts.items ≡ map (cycles_of_turn l.self.names.now) (take l.index l.turns)
