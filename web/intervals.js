@@ -1,6 +1,7 @@
 // Intervals of means: how sure a difference is. This is the one place of the page that works them out.
 //
-// `meanOf` is what crobots-challenge says of a change, `estimateOf` what crobots-tune says of a value; both by Student's distribution.
+// `meanOf` is what crobots-challenge says of a change, `estimateOf` what crobots-tune says of a value; both by Student's
+// distribution.
 
 /** @typedef {{value: number, low: number, high: number}} Interval */
 
@@ -21,16 +22,19 @@ const NEAR = [
         1.6763848301838038494, 2.05319162663775882187, 1],
 ];
 const FAR = [
-    [2.01033439929228813265e-7, 2.71155556874348757815e-5, 0.0012426609473880784386, 0.026532189526576123093, 0.29656057182850489123,
-        1.7848265399172913358, 5.4637849111641143699, 6.6579046435011037772],
-    [2.04426310338993978564e-15, 1.4215117583164458887e-7, 1.8463183175100546818e-5, 7.868691311456132591e-4, 0.0148753612908506148525,
-        0.13692988092273580531, 0.59983220655588793769, 1],
+    [2.01033439929228813265e-7, 2.71155556874348757815e-5, 0.0012426609473880784386, 0.026532189526576123093,
+        0.29656057182850489123, 1.7848265399172913358, 5.4637849111641143699, 6.6579046435011037772],
+    [2.04426310338993978564e-15, 1.4215117583164458887e-7, 1.8463183175100546818e-5, 7.868691311456132591e-4,
+        0.0148753612908506148525, 0.13692988092273580531, 0.59983220655588793769, 1],
 ];
 
 const sum = numbers => numbers.reduce((whole, it) => whole + it, 0);
 const average = numbers => sum(numbers) / numbers.length;
 
-/** The quotient of two polynomials. @param {number[][]} both */
+/**
+ * The quotient of two polynomials.
+ * @param {number[][]} both
+ */
 function quotient(both, x) {
     const [above, below] = both.map(factors => factors.reduce((value, factor) => value * x + factor, 0));
     return above / below;

@@ -32,7 +32,10 @@ function verdictOf(differences, level) {
     return isSure(change) ? change.low > 0 ? "better" : "worse" : NOTHING;
 }
 
-/** A value's points, by its match, of each opponent, beside today's. @returns {Row} */
+/**
+ * A value's points, by its match, of each opponent, beside today's.
+ * @returns {Row}
+ */
 function rowOf(value, mine, today, level) {
     const differences = mine.map((points, at) => points.map((it, match) => it - today[at][match]));
     const facts = {value, points: average(mine.map(average)), matches: mine.flat().length};
