@@ -1,10 +1,8 @@
 // The page: what it is built with, and what happens at its buttons.
 import {ask, buttonOf} from "./asking.js";
 import {checked, copyOf} from "./battles.js";
-import {Bench, Caller} from "./calling.js";
-import {Contesting} from "./contesting.js";
+import {Caller} from "./calling.js";
 import {byId} from "./dom.js";
-import {Duo} from "./duos.js";
 import {makeEditor} from "./editor.js";
 import {onDrop, readFiles, save} from "./files.js";
 import {Finder} from "./finding.js";
@@ -16,8 +14,8 @@ import {Places} from "./places.js";
 import {Playing, tell} from "./playing.js";
 import {DatabaseShelf, Keeper, LocalShelf} from "./shelves.js";
 import {Store} from "./store.js";
-import {Sweeping} from "./sweeping.js";
 import {Workbench} from "./workbench.js";
+import {Worths} from "./worths.js";
 
 // how much room versions take at most: in a database, and where there is only the storage of texts
 const MOST_BYTES = 24 * 1024 * 1024;
@@ -71,11 +69,8 @@ class Page {
         this.playing = new Playing(this.store, newCaller(), places, () => this.workbench.compileAll());
         this.keeping = new Keeping(this.store, keeper, moment => this.playing.watchMoment(moment));
         this.histories = new Histories(this.store, text => this.keeping.noted.say(text), async () => this.store.take(await keeper.load()),
-            robot => this.contesting.weigh(robot));
-        const bench = new Bench(newCaller);
-        this.contesting = new Contesting(this.store, bench, data.robots, new Duo(bench));
-        const sweeping = new Sweeping(this.store, editor, bench, data.robots);
-        this.workbench.onCompile = (source, compiled) => sweeping.offer(source, compiled);
+            robot => this.worths.weigh(robot));
+        this.worths = new Worths(this.workbench, data.robots, newCaller);
         this.finder = new Finder(editor);
         this.listen();
         this.showSteps();

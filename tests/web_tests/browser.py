@@ -11,9 +11,10 @@ from typing import Any, Callable, ContextManager, Iterator
 
 from harness import loaded
 
-from . import everyone, helping, inside, keeping, paths, robust, seeing, seen, worths
+from . import everyone, helping, inside, keeping, paths, robust, seeing, seen
 from .battles import Battle, Mistake, Settings, mistakes, outcome, random_battles, sample_battles, samples, vectors
 from .pages import Page, as_loaded, chromium, console, served, without
+from .worths import results as worths
 
 DEBIAN = "/usr/lib/python3/dist-packages"
 # the key as the protocol of drivers has it
@@ -443,7 +444,7 @@ def results(crobots: str, stages: str, folder: str) -> Iterator[tuple[str, list[
         yield from seeing.results(page, crobots)
         yield from inside.results(page)
         yield from helping.results(page, crobots, folder)
-        yield from worths.results(page, crobots, stages, folder)
+        yield from worths(page, crobots, stages, folder)
         yield from robust.results(page, folder)
         yield from everyone.results(page)
         yield from paths.results(page, folder)

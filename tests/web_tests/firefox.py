@@ -5,10 +5,11 @@ from __future__ import annotations
 import os
 from typing import Iterator
 
-from . import browser, everyone, inside, paths, worths
+from . import browser, everyone, inside, paths
 from .battles import random_battles, sample_battles
 from .marionette import firefox, program
 from .pages import Page, served
+from .worths import few
 
 
 def lacking(folder: str) -> str:
@@ -30,8 +31,8 @@ def results(crobots: str, stages: str, folder: str) -> Iterator[tuple[str, list[
         yield "watched matches", browser.watched(page, crobots)
         yield "widths", everyone.widths(page)
         yield from inside.results(page)
-        yield from worths.few(page, crobots, stages, folder)
         yield from paths.results(page, folder)
+        yield from few(page, crobots, stages, folder)
         other = Page(driver, "file://" + os.path.join(os.path.abspath(folder), "index.html"))
         other.open()
         yield "the page as a file", browser.reports(other, crobots, sample_battles()[20:21])
