@@ -30,8 +30,8 @@ class Browser:
         self._hear, hear = os.pipe()
         words = [program, "--headless=new", "--no-sandbox", "--disable-gpu", "--hide-scrollbars", "--remote-debugging-pipe",
                  f"--user-data-dir={self._profile.name}", "about:blank"]
-        # The browser reads what it is asked from its descriptor 3, and answers on 4.
-        self._child = subprocess.Popen(["sh", "-c", f'exec "$@" 3<&{ask} 4>&{hear}', "sh", *words], pass_fds=(ask, hear),
+        # The browser reads what it is asked from its descriptor 3, and answers on 4. Not each sh takes numbers of two digits for these.
+        self._child = subprocess.Popen(["bash", "-c", f'exec "$@" 3<&{ask} 4>&{hear}', "bash", *words], pass_fds=(ask, hear),
                                        stdin=subprocess.DEVNULL, stdout=subprocess.DEVNULL, stderr=subprocess.DEVNULL)
         os.close(ask)
         os.close(hear)

@@ -3,10 +3,9 @@ import {Notice, reveal} from "./asking.js";
 import {copyOf, isSame, unfit} from "./battles.js";
 import {byId} from "./dom.js";
 import {saveText} from "./files.js";
-import {MOST_LINK, battleOf, fragmentOf, isBattle, linkedMoment} from "./links.js";
+import {BROKEN, MOST_LINK, battleOf, fragmentOf, isBattle, linkedMoment} from "./links.js";
 import {exported} from "./versions.js";
 
-const BROKEN = "The link carries no battle that can be read, so this is another one.";
 const REFUSED = "This browser keeps nothing of this page: its storage is blocked or full. Save your robots as files before you leave.";
 const FULL = "The storage is full: your last changes aren't kept. Delete versions in 'My battles', or save your robots as files before you leave.";
 const APART = "Another tab has changed this battle too. Yours is now a battle of its own; both are in 'My battles'.";
@@ -43,14 +42,15 @@ export class Keeping {
         });
     }
 
-    /** Begins with the battle of a link, or with the one that was kept last, or with samples. */
+    /** Begins with the battle of a link, or with the one that was kept last, or with samples. Returns whether it is with samples. */
     begin(linked, samples) {
         const isBroken = isBattle(location.hash) && !linked;
-        this.store.begin(linked, samples);
+        const isFirst = this.store.begin(linked, samples);
         if (isBroken) {
-            this.noted.say(BROKEN);
+            this.noted.say(`${BROKEN} This is another one.`);
         }
         this.sayKept();
+        return isFirst;
     }
 
     /** Says what became of the battle that is current. */
@@ -146,9 +146,9 @@ export class Keeping {
         const battle = await battleOf(hash);
         if (battle) {
             this.store.openLink(battle);
-            this.watch(linkedMoment(hash));
+            this.watch(linkedMoment(hash, battle));
         } else if (isBattle(hash)) {
-            this.noted.say(BROKEN);
+            this.noted.say(`${BROKEN} This is another one.`);
         }
     }
 

@@ -4,6 +4,8 @@ import {Limits} from "./limits.js";
 import {bytesOf, unpacked} from "./player/packing.js";
 
 const MARK = "#battle=";
+/** What is said of a link that can't be read. */
+export const BROKEN = "The link carries no battle that can be read.";
 // four sources of the greatest length, with room for what stands between them
 const MOST_BYTES = 6 * 1024 * 1024;
 /** How many letters a link's fragment has at most: programs that pass links on cut off much longer ones. */
@@ -17,17 +19,26 @@ function toText(bytes) {
     return btoa(binary).replaceAll("+", "-").replaceAll("/", "_").replaceAll("=", "");
 }
 
-/** Returns the fragment that carries this battle, and a moment {number, cycle} of one of its matches if there is one. */
-export async function fragmentOf(battle, moment = null) {
-    const packed = new Blob([JSON.stringify(copyOf(battle))]).stream().pipeThrough(new CompressionStream("deflate-raw"));
-    return MARK + toText(await bytesOf(packed)) + (moment ? `&match=${moment.number}&cycle=${moment.cycle}` : "");
+/** What stands in a fragment for a moment: the match, the cycle, and the robot that is followed if one is. */
+function textOf({number, cycle, robot}) {
+    return `&match=${number}&cycle=${cycle}${robot ? `&robot=${robot}` : ""}`;
 }
 
-/** Returns the moment that a fragment names, of a match that can be watched; null if it names none. */
-export function linkedMoment(fragment) {
-    const found = /&match=(\d{1,7})&cycle=(\d{1,10})$/.exec(fragment);
-    const [number, cycle] = found ? found.slice(1).map(Number) : [0, 0];
-    return number >= 1 && number <= Limits.first && cycle <= Limits.cycles ? {number, cycle} : null;
+/** Returns the fragment that carries this battle, and a moment {number, cycle, robot} of one of its matches if there is one. */
+export async function fragmentOf(battle, moment = null) {
+    const packed = new Blob([JSON.stringify(copyOf(battle))]).stream().pipeThrough(new CompressionStream("deflate-raw"));
+    return MARK + toText(await bytesOf(packed)) + (moment ? textOf(moment) : "");
+}
+
+/**
+ * Returns the moment that a fragment names, of a match of its battle that can be watched; null if it names none. Its robot is 0 if none
+ * is followed. A battle of one robot has it twice.
+ */
+export function linkedMoment(fragment, {robots}) {
+    const found = /&match=(\d{1,7})&cycle=(\d{1,10})(?:&robot=([1-4]))?$/.exec(fragment);
+    const [number, cycle, robot] = found ? found.slice(1).map(it => Number(it ?? 0)) : [0, 0, 0];
+    const isFit = number >= 1 && number <= Limits.first && cycle <= Limits.cycles && robot <= Math.max(2, robots.length);
+    return isFit ? {number, cycle, robot} : null;
 }
 
 /** Returns whether a fragment is one that is to carry a battle. */

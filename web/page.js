@@ -1,9 +1,10 @@
 // The page: what it is built with, and what happens at its buttons.
 import {ask, buttonOf} from "./asking.js";
-import {checked, copyOf} from "./battles.js";
+import {FIRST_WINNER, checked, copyOf} from "./battles.js";
 import {Caller} from "./calling.js";
 import {byId} from "./dom.js";
 import {makeEditor} from "./editor.js";
+import {Alone} from "./embedding.js";
 import {onDrop, readFiles, save} from "./files.js";
 import {Finder} from "./finding.js";
 import {helpWriting} from "./helping.js";
@@ -13,7 +14,7 @@ import {battleOf, linkedMoment} from "./links.js";
 import {Places} from "./places.js";
 import {Playing, tell} from "./playing.js";
 import {DatabaseShelf, Keeper, LocalShelf} from "./shelves.js";
-import {Store} from "./store.js";
+import {NEW_SOURCE, Store} from "./store.js";
 import {Workbench} from "./workbench.js";
 import {Worths} from "./worths.js";
 
@@ -59,14 +60,15 @@ function levels(samples) {
 }
 
 class Page {
-    constructor(newCaller, data, editor, keeper) {
+    constructor({compiler, runner}, data, editor, keeper) {
         this.data = data;
         const known = [...data.robots, ...data.steps].map(({source}) => source);
         const most = keeper.database ? MOST_BYTES : MOST_LOCAL_BYTES;
         this.store = new Store({keeper, known, newKey, now: Date.now, most});
-        this.workbench = new Workbench(this.store, editor, newCaller());
-        const places = new Places({write: () => editor.focus(), watch: () => this.playing.focus()});
-        this.playing = new Playing(this.store, newCaller(), places, () => this.workbench.compileAll());
+        this.workbench = new Workbench(this.store, editor, compiler);
+        this.editor = editor;
+        this.places = new Places({write: () => editor.focus(), watch: () => this.playing.focus()});
+        this.playing = new Playing(this.store, runner, this.places, () => this.workbench.compileAll());
         this.keeping = new Keeping(this.store, keeper, moment => this.playing.watchMoment(moment));
         this.histories = new Histories(this.store, text => this.keeping.noted.say(text), async () => this.store.take(await keeper.load()),
             robot => this.worths.weigh(robot));
@@ -83,7 +85,7 @@ class Page {
             "add-sample": () => store.addRobots([this.sample]), replace: () => store.replaceRobot(store.robot.key, this.sample),
             remove: () => this.remove(), save: () => save(store.robot), open: () => byId("files").click(),
             import: () => byId("files").click(), link: () => this.keeping.share((text, isFault) => tell("said", text, isFault)),
-            "link-moment": () => this.shareMoment(),
+            "link-moment": () => this.shareMoment(), beat: () => this.beat(),
         };
         Object.entries(presses).forEach(([id, call]) => byId(id).addEventListener("click", call));
         byId("files").addEventListener("change", event => this.take([...event.target.files]));
@@ -99,9 +101,19 @@ class Page {
     shareMoment() {
         const {filmed, screen} = this.playing;
         if (filmed && screen.player) {
-            const moment = {number: filmed.number, cycle: Math.floor(screen.player.cycle)};
+            const {cycle, chosen} = screen.player;
+            const moment = {number: filmed.number, cycle: Math.floor(cycle), robot: chosen};
             this.keeping.sendLink(copyOf(filmed), moment, (text, isFault) => tell("told", text, isFault));
         }
+    }
+
+    /** Begins a robot of one's own against the winner of the match that who comes first sees. */
+    beat() {
+        const {name, source} = this.data.robots.find(it => it.name === FIRST_WINNER);
+        this.store.beginNew(checked({robots: [{name: "robot1.r", source: NEW_SOURCE}, {name, source}]}));
+        this.keeping.noted.say(`Here is your robot, and ${name} is against it. Change it, and press Run.`);
+        this.places.go("write");
+        this.editor.focus();
     }
 
     async remove() {
@@ -147,22 +159,38 @@ class Page {
     }
 }
 
+/** The address of the worker's script. */
+const workerOf = ({worker}) => URL.createObjectURL(new Blob([worker], {type: "text/javascript"}));
+
+/** Shows the field alone, in a page that has no more. */
+export async function embed(module) {
+    const data = globalThis.CROBOTS;
+    byId("main").hidden = false;
+    await new Alone(new Caller(workerOf(data), module), data.robots).show();
+}
+
 /** Makes the page of what it is built with and of the module: from a file nothing can be fetched, so all of it is a script. */
 export async function make(module) {
     const data = globalThis.CROBOTS;
     byId("main").hidden = false;
-    const address = URL.createObjectURL(new Blob([data.worker], {type: "text/javascript"}));
+    const address = workerOf(data);
+    // the module is compiled in its workers meanwhile
+    const [compiler, runner] = [new Caller(address, module), new Caller(address, module)];
     const [battle, editor, keeper] = await Promise.all([battleOf(location.hash), makeEditor(byId("source"), data.editor), keeperOf()]);
     const kept = await keeper.load();
-    const page = new Page(() => new Caller(address, module), data, editor, keeper);
+    const page = new Page({compiler, runner}, data, editor, keeper);
     helpWriting(editor, data.functions);
-    const moment = battle && linkedMoment(location.hash);
+    const moment = battle && linkedMoment(location.hash, battle);
     page.store.take(kept);
-    page.keeping.begin(battle, data.robots);
+    const isFirst = page.keeping.begin(battle, data.robots);
     try {
         await page.playing.begin();
     } catch (fault) {
         throw new Error(`The page's engine doesn't start: ${fault.message}. Unpack or copy all files of the page once more.`);
     }
-    await page.playing.watchMoment(moment);
+    if (battle) {
+        await page.playing.present(moment ?? {number: battle.settings.first, cycle: 0});
+    } else if (isFirst) {
+        await page.playing.presentFirst();
+    }
 }

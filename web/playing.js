@@ -1,16 +1,14 @@
 // The settings, the run of a battle with its report, and the match that is watched.
-import {areSame, checked, copyOf, isSeed} from "./battles.js";
+import {FIRST_MATCH, areSame, checked, copyOf, isSeed} from "./battles.js";
 import {byId} from "./dom.js";
 import {Ending, Limits} from "./limits.js";
 import {Inside} from "./insides.js";
 import {Screen} from "./replays.js";
 import {Report, totalsOf} from "./reports.js";
 import {Series, ended} from "./series.js";
-import {Watcher, Wish} from "./watching.js";
+import {Watcher, Wish, wishOf} from "./watching.js";
 
 const NUMBERS = ["matches", "limit", "first", "profile"];
-// a link to a moment leads to so many cycles before it
-const CYCLES_BEFORE = 300;
 // the settings that a match depends on, beside its number
 const RULES = ["limit", "seed", "profile"];
 
@@ -19,6 +17,9 @@ export function tell(id, text, isFault = false) {
     byId(id).textContent = text;
     byId(id).classList.toggle("faulty", isFault);
 }
+
+/** Says how it goes with the match that is watched. */
+const tellWatched = (text, isFault) => tell("told", text, isFault);
 
 /** Returns whether two battles differ in their robots or in one of these settings. */
 function differ(one, other, names) {
@@ -71,8 +72,7 @@ export class Playing {
         this.runner = runner;
         this.places = places;
         this.reprofiled = reprofiled;
-        this.screen = new Screen(byId("film"), byId("controls"), places);
-        this.watcher = new Watcher(runner, this.screen, (text, isFault) => tell("told", text, isFault));
+        this.screen = new Screen(byId("film"), places);
         this.inside = new Inside(this.screen, runner, this);
         this.report = new Report(byId("report"), number => this.watch(new Wish(this.reported, number, 0)));
         byId("settings").addEventListener("input", event => this.takeSettings(event.target.id));
@@ -114,6 +114,9 @@ export class Playing {
 
     /** Shows the settings of another battle than before. */
     follow() {
+        if (this.store.current !== this.current || this.store.current.isTouched) {
+            this.welcome(false);
+        }
         if (this.store.current !== this.current) {
             this.current = this.store.current;
             for (const [id, value] of Object.entries(this.battle.settings)) {
@@ -174,9 +177,10 @@ export class Playing {
             return;
         }
         this.busy(true);
-        if (this.places.shown === "write") {
+        if (this.places.shown === "write" || this.isFirst) {
             this.places.go("fight");
         }
+        await this.endPresenting();
         const battle = this.store.run();
         tell("said", "The battle runs.");
         const begun = performance.now();
@@ -212,15 +216,46 @@ export class Playing {
         byId("film-age").hidden = !isOld(this.filmed, RULES);
     }
 
-    /** Plays the match of a moment from some cycles before it on; none if there is none. Who wants no motion sees it stand. */
+    /** Plays the match of a moment; none if there is none. */
     async watchMoment(moment) {
         if (moment) {
-            const {number, cycle} = moment;
-            await this.watch(new Wish(copyOf(this.battle), number, Math.max(0, cycle - CYCLES_BEFORE)));
-            const {player} = this.screen;
-            if (player && !player.isPlaying && !matchMedia("(prefers-reduced-motion: reduce)").matches) {
-                player.toggle();
-            }
+            await this.watch(wishOf(copyOf(this.battle), moment));
+        }
+    }
+
+    /** Plays the match of a moment of its own accord, until something is asked for; what has the focus keeps it. */
+    async present(moment, say = tellWatched) {
+        this.places.go("watch");
+        this.presented = this.show(wishOf(copyOf(this.battle), moment), (text, isFault) => this.isRunning || say(text, isFault));
+        const isShown = await this.presented;
+        this.presented = null;
+        if (!isShown && !this.isRunning) {
+            this.places.go("write");
+        }
+    }
+
+    /** Plays the match that who comes for the first time sees, with what there is to do about it. */
+    presentFirst() {
+        this.welcome(true);
+        return this.present({number: FIRST_MATCH, cycle: 0}, () => {});
+    }
+
+    /** Whether the words for who comes for the first time are shown. */
+    get isFirst() {
+        return !byId("welcome").hidden;
+    }
+
+    welcome(isFirst) {
+        byId("welcome").hidden = !isFirst;
+        byId("controls").hidden = isFirst;
+    }
+
+    /** What the page shows of its own accord gives way to what is asked for. */
+    async endPresenting() {
+        this.welcome(false);
+        if (this.presented) {
+            this.runner.stop();
+            await this.presented;
         }
     }
 
@@ -237,17 +272,26 @@ export class Playing {
         }
         this.busy(true);
         this.places.go("watch");
-        byId("watched").value = wish.number;
+        await this.endPresenting();
         tell("told", "The match is being played.");
-        this.inside.watch();
-        const isShown = await this.watcher.watch(wish);
+        const isShown = await this.show(wish, tellWatched);
         this.busy(false);
+        if (isShown) {
+            this.screen.focus();
+        }
+    }
+
+    /** Has a match filmed, and shows the film. Returns whether there is one. */
+    async show(wish, say) {
+        byId("watched").value = wish.number;
+        this.inside.watch();
+        const isShown = await new Watcher(this.runner, this.screen, say).watch(wish);
         this.inside.watch(isShown ? wish : this.filmed);
         if (isShown) {
             this.filmed = wish;
             this.judgeAges();
             this.screen.fit();
-            this.screen.focus();
         }
+        return isShown;
     }
 }

@@ -5,6 +5,8 @@ const LEAST_HEIGHT = 200;
 const BESIDE = 0.45;
 const LEAST_PART = 0.5;
 const BELOW = 12;
+// below a field that is alone there is a line of text
+const BELOW_ALONE = 44;
 const LOW = 400;
 const LEAST_WIDTH_OF_LOW = 520;
 // a frame that doesn't load in this time is made anew, and at last given up
@@ -22,10 +24,11 @@ const later = milliseconds => new Promise(done => setTimeout(done, milliseconds)
 
 /** The frame in which a film is shown, as high as what it shows; that fits into the window, beside what stands above it. */
 export class Screen {
-    constructor(frame, controls, places) {
+    /** `places` says whether the window is wide. The field is alone if nothing else of the match is to be shown. */
+    constructor(frame, places, isAlone = false) {
         this.frame = frame;
-        this.controls = controls;
         this.places = places;
+        this.isAlone = isAlone;
         this.isBeside = false;
         /**
          * Is called when a film is shown.
@@ -77,7 +80,7 @@ export class Screen {
         if (this.isBeside && !this.places.isWide) {
             return Math.max(LEAST_HEIGHT, innerHeight * (matchMedia("(orientation: landscape)").matches ? 1 - LEAST_PART / 4 : BESIDE));
         }
-        const above = this.frame.getBoundingClientRect().top + scrollY + BELOW;
+        const above = this.frame.getBoundingClientRect().top + scrollY + (this.isAlone ? BELOW_ALONE : BELOW);
         return Math.max(LEAST_HEIGHT, innerHeight * LEAST_PART, innerHeight - above);
     }
 
@@ -91,6 +94,7 @@ export class Screen {
             style.setProperty("--height", `${room}px`);
             classList.toggle("low", room < LOW && this.frame.offsetWidth >= LEAST_WIDTH_OF_LOW);
             classList.toggle("mini", this.isBeside);
+            classList.toggle("alone", this.isAlone);
             this.resize();
         }
     }
@@ -121,7 +125,7 @@ export class Screen {
 
     /** From where the match goes on, and whether it plays. */
     get place() {
-        const {cycle, isPlaying} = this.player;
-        return {from: cycle, isPlaying};
+        const {cycle, isPlaying, chosen} = this.player;
+        return {from: cycle, isPlaying, chosen};
     }
 }

@@ -75,7 +75,8 @@ async function start() {
     await checkFile("page", globalThis.CROBOTS_PAGE);
     const module = await checkedModule();
     document.getElementById("lacking").hidden = true;
-    await globalThis.CROBOTS_PAGE().make(module);
+    const {embed, make} = globalThis.CROBOTS_PAGE();
+    await (document.body.classList.contains("alone") ? embed : make)(module);
 }
 
 start().catch(fault => lack(fault.message));

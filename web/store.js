@@ -232,7 +232,7 @@ export class Store {
         this.changed();
     }
 
-    /** Begins: with a link's battle, or with what was changed last, or with samples. */
+    /** Begins: with a link's battle, or with what was changed last, or with samples. Returns whether it is with samples. */
     begin(linked, samples) {
         const last = this.archive.versions.findLast(it => it.isTouched);
         if (linked) {
@@ -242,6 +242,7 @@ export class Store {
         } else {
             this.open(firstBattle(samples, {name: "robot1.r", source: NEW_SOURCE}));
         }
+        return !linked && !last;
     }
 
     /** Opens a link's battle beside one's own; if it is one's own, as one sent it, goes on with that. Returns whether it is a new one. */

@@ -7,7 +7,8 @@ declare var CROBOTS: {
     robots: {name: string, level: number, source: string}[], steps: Step[], functions: Help[], editor: boolean,
     player: string, worker: string, module: string,
 };
-declare var CROBOTS_PAGE: () => {make: (module: Uint8Array) => Promise<void>};
+type Start = (module: Uint8Array) => Promise<void>;
+declare var CROBOTS_PAGE: () => {make: Start, embed: Start};
 declare var player: any;
 declare var showFilm: (film: any, heading: string, options: any) => void;
 declare var CompressionStream: {new(format: string): any};

@@ -7,15 +7,31 @@ import {UPDATE_CYCLES} from "./player/terms.js";
 const FIRST_WINDOWS = 1000;
 const SHOW_AFTER = 300;
 
-/** What is to be watched: the match with this number of a battle, from a cycle on. */
+/** What is to be watched: the match with this number of a battle, from a cycle on; whether it plays at once, and which robot is followed. */
 export class Wish {
-    constructor({robots, settings}, number, cycle) {
+    constructor({robots, settings}, number, cycle, {isPlaying = false, robot = 0} = {}) {
         this.robots = robots;
         this.settings = settings;
         this.number = number;
         this.cycle = cycle;
         this.from = Math.floor(cycle / UPDATE_CYCLES);
+        this.isPlaying = isPlaying;
+        this.robot = robot;
     }
+
+    /** Where the film begins, as the player has it. */
+    get place() {
+        return {from: this.cycle, isPlaying: this.isPlaying, chosen: this.robot};
+    }
+}
+
+// a link to a moment leads to so many cycles before it
+const CYCLES_BEFORE = 300;
+const CALM = matchMedia("(prefers-reduced-motion: reduce)");
+
+/** The wish to see a moment of a battle, from some cycles before it on. Who wants no motion sees it stand. */
+export function wishOf(battle, {number, cycle, robot = 0}) {
+    return new Wish(battle, number, Math.max(0, cycle - CYCLES_BEFORE), {isPlaying: !CALM.matches, robot});
 }
 
 export class Watcher {
@@ -80,13 +96,13 @@ export class Watcher {
     }
 
     /** Shows some windows of a match. */
-    async showWindows({number, from, cycle}, {film}) {
-        await this.screen.show(film, number, {from: cycle});
+    async showWindows({number, from, place}, {film}) {
+        await this.screen.show(film, number, place);
         this.say(`Match ${number} is shown below from cycle ${from * UPDATE_CYCLES} to ${film.cycles}. The rest is being played.`);
     }
 
     /** Shows all that there is of a match's film, at the cycle that was asked for, or where it is shown already. */
-    async showWhole({number, cycle}, {ending, film, faults}, place = {from: cycle}) {
+    async showWhole({number, place: begin}, {ending, film, faults}, place = begin) {
         if (film === null) {
             this.say(reasonOf(ending, faults), true);
             return false;

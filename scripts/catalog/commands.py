@@ -72,7 +72,7 @@ SCRIPTS = (
     Script("crobots-tournament", "tournament", ("tools", "tournaments", "sites", "replays"), "crobots"),
     Script("crobots-challenge", "challenge", ("tools", "tournaments", "sites", "replays"), "crobots"),
     Script("crobots-compare", "compare", ("tools", "comparisons", "tournaments", "sites", "replays"), "crobots-trace"),
-    Script("crobots-league", "league", ("tools", "leagues", "tournaments", "sites", "replays"), "crobots"),
+    Script("crobots-league", "league", ("tools", "leagues", "ladder", "tournaments", "sites", "replays"), "crobots"),
     Script("crobots-replay", "replay", ("tools", "replays"), "crobots-trace"),
     Script("crobots-step", "step", ("tools", "stepping"), "crobots-debug"),
     Script("crobots-tune", "tune", ("tools", "tuning", "tournaments", "leagues", "sites", "replays"), "crobots"),

@@ -3,6 +3,7 @@
 from __future__ import annotations
 
 import argparse
+import json
 from contextlib import ExitStack
 from dataclasses import dataclass
 
@@ -14,10 +15,15 @@ from tournaments.robots import names
 
 from . import traces, words
 from .columns import Row, columns, side_by_side
-from .moments import Moment, moment
+from .moments import Moment, Values, moment
 from .questions import Comparison, Question, comparison, questions
 
 NOTHING = "nothing"
+# What is shown of a call or of the externals: a label and a text for each row.
+Texts = dict[str, str]
+# A group of rows by its place among all: calls by their frames, the innermost first, and then the externals.
+Place = tuple[int, str]
+EXTERNALS: Place = (0, "")
 
 
 @dataclass(frozen=True)
@@ -75,10 +81,21 @@ def moment_rows(both: list[Version], moments: list[Moment]) -> list[Row]:
     rows = [Row("line", *(f"{it.line}: {line_of(version, it.line)}" for version, it in zip(both, moments)))]
     if new.restarts or old.restarts:
         rows.append(Row("restarts", new.restarts, old.restarts))
-    for place in sorted({*new.groups, *old.groups}):
-        one, other = new.groups.get(place, {}), old.groups.get(place, {})
+    groups = [groups_of(it) for it in moments]
+    for place in sorted({*groups[0], *groups[1]}):
+        one, other = (it.get(place, {}) for it in groups)
         rows += [Row(label, one.get(label, ""), other.get(label, "")) for label in {**one, **other}]
     return rows
+
+
+def groups_of(it: Moment) -> dict[Place, Texts]:
+    """The labels and texts of each call and of the externals."""
+    calls = {(-call.frames, call.function): {f"{call.function}()": f"at line {call.line}", **texts("  ", call.variables)} for call in it.calls}
+    return {**calls, EXTERNALS: texts("", it.externals)}
+
+
+def texts(indent: str, values: Values) -> Texts:
+    return {f"{indent}{name}": str(value) for name, value in values.items()}
 
 
 def line_of(version: Version, number: int) -> str:
@@ -96,9 +113,30 @@ def compare(name: str, arguments: list[str]) -> None:
     trace, both = path_of(traces.TRACE), versions(given)
     with stopping("stopped while the match was played"):
         found = compared(trace, both)
-        text = said(given, both, found)
-        if found.cycle is not None:
-            moments = [moment_of(trace, it, found.cycle - 1) for it in both]
-            rows = question_rows(found.new, found.old) + moment_rows(both, moments)
-            text += side_by_side(Row("", both[0].name, both[1].name), rows, columns())
-    show([text])
+        moments = [] if found.cycle is None else [moment_of(trace, it, found.cycle - 1) for it in both]
+        show([data(given, both, found, moments) if given.json else shown(given, both, found, moments)])
+
+
+def shown(given: argparse.Namespace, both: list[Version], found: Comparison, moments: list[Moment]) -> str:
+    """The answer in words, and if there is a difference, both versions side by side."""
+    text = said(given, both, found)
+    if moments:
+        rows = question_rows(found.new, found.old) + moment_rows(both, moments)
+        text += side_by_side(Row("", both[0].name, both[1].name), rows, columns())
+    return text
+
+
+def data(given: argparse.Namespace, both: list[Version], found: Comparison, moments: list[Moment]) -> str:
+    """The answer as JSON."""
+    asked = [found.new, found.old]
+    versions: list[dict[str, object]] = [{"name": it.name, "asks": question_data(question)} for it, question in zip(both, asked)]
+    for version, it, place in zip(versions, both, moments):
+        version |= {"line": place.line, "text": line_of(it, place.line), "restarts": place.restarts or None,
+                    "calls": [{"function": call.function, "line": call.line, "variables": call.variables} for call in place.calls],
+                    "externals": place.externals}
+    whole = {"match": given.match, "alike": found.alike, "last": question_data(found.last), "cycle": found.cycle, "versions": versions}
+    return json.dumps(whole, ensure_ascii=False, indent=2) + "\n"
+
+
+def question_data(it: Question | None) -> dict[str, int | str] | None:
+    return it._asdict() if it else None

@@ -5,25 +5,33 @@ from __future__ import annotations
 from dataclasses import dataclass, field
 from typing import Iterable
 
-# What is shown of a call or of the externals: a label and a text for each row.
-Texts = dict[str, str]
-# A group of rows by its place among all: calls by their frames, the innermost first, and then the externals.
-Place = tuple[int, str]
-EXTERNALS: Place = (0, "")
+# The values of variables by their names.
+Values = dict[str, int]
+
+
+@dataclass
+class Call:
+    """A call that goes on: its frames, its function, the line at which the robot is in it, and its variables."""
+
+    frames: int
+    function: str
+    line: int
+    variables: Values = field(default_factory=dict)
 
 
 @dataclass
 class Moment:
-    """The line of the next instruction, why the robot restarts if it does, and the groups of what it holds."""
+    """The line of the next instruction, why the robot restarts if it does, its calls, the innermost first, and the externals."""
 
     line: int = 0
     restarts: str = ""
-    groups: dict[Place, Texts] = field(default_factory=lambda: {EXTERNALS: {}})
+    calls: list[Call] = field(default_factory=list)
+    externals: Values = field(default_factory=dict)
 
 
 def moment(rows: Iterable[str]) -> Moment:
     """The moment of the rows of `crobots-trace --at`."""
-    it, place = Moment(), EXTERNALS
+    it = Moment()
     for kind, *fields in (row.split("\t") for row in rows):
         if kind == "at":
             it.line = int(fields[1])
@@ -31,13 +39,9 @@ def moment(rows: Iterable[str]) -> Moment:
             it.restarts = fields[0]
         elif kind == "call":
             frames, line, function = fields
-            place = (-int(frames), function)
-            it.groups[place] = {f"{function}()": f"at line {line}"}
+            it.calls.append(Call(int(frames), function, int(line)))
         elif kind in ("local", "external"):
-            add_variable(it, place if kind == "local" else EXTERNALS, *fields)
+            name, value = fields
+            (it.calls[-1].variables if kind == "local" else it.externals)[name] = int(value)
+    it.calls.sort(key=lambda call: -call.frames)
     return it
-
-
-def add_variable(it: Moment, place: Place, name: str, value: str) -> None:
-    """Adds a variable of a call, or an external."""
-    it.groups[place][name if place == EXTERNALS else f"  {name}"] = value

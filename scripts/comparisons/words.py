@@ -24,6 +24,7 @@ def parser(name: str) -> Parser:
                                             "and shows where they first do something else.", allow_abbrev=False)
     it.add_version()
     it.add_argument("--old", metavar="OLD", required=True, help="the older version")
+    it.add_argument("--json", action="store_true", help="print the answer as JSON")
     it.add_argument("--robot", metavar="N", type=within(1, MOST_ROBOTS), default=1, help="number of the newer version among the files (default 1)")
     it.add_argument("-k", "-f", dest="match", metavar="MATCH", type=within(1, MATCHES_MAX), default=1, help="number of the match (default 1)")
     it.add_argument("-l", dest="cycles", metavar="CYCLES", type=within(1, CYCLES_MAX), default=DEFAULTS["cycles"],

@@ -16,7 +16,7 @@ from tools.faults import FAULTY, FILE, Fault, unreadable, unwritable
 
 from . import older, tables
 from .entries import SOURCE_MAX, hashed
-from .schema import SCHEMA
+from .schema import LATER, SCHEMA
 from .standings import Standing
 from .store import Store, filled, told
 
@@ -25,11 +25,11 @@ WRONG = (zipfile.BadZipFile, zlib.error, csv.Error, sqlite3.Error, LookupError, 
          NotImplementedError, RuntimeError)
 SOURCES = "sources/"
 TABLE = "table.csv"
-# A table that archives of the version before don't have.
+# A table that archives of the first version don't have.
 NEW = "ending"
 # The tables of the database, in an order in which rows name only rows before them.
 KEPT = ("robot", "entry", "season", "ruling", "ending", "correction", "member", "worker", "seating", "battle", "removal",
-        "removed", "publication", "standing")
+        "removed", "publication", "standing", *LATER)
 README = """\
 This is an archive of a league of CROBOTS robots, as it was on {day}.
 
@@ -48,6 +48,8 @@ battle.csv       the matches: in how many cycles each ended, and with which dama
 removal.csv      why matches were taken back, and removed.csv has these matches
 publication.csv  the tables that were published, and standing.csv has their rows; hash is that of all rows that were
                  shown first then: those that have the publication's number, and of it all but the hash itself
+handed.csv       names that robots have beside their ids, and the folders from which they were taken
+code.csv         the SHA-256 of what sources compile to, without names, by which copies are found: by which program
 table.csv        the table of the last season
 
 A match is played again by
@@ -123,18 +125,24 @@ def read(path: str) -> Iterator[tuple[Store, str]]:
             raise Fault(f"{path} is no file", FILE)
         with tempfile.TemporaryDirectory(prefix="crobots-") as folder, zipfile.ZipFile(path) as archive:
             whole(archive)
-            is_older = f"{NEW}.csv" not in archive.namelist()
-            with filled(os.path.join(folder, "archive.db"), older.TABLES if is_older else SCHEMA) as database:
+            kept = tables_of({*archive.namelist()})
+            with filled(os.path.join(folder, "archive.db"), older.TABLES if kept == older.KEPT else SCHEMA) as database:
                 store = Store(folder, database)
                 with told(path), store.change():
-                    load(store, archive, older.KEPT if is_older else KEPT)
-                if is_older:
-                    older.renew(database)
+                    load(store, archive, kept)
+                older.renew(database)
                 yield store, archive.read(TABLE).decode()
     except OSError as why:
         unreadable(path, why)
     except WRONG as why:
         raise Fault(f"{path} is no archive of a league: {shown(str(why))}", FILE) from why
+
+
+def tables_of(names: set[str]) -> Sequence[str]:
+    """The tables that an archive with these members has to have: those of its version."""
+    if f"{NEW}.csv" not in names:
+        return older.KEPT
+    return KEPT if any(f"{it}.csv" in names for it in LATER) else KEPT[:-len(LATER)]
 
 
 def shown(text: str) -> str:

@@ -16,7 +16,7 @@ from .store import Store
 
 NEAR = 1e-6
 # Tables whose rows are numbered from 1 on; of publications some may lack.
-NUMBERED = ("entry", "season", "ruling", "correction", "worker", "removal")
+NUMBERED = ("entry", "season", "ruling", "correction", "worker", "removal", "handed")
 USED = {
     "robot": ("SELECT id FROM robot WHERE id NOT IN (SELECT robot FROM entry)", "the robot {} never joined"),
     "source": ("SELECT sha256 FROM source WHERE sha256 NOT IN (SELECT sha256 FROM entry)", "no robot had the source {}"),

@@ -13,10 +13,10 @@ import time
 from typing import Iterator
 
 from tools.faults import Fault, unwritable
+from tools.output import replaced
 from tournaments.plans import SERIES, Plan, one_write
 from tournaments.records import Record
 
-from .sources import replaced
 
 NAME = "plans"
 CHUNK = os.path.join(os.path.dirname(os.path.realpath(__file__)), "chunk.sh")

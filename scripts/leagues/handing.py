@@ -11,13 +11,14 @@ from typing import Iterator, NamedTuple, Sequence
 
 from tools.faults import FAULTY, Fault, plain
 from tools.output import say, show
-from tournaments.programs import program
+from tournaments.programs import Program, program
 
 from . import entries, likeness, naming, seasons
 from .days import given_day
 from .inboxes import Inbox, authors_of, inboxes, name_of, read, strays
 from .sources import laid
 from .store import Store, opened
+from .texts import text
 
 JOINED, CHANGED, SAME = "joined", "changed", "are as they were"
 
@@ -43,10 +44,10 @@ class Done(NamedTuple):
 def take_in(given: argparse.Namespace) -> None:
     """Takes the robots of all authors' folders."""
     found = inboxes(given.folder, authors_of(given.authors) if given.authors else None)
-    crobots = program(given.crobots).path
+    by = program(given.crobots)
     with opened(given.league) as store:
         profile = seasons.season(store).rules.profile
-        choices = [chosen(it, crobots, profile) for it in found]
+        choices = [chosen(it, by.path, profile) for it in found]
         faults = [f"{it} is in no author's folder" for it in strays(given.folder)] + [why for it in choices for why in it.faults]
         for why in faults:
             say(given.script, plain(why))
@@ -55,7 +56,7 @@ def take_in(given: argparse.Namespace) -> None:
         good = [it for it in choices if it.path]
         with store.change():
             done = [entered(store, it, given_day(given)) for it in good]
-            copies = [*copied(store, profile, crobots, [it.robot for it in done if it.what != SAME])]
+            copies = [*copied(store, profile, by, [it.robot for it in done if it.what != SAME])]
     show(f"{plain(line)}\n" for line in [*(it.line for it in done if it.what != SAME), *copies, counted(done, len(choices) - len(good))])
     if faults:
         raise Fault("1 file or folder was left out" if len(faults) == 1 else f"{len(faults)} files or folders were left out", FAULTY)
@@ -110,7 +111,7 @@ def entered(store: Store, it: Choice, day: str) -> Done:
     """Lets the robot of a folder join or change, if it has other bytes than before."""
     folder, name = it.inbox.folder, name_of(it.path)
     short = f"{folder}/{os.path.basename(it.path)}"
-    robot = naming.robots_of_folders(store).get(naming.text(folder), "")
+    robot = naming.robots_of_folders(store).get(text(folder), "")
     last = {one.robot: one for one in entries.entries(store)}.get(robot)
     if last is None:
         robot = robot or naming.made(folder, naming.taken(store))
@@ -124,13 +125,13 @@ def entered(store: Store, it: Choice, day: str) -> Done:
     return Done(robot, CHANGED, f"{short} changed {robot}")
 
 
-def copied(store: Store, profile: int, crobots: str, robots: Sequence[str]) -> Iterator[str]:
+def copied(store: Store, profile: int, by: Program, robots: Sequence[str]) -> Iterator[str]:
     """Which of some robots have the code of another author's robot."""
     happened = entries.entries(store)
     folder = laid(store, {it.sha256 for it in happened})
     files = {it.sha256: os.path.join(folder, it.sha256) for it in happened}
     authors = dict(store.rows("SELECT id, author FROM robot"))
-    found = likeness.copied(happened, authors, likeness.codes(store, profile, crobots, files, os.cpu_count() or 1))
+    found = likeness.copied(happened, authors, likeness.codes(store, profile, by, files, os.cpu_count() or 1))
     for robot in robots:
         if robot in found:
             yield f"{robot} has the same code as {found[robot]}, by {authors[found[robot]]}, which had it before"

@@ -6,16 +6,15 @@ import os
 import re
 import subprocess
 from concurrent.futures import ThreadPoolExecutor
-from typing import Iterable, Mapping, NamedTuple, Sequence
+from typing import Iterable, Iterator, Mapping, NamedTuple, Sequence
 
 from tools.faults import PROGRAM, Fault
+from tournaments.programs import Program
 
 from .entries import WITHDRAW, Entry, hashed
+from .rules import rules
 from .store import Store
 
-SCHEMA = """
-CREATE TABLE IF NOT EXISTS code (sha256 TEXT NOT NULL, profile INTEGER NOT NULL, hash TEXT NOT NULL,
-    PRIMARY KEY (sha256, profile)) WITHOUT ROWID"""
 FUNCTION = re.compile(r"^Function \d+ \w+ (vars \d+ at \d+)$", re.MULTILINE)
 
 
@@ -44,16 +43,31 @@ def code_of(listing: str) -> str:
     return hashed(f"{FUNCTION.findall(head)} {code}".encode())
 
 
-def codes(store: Store, profile: int, crobots: str, sources: Mapping[str, str], jobs: int) -> dict[str, str]:
-    """The code of each source, by the hashes of their bytes and their files. What was compiled before is kept."""
-    store.run(SCHEMA)
-    known = dict(store.rows("SELECT sha256, hash FROM code WHERE profile = ?", profile))
+def codes(store: Store, profile: int, by: Program, sources: Mapping[str, str], jobs: int) -> dict[str, str]:
+    """The code of each source by a program, by the hashes of their bytes and their files. What was compiled before is kept."""
+    known = dict(store.rows("SELECT sha256, hash FROM code WHERE profile = ? AND program = ?", profile, by.sha256))
     new = [it for it in sources if it not in known]
     with ThreadPoolExecutor(jobs) as pool:
-        found = [*pool.map(lambda it: compiled(crobots, profile, sources[it]), new)]
-    rows = [(sha256, profile, it.code) for sha256, it in zip(new, found) if it.code]
-    store.database.executemany("INSERT OR IGNORE INTO code VALUES (?, ?, ?)", rows)
-    return known | {sha256: code for sha256, _, code in rows}
+        found = [*pool.map(lambda it: compiled(by.path, profile, sources[it]), new)]
+    rows = [(sha256, profile, by.sha256, it.code, store.next()) for sha256, it in zip(new, found) if it.code]
+    store.database.executemany("INSERT INTO code VALUES (?, ?, ?, ?, ?)", rows)
+    return known | {sha256: code for sha256, _, _, code, _ in rows}
+
+
+def last_codes(store: Store, profile: int) -> dict[str, str]:
+    """The code of each source by the program that compiled one last; of those that it didn't compile none."""
+    last = store.one("SELECT program FROM code WHERE profile = ? ORDER BY publication DESC, program LIMIT 1", profile)
+    return dict(store.rows("SELECT sha256, hash FROM code WHERE profile = ? AND program = ?", profile, *last)) if last else {}
+
+
+def otherwise(store: Store, by: Program, folder: str) -> Iterator[str]:
+    """Sources, as files in a folder, that compile to something else than is kept of them, if it is by this program."""
+    profiles = {rules(text).profile for text, in store.rows("SELECT rules FROM season UNION SELECT rules FROM ruling WHERE rules != ''")}
+    for sha256, profile, program, code in store.rows("SELECT sha256, profile, program, hash FROM code ORDER BY 1, 2, 3"):
+        if profile not in profiles:
+            yield f"no season has the profile {profile}, by which {sha256} was compiled"
+        elif program == by.sha256 and compiled(by.path, profile, os.path.join(folder, sha256)).code != code:
+            yield f"the source {sha256} compiles to other code than the archive has of it"
 
 
 def copied(happened: Sequence[Entry], authors: Mapping[str, str], code: Mapping[str, str]) -> dict[str, str]:

@@ -12,13 +12,14 @@ MODULES = {
     "init": "entering", "rules": "entering", "add": "entering", "change": "entering", "withdraw": "entering",
     "play": "sessions", "take": "taking", "season": "turning", "status": "showing", "table": "showing",
     "publish": "publishing", "verify": "verifying", "drop": "dropping", "correct": "correcting", "history": "history",
-    "take-in": "handing",
+    "take-in": "handing", "serve": "ladder.serving", "invite": "ladder.inviting", "terms": "ladder.inviting", "send": "ladder.sending",
 }
 
 
 def league(name: str, arguments: list[str]) -> None:
     """Does what the words ask for."""
     given = Words(name).parse(arguments)
-    module = importlib.import_module(f".{MODULES[given.command]}", __package__)
-    does: Callable[[object], None] = getattr(module, given.command.replace("-", "_"))
+    module = MODULES[given.command]
+    there = importlib.import_module(module if "." in module else f"{__package__}.{module}")
+    does: Callable[[object], None] = getattr(there, given.command.replace("-", "_"))
     does(given)

@@ -3,12 +3,12 @@
 from __future__ import annotations
 
 import itertools
-import os
 import re
 import unicodedata
 from typing import Container
 
 from .store import Store
+from .texts import text
 
 MOST = 40
 # Letters that have no accent that could be left out, in the way in which most passports write them.
@@ -18,9 +18,6 @@ CYRILLIC = dict(zip("абвгдеёжзийклмнопрстуфхцчшщъы�
                     "a b v g d e e zh z i i k l m n o p r s t u f kh ts ch sh shch - y - e iu ia ie i i g".replace("-", "").split(" ")))
 GREEK = dict(zip("αβγδεζηθικλμνξοπρσςτυφχψω", "a v g d e z i th i k l m n x o p r s s t y f ch ps o".split(" ")))
 LETTERS = LATIN | CYRILLIC | GREEK
-SCHEMA = """
-CREATE TABLE IF NOT EXISTS handed (number INTEGER PRIMARY KEY, folder TEXT NOT NULL, robot TEXT NOT NULL REFERENCES robot,
-    name TEXT NOT NULL)"""
 
 
 def plain(name: str) -> str:
@@ -51,19 +48,11 @@ def taken(store: Store) -> set[str]:
 
 def keep(store: Store, folder: str, robot: str, name: str) -> None:
     """Keeps the name that a robot has, and the folder from which it was taken, if any."""
-    store.run(SCHEMA)
-    store.run("INSERT INTO handed (folder, robot, name) VALUES (?, ?, ?)", text(folder), robot, text(name))
-
-
-def text(name: str) -> str:
-    """A name as the database has it: bytes that are no UTF-8 are replaced by a sign for that."""
-    return os.fsencode(name).decode("utf-8", "replace")
+    store.run("INSERT INTO handed (folder, robot, name, publication) VALUES (?, ?, ?, ?)", text(folder), robot, text(name), store.next())
 
 
 def handed(store: Store) -> list[tuple[str, str, str]]:
     """The folders, robots and names that were kept, the last ones last."""
-    if not store.one("SELECT 1 FROM sqlite_master WHERE type = 'table' AND name = 'handed'"):
-        return []
     return store.rows("SELECT folder, robot, name FROM handed ORDER BY number")
 
 

@@ -1,13 +1,16 @@
-"""Databases of the version before, which had no chain of publications: how they become those of this one."""
+"""Databases of earlier versions: how they become those of this one.
+
+The first one had no chain of publications, the second one no names of robots in it, and no folders from which they came."""
 
 from __future__ import annotations
 
 import sqlite3
 
-from .schema import SCHEMA, VERSION
+from .schema import LATER, SCHEMA, VERSION
+from .texts import text
 
-BEFORE = 1
-# The tables of the version before, in an order in which rows name only rows before them.
+FIRST, SECOND = 1, 2
+# The tables of the first version, in an order in which rows name only rows before them.
 KEPT = ("robot", "entry", "season", "member", "seating", "battle", "publication", "standing")
 TABLES = """
 CREATE TABLE source (sha256 TEXT PRIMARY KEY, bytes BLOB NOT NULL) WITHOUT ROWID;
@@ -49,12 +52,15 @@ INSERT INTO standing SELECT publication, robot, sha256, division, rank, played, 
 
 
 def renew(database: sqlite3.Connection) -> None:
-    """Makes a database of the version before one of this version, in one piece; another one stays as it is."""
+    """Makes a database of an earlier version one of this version, in one piece; another one stays as it is."""
     database.execute("PRAGMA foreign_keys = OFF")
     database.execute("BEGIN IMMEDIATE")
     try:
-        if database.execute("PRAGMA user_version").fetchone()[0] == BEFORE:
+        version = database.execute("PRAGMA user_version").fetchone()[0]
+        if version == FIRST:
             moved(database)
+        elif version == SECOND:
+            extended(database)
     except BaseException:
         database.execute("ROLLBACK")
         raise
@@ -69,3 +75,19 @@ def moved(database: sqlite3.Connection) -> None:
     removing = (f"DROP TABLE old_{it}" for it in reversed(tables))
     for statement in (*renaming, *SCHEMA.split(";\n"), *MOVES.split(";\n"), *removing, f"PRAGMA user_version = {VERSION}"):
         database.execute(statement)
+
+
+def extended(database: sqlite3.Connection) -> None:
+    """Adds the tables that came last. Names and folders that were kept are shown first by the next publication; what sources compile
+    to is found anew, since nobody knows by which program it was."""
+    is_there = database.execute("SELECT 1 FROM sqlite_master WHERE name = 'handed'").fetchone()
+    rows = database.execute("SELECT number, folder, robot, name FROM handed").fetchall() if is_there else []
+    for it in LATER:
+        database.execute(f"DROP TABLE IF EXISTS {it}")
+    for statement in SCHEMA.split(";\n"):
+        if any(f"CREATE TABLE {it} " in statement for it in LATER):
+            database.execute(statement)
+    next_one, = database.execute("SELECT coalesce(max(number), 0) + 1 FROM publication").fetchone()
+    database.executemany("INSERT INTO handed VALUES (?, ?, ?, ?, ?)",
+                         [(number, text(folder), robot, text(name), next_one) for number, folder, robot, name in rows])
+    database.execute(f"PRAGMA user_version = {VERSION}")

@@ -29,12 +29,13 @@ def copies(store: Store, jobs: int) -> dict[str, str]:
     it = season(store)
     happened = entries(store, it.last_entry)
     folder = laid(store, {one.sha256 for one in happened})
+    files = {one.sha256: os.path.join(folder, one.sha256) for one in happened}
     try:
-        crobots = program(None).path
+        by = program(None)
     except Fault:
-        crobots = ""
-    files = {one.sha256: os.path.join(folder, one.sha256) for one in happened} if crobots else {}
-    code = likeness.codes(store, it.rules.profile, crobots, files, jobs)
+        code = likeness.last_codes(store, it.rules.profile)
+    else:
+        code = likeness.codes(store, it.rules.profile, by, files, jobs)
     return likeness.copied(happened, dict(store.rows("SELECT id, author FROM robot")), code)
 
 

@@ -5,7 +5,7 @@ Only the hash of a publication is written into its row when that is there, and m
 from __future__ import annotations
 
 APPLICATION = 0x43524F42
-VERSION = 2
+VERSION = 3
 
 SCHEMA = """
 CREATE TABLE source (sha256 TEXT PRIMARY KEY, bytes BLOB NOT NULL) WITHOUT ROWID;
@@ -59,4 +59,14 @@ CREATE TABLE standing (publication INTEGER NOT NULL REFERENCES publication, robo
     won INTEGER NOT NULL, tied INTEGER NOT NULL, lost INTEGER NOT NULL, points TEXT NOT NULL,
     rating REAL NOT NULL, low REAL NOT NULL, high REAL NOT NULL, close INTEGER,
     PRIMARY KEY (publication, robot)) WITHOUT ROWID;
+"""
+# The tables that came last.
+LATER = ("handed", "code")
+SCHEMA += """
+-- a name that a robot has beside its id, and the folder from which it was taken, if any
+CREATE TABLE handed (number INTEGER PRIMARY KEY, folder TEXT NOT NULL, robot TEXT NOT NULL REFERENCES robot,
+    name TEXT NOT NULL, publication INTEGER NOT NULL);
+-- what a source compiles to by a program: the hash of its code without names, by which copies are found
+CREATE TABLE code (sha256 TEXT NOT NULL REFERENCES source, profile INTEGER NOT NULL, program TEXT NOT NULL,
+    hash TEXT NOT NULL, publication INTEGER NOT NULL, PRIMARY KEY (sha256, profile, program)) WITHOUT ROWID;
 """

@@ -5,10 +5,10 @@ from __future__ import annotations
 import contextlib
 import hashlib
 import os
-import tempfile
 from typing import Iterable
 
 from tools.faults import unwritable
+from tools.output import replaced
 
 from .entries import source
 from .store import Store
@@ -35,17 +35,3 @@ def is_whole(path: str, sha256: str) -> bool:
     with contextlib.suppress(OSError), open(path, "rb") as file:
         return hashlib.file_digest(file, "sha256").hexdigest() == sha256
     return False
-
-
-def replaced(path: str, text: bytes) -> None:
-    """Writes a file in one piece: whoever opens it has all of it, or what was there before."""
-    file, begun = tempfile.mkstemp(dir=os.path.dirname(path), prefix=".")
-    try:
-        with open(file, "wb") as writing:
-            writing.write(text)
-        os.chmod(begun, 0o644)
-        os.replace(begun, path)
-    except BaseException:
-        with contextlib.suppress(OSError):
-            os.unlink(begun)
-        raise

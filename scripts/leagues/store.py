@@ -16,7 +16,7 @@ from urllib.parse import quote
 
 from tools.faults import FILE, Fault, unwritable
 
-from .older import BEFORE, renew
+from .older import FIRST, renew
 from .schema import APPLICATION, SCHEMA, VERSION
 
 NAME = "league.db"
@@ -95,7 +95,7 @@ def filled(path: str, tables: str = SCHEMA) -> Iterator[sqlite3.Connection]:
     with told(path), contextlib.closing(sqlite3.connect(path, isolation_level=None)) as database:
         database.execute("PRAGMA journal_mode = WAL")
         database.execute("PRAGMA foreign_keys = ON")
-        version = VERSION if tables == SCHEMA else BEFORE
+        version = VERSION if tables == SCHEMA else FIRST
         marks = f"PRAGMA application_id = {APPLICATION}; PRAGMA user_version = {version};"
         database.executescript(f"BEGIN; {tables} {marks} COMMIT")
         yield database
@@ -129,7 +129,7 @@ def connected(path: str) -> sqlite3.Connection:
 
 
 def renewed(database: sqlite3.Connection, path: str, may_write: bool) -> sqlite3.Connection:
-    """A database of this version: one of the version before becomes it, if need be a copy of it in memory."""
+    """A database of this version: one of an earlier version becomes it, if need be a copy of it in memory."""
     version = database.execute("PRAGMA user_version").fetchone()[0]
     if version == VERSION:
         return database

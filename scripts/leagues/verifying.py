@@ -11,7 +11,7 @@ from itertools import zip_longest
 from typing import Iterator
 
 from tools.faults import FAULTY, Fault
-from tools.output import say, show
+from tools.output import replaced, say, show
 from tools.signals import watch
 from tournaments import seats
 from tournaments.playing import Player
@@ -22,7 +22,7 @@ from tournaments.records import Match, Record, Series
 from tournaments.robots import Robot, private
 from tournaments.settings import Settings
 
-from . import archives, publications, tables
+from . import archives, likeness, publications, tables
 from .archives import SOURCES
 from .completeness import Finding, beyond, lacking
 from .consistency import copies, inconsistent, last_table
@@ -32,7 +32,6 @@ from .publications import final
 from .results import Results, ended
 from .schedules import Schedule
 from .seasons import Season, field, seasons
-from .sources import replaced
 from .standings import Standing, standings
 from .store import Store
 
@@ -166,7 +165,7 @@ def record(store: Store, run: Run) -> Record:
 
 
 def replayed(store: Store, found: Program, given: argparse.Namespace, runs: list[Run]) -> Iterator[str]:
-    """The matches of these runs that end otherwise now."""
+    """The matches of these runs that end otherwise now, and the sources that compile to something else."""
     records = [record(store, run) for run in runs]
     by_series = {(it.robots, it.series): run for it, run in zip(records, runs)}
     for by in sorted({it.settings.program for it in records} - {found.sha256}):
@@ -176,6 +175,7 @@ def replayed(store: Store, found: Program, given: argparse.Namespace, runs: list
     with private() as folder, watch() as stop:
         for sha256, source in store.rows("SELECT sha256, bytes FROM source"):
             replaced(os.path.join(folder, sha256), source)
+        yield from likeness.otherwise(store, found, folder)
 
         def glance() -> None:
             stop.check()

@@ -7,6 +7,7 @@ import os
 import re
 from dataclasses import replace
 from typing import Any
+from urllib.parse import urlsplit
 
 from sites.addresses import page as address
 from tools.faults import Fault
@@ -19,7 +20,7 @@ from .rules import FOURS, GAUNTLET, LADDER, PAIRS, SIZES, THREES, Rules
 MODE = rf"({PAIRS}|{THREES}|{FOURS}|{LADDER})|({SIZES}):(.*)|({GAUNTLET}):({ID.pattern})"
 ANCHOR = rf"({ID.pattern})=(-?[0-9]{{1,4}})"
 MODES = "pairs, threes, fours, sizes:A,B,C, ladder, gauntlet:ROBOT"
-ALL, SURE = "all", "sure"
+ALL, SURE, AUTHOR = "all", "sure", "author"
 SHOWN, HIDDEN = "shown", "hidden"
 DIVISIONS_MAX = 100
 CORRECTED = (ENTRY, BEGIN, END)
@@ -118,6 +119,14 @@ def text(said: str) -> str:
     return said
 
 
+def outside(said: str) -> str:
+    """Reads the address of a ladder, which may have a path."""
+    parts = urlsplit(text(said))
+    if parts.scheme not in ("http", "https") or not parts.hostname or parts.query or parts.fragment or parts.username:
+        raise argparse.ArgumentTypeError(f"{said!r} is no address as https://host/path")
+    return said.rstrip("/")
+
+
 def of_playing(it: argparse.ArgumentParser) -> None:
     """The words of what plays."""
     of_jobs(it)
@@ -147,6 +156,7 @@ class Words:
         self._entries()
         self._playing()
         self._showing()
+        self._serving()
 
     def parse(self, arguments: list[str]) -> argparse.Namespace:
         """Reads the words. Options of a command and its other words may stand in any order."""
@@ -159,7 +169,7 @@ class Words:
     def _command(self, name: str, does: str) -> Parser:
         said = does[0].upper() + does[1:] + "."
         it = self._commands.add_parser(name, help=does, description=said, allow_abbrev=False)
-        if name != "verify":
+        if name not in ("verify", "send"):
             it.add_argument("league", metavar="LEAGUE", help="the league's folder")
         return it
 
@@ -266,3 +276,39 @@ class Words:
         it.add_argument("number", metavar="N", nargs="?", type=within(1, 10**9),
                         help="how many matches, drawn by chance (default 100)")
         it.add_argument("archive", metavar="ARCHIVE", help="an archive that `publish` wrote")
+
+    def _serving(self) -> None:
+        """The open ladder."""
+        it = self._command("serve", "lets authors hand in by a web page, plays, and shows the table")
+        it.add_argument("--address", metavar="ADDRESS", type=text, help="the address to listen at (default: this machine alone)")
+        it.add_argument("--public", action="store_true", help="listen at all addresses")
+        it.add_argument("--port", metavar="PORT", type=within(0, 65_535), default=8080, help="the port; 0 for any (default 8080)")
+        it.add_argument("--url", metavar="URL", type=outside, help="the address by which readers reach it, as https://host/path, if a proxy is before it")
+        it.add_argument("--title", metavar="TEXT", help="the title of its pages (default: the league's folder)")
+        of_jobs(it)
+        of_program(it)
+        it = self._command("invite", "makes links by which authors join the open ladder")
+        it.add_argument("--author", metavar="NAME", default="", help="the author's name; one who is there gets a new link (default: a number)")
+        it.add_argument("--count", metavar="N", type=within(1, 10_000), help="make N authors (default 1)")
+        it.add_argument("--group", metavar="NAME", type=text, default="", help="the name of their group")
+        it.add_argument("--withdraw", action="store_true", help="withdraw the link of this author")
+        it.add_argument("--url", metavar="URL", type=outside, default="http://127.0.0.1:8080", help="the ladder's address, with which the links begin (default http://127.0.0.1:8080)")
+        self._terms(self._command("terms", "says the terms of the open ladder, and changes those that are given"))
+        it = self._command("send", "hands a robot in to an open ladder")
+        it.add_argument("--id", metavar="ID", help="the robot's id (default: the file's name without .r)")
+        it.add_argument("url", metavar="URL", help="the author's link")
+        it.add_argument("robot", metavar="ROBOT", help="the source file")
+
+    def _terms(self, it: Parser) -> None:
+        """The terms of a hand-in."""
+        for name, most, about in (
+                ("robots", 1000, "most robots of an author (default 3)"),
+                ("versions", 10_000, "most versions that an author hands in within an hour (default 20)"),
+                ("size", 65_536, "most bytes of a source (default 65536)"), ("grace", 366, "days of grace after the last day (default 0)"),
+                ("sign-up", 100_000, "how many authors there may be until nobody can sign up any more (default 0)"),
+                ("floor", 1_000_000, "megabytes of the disk that stay free (default 100)")):
+            it.add_argument(f"--{name}", metavar="N", type=within(0, most), help=about)
+        it.add_argument("--opens", metavar="YYYY-MM-DD", type=day, help="the first day of the hand-in")
+        it.add_argument("--closes", metavar="YYYY-MM-DD", type=day, help="the last day of the hand-in")
+        it.add_argument("--names", metavar="shown|hidden", choices=(SHOWN, HIDDEN), help="say the names of authors, or numbers (default shown)")
+        it.add_argument("--readers", metavar="all|author", choices=(ALL, AUTHOR), help="who may read a robot's source (default author)")

@@ -11,7 +11,7 @@ from .names import UNSEEN, named, shown
 
 SPECIAL = re.compile(f"[&<>\"']|{UNSEEN.pattern}")
 # Elements that have no end tag.
-VOID = {"link", "meta", "br", "hr", "col"}
+VOID = {"link", "meta", "br", "hr", "col", "input"}
 
 
 class Markup(str):

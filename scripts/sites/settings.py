@@ -46,16 +46,16 @@ def program(lookup: Lookup) -> Markup:
 
 
 def archive(lookup: Lookup) -> Markup:
-    """The archive, and how it is checked."""
+    """The archive, and how it is checked; also while it is hidden the hash by which any change is seen."""
     facts = lookup.facts
+    chained = [("Hash of the publication", tag("code", facts.hash))] if facts.hash else []
     if not facts.archive:
-        return section("Archive", sentence(facts.hidden)) if facts.hidden else Markup("")
+        return section("Archive", sentence(facts.hidden), listed(chained)) if facts.hidden else Markup("")
     with open(facts.archive, "rb") as file:
         digest = hashlib.file_digest(file, "sha256").hexdigest()
     name, size = os.path.basename(facts.archive), counted(os.path.getsize(facts.archive), "byte")
     link = tag("a", name, href=places.archive_file(facts.archive), download=name)
-    rows = [("File", joined(link, f" ({size})")), ("SHA-256", tag("code", digest)),
-            ("Hash of the publication", tag("code", facts.hash) if facts.hash else "")]
+    rows = [("File", joined(link, f" ({size})")), ("SHA-256", tag("code", digest)), *chained]
     said = sentence("All sources, the settings and all results, in one file.")
     return section("Archive", said, listed(rows), *verify(facts.verify))
 

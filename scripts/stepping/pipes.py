@@ -2,12 +2,14 @@
 
 from __future__ import annotations
 
+import contextlib
 import signal
-import subprocess
 import tempfile
+from subprocess import PIPE
 from types import TracebackType
 
 from tools.faults import Ended, Fault
+from tools.programs import started
 from tools.signals import Stopped
 
 from .moments import Moment, Row, moment_of
@@ -24,16 +26,17 @@ class Debugger:
     """A running `crobots-debug`."""
 
     def __init__(self, path: str, words: list[str]) -> None:
-        self._said = tempfile.TemporaryFile()
-        self._child = subprocess.Popen([path, *words], stdin=subprocess.PIPE, stdout=subprocess.PIPE, stderr=self._said)
+        self._words = [path, *words]
 
     def __enter__(self) -> Debugger:
+        with contextlib.ExitStack() as opened:
+            self._said = opened.enter_context(tempfile.TemporaryFile())
+            self._child = opened.enter_context(started(self._words, PIPE, PIPE, self._said))
+            self._opened = opened.pop_all()
         return self
 
     def __exit__(self, _: type[BaseException] | None, __: BaseException | None, ___: TracebackType | None) -> None:
-        self._child.kill()
-        self._child.communicate()
-        self._said.close()
+        self._opened.close()
 
     def rows(self, question: str) -> list[Row]:
         """The rows of the answer to a question."""

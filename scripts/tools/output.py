@@ -6,6 +6,7 @@ from __future__ import annotations
 
 import contextlib
 import os
+import tempfile
 from typing import Iterable
 
 from .faults import FILE, Fault, plain
@@ -50,6 +51,20 @@ def show(pieces: Iterable[str]) -> None:
         raise
     except OSError as why:
         raise Fault(f"cannot write: {why.strerror}", FILE) from why
+
+
+def replaced(path: str, text: bytes, mode: int = 0o644) -> None:
+    """Writes a file in one piece: whoever opens it has all of it, or what was there before."""
+    file, begun = tempfile.mkstemp(dir=os.path.dirname(path) or ".", prefix=".")
+    try:
+        with open(file, "wb") as writing:
+            writing.write(text)
+        os.chmod(begun, mode)
+        os.replace(begun, path)
+    except BaseException:
+        with contextlib.suppress(OSError):
+            os.unlink(begun)
+        raise
 
 
 def written_over(path: str, files: Iterable[str]) -> str:

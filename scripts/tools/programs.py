@@ -7,6 +7,7 @@ import os
 import shutil
 import subprocess
 import tempfile
+from subprocess import DEVNULL, PIPE
 from typing import IO, Callable, Iterable, Iterator
 
 from .faults import Fault, unreadable
@@ -49,16 +50,30 @@ def lines(path: str, words: Iterable[str], judge: Judge, errors: str = "surrogat
     """The lines that a program writes with these words; after the last one its end is judged.
 
     It ends when they are needed no more."""
-    with tempfile.TemporaryFile() as said:
-        # a signal that comes while it is started ends it, too
+    with tempfile.TemporaryFile() as said, started([path, *words], DEVNULL, PIPE, said) as child:
+        yield written(child, said, judge, errors)
+
+
+@contextlib.contextmanager
+def started(words: list[str], stdin: int, stdout: int, stderr: int | IO[bytes]) -> Iterator[subprocess.Popen[bytes]]:
+    """A program that ends when it is needed no more, and by a signal that comes while it is started, too."""
+    child = None
+    try:
         with watch() as heard:
-            child = subprocess.Popen([path, *words], stdin=subprocess.DEVNULL, stdout=subprocess.PIPE, stderr=said)
-        with child:
-            try:
-                heard.check()
-                yield written(child, said, judge, errors)
-            finally:
+            child = subprocess.Popen(words, stdin=stdin, stdout=stdout, stderr=stderr)
+        heard.check()
+        yield child
+    finally:
+        if child:
+            with contextlib.suppress(BrokenPipeError), child:
                 child.kill()
+
+
+def complaint(words: list[str]) -> tuple[int, str]:
+    """The status of a program that runs to its end, and what it says on standard error."""
+    with started(words, DEVNULL, DEVNULL, PIPE) as child:
+        said = child.communicate()[1]
+        return child.returncode, os.fsdecode(said)
 
 
 def written(child: subprocess.Popen[bytes], said: IO[bytes], judge: Judge, errors: str) -> Iterator[str]:

@@ -1,19 +1,19 @@
-"""Intervals of means: of independent numbers in classes of their own, by Student's distribution."""
+"""Intervals of means: of independent numbers in classes, by Student's distribution."""
 
 from __future__ import annotations
 
+import math
 import statistics
 from dataclasses import dataclass
 from typing import Sequence
 
 NORMAL = 1.959964
-# The quantiles of one and two degrees of freedom, for which the series is no use.
-FEW = {1: 12.7062, 2: 4.3027}
+LEVEL = 0.95
 
 
 @dataclass(frozen=True)
 class Mean:
-    """A mean with its 95 % interval."""
+    """A mean with its interval."""
 
     value: float
     low: float
@@ -25,24 +25,42 @@ class Mean:
         return self.low > 0 or self.high < 0
 
 
-def mean(classes: Sequence[Sequence[float]]) -> Mean:
-    """The mean of classes of equal weight, each with two numbers or more.
+def mean(classes: Sequence[Sequence[float]], weights: Sequence[float] = (), unseen: float = 0.0, level: float = LEVEL) -> Mean:
+    """The mean of classes, each with two numbers or more, by their weights (all alike if there are none), with an interval of this level.
 
-    The degrees of freedom of several classes are those of Welch and Satterthwaite."""
-    value = statistics.fmean(map(statistics.fmean, classes))
-    variances = [statistics.variance(it) / len(it) for it in classes]
-    variance = sum(variances)
+    The degrees of freedom of several classes are those of Welch and Satterthwaite. Few numbers that differ say little of how many
+    there are. So the variance may be that of the numbers and of two more that weren't seen: one that is so much more, and one that
+    is as much less."""
+    parts = [it / sum(weights) for it in weights] or [1 / len(classes)] * len(classes)
+    value = sum(part * statistics.fmean(it) for part, it in zip(parts, classes))
+    variances = [part**2 * statistics.variance(it) / len(it) for part, it in zip(parts, classes)]
+    counted = 1 / sum(part**2 / len(it) for part, it in zip(parts, classes))
+    upsets = 2 * (unseen / counted) ** 2
+    variance = sum(variances) + upsets
     if not variance:
         return Mean(value, value, value)
-    freedom = variance**2 / sum(part**2 / (len(it) - 1) for it, part in zip(classes, variances))
-    margin = quantile(freedom) * variance**0.5 / len(classes)
+    freedom = variance**2 / (sum(it**2 / (len(them) - 1) for it, them in zip(variances, classes)) + upsets**2 / counted)
+    margin = quantile(freedom, level) * math.sqrt(variance)
     return Mean(value, value - margin, value + margin)
 
 
-def quantile(freedom: float) -> float:
-    """Student's quantile of 97.5 %, by its series in 1 / freedom from three degrees on; below that of fewer, whole ones."""
+def together(parts: Sequence[tuple[float, int]]) -> float:
+    """The degrees of freedom of a sum of variances, of which each has its own: Satterthwaite's, without the bias that variances of few
+    degrees have. They are 1 at least, and at most as many as all have."""
+    most, whole = max(1, sum(freedom for _, freedom in parts)), sum(variance for variance, _ in parts)
+    if not whole:
+        return most
+    return min(max(1.0, whole**2 / sum(variance**2 / (freedom + 2) for variance, freedom in parts) - 2), most)
+
+
+def quantile(freedom: float, level: float = LEVEL) -> float:
+    """Student's quantile, beyond which there is half of what is outside of an interval of this level: by its series in 1 / freedom
+    from three degrees on; below that of fewer, whole ones, which have formulas."""
+    if freedom < 2:
+        return math.tan(math.pi * level / 2)
     if freedom < 3:
-        return FEW[int(freedom)]
-    z, v = NORMAL, 4 * freedom
+        return level * math.sqrt(2 / (1 - level**2))
+    z, v = NORMAL if level == LEVEL else statistics.NormalDist().inv_cdf((1 + level) / 2), 4 * freedom
     return (z + (z**3 + z) / v + (5 * z**5 + 16 * z**3 + 3 * z) / (6 * v**2)
-            + (3 * z**7 + 19 * z**5 + 17 * z**3 - 15 * z) / (6 * v**3))
+            + (3 * z**7 + 19 * z**5 + 17 * z**3 - 15 * z) / (6 * v**3)
+            + (79 * z**9 + 776 * z**7 + 1482 * z**5 - 1920 * z**3 - 945 * z) / (360 * v**4))

@@ -45,8 +45,8 @@ class Rows:
     """What is known of a part's robots: a row for each, with a number for each other one, and 0 where two haven't met.
 
     `met` has 1 for two that have met. `shares` are capped. `each` is what one match of a pair is of its share; `variances` and
-    `thirds` are those of pairs' shares, as far as matches of two show them. `spreads` are the matches of more robots with each
-    one, and `freedom` says how many matches, less the means that are taken of them, its variance comes from."""
+    `thirds` are those of pairs' shares, as far as matches of two show them, and `freedom` says by how many of these matches, less the
+    means that are taken of them. `spreads` are the matches of more robots with each one."""
 
     many: int
     met: Matrix = field(init=False)
@@ -76,7 +76,6 @@ class Rows:
         """Adds matches of more robots."""
         for robot in it.group:
             self.spreads[robot].append(it)
-            self.freedom[robot] += it.freedom
 
     def scores(self) -> list[float]:
         """The sum of each robot's shares."""

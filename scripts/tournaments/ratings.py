@@ -13,7 +13,7 @@ from operator import mul
 from typing import Iterator, NamedTuple, Sequence
 
 from .evidence import Evidence
-from .intervals import NORMAL, quantile
+from .intervals import NORMAL, quantile, together
 from .matrices import Matrix, Vector, product
 from .parts import Rows, parts, rows
 from .strengths import REAL, TIES, Fit, chances, fitted
@@ -56,21 +56,22 @@ def ratings(those: Evidence, anchor: int | None = None) -> list[Rating]:
 class Own(NamedTuple):
     """What a robot's own matches do to its strength, if chance were a straight line of strengths: the variance and the third moment
     of what was seen, and what unseen upsets add to both, on the side on which they are thought of; `among_all` is the part that its
-    matches have in the variance by all matches."""
+    matches have in the variance by all matches, and `freedom` says how well the variance is known."""
 
     seen: float
     third: float
     unseen: float
     more: float
     among_all: float
+    freedom: float
 
-    def moved(self, side: int, quantile: float) -> float:
+    def moved(self, side: int) -> float:
         """How far they may have moved it on a side."""
         variance = self.seen + self.unseen
         if not variance:
             return 0.0
         skewness = (self.third + side * self.more) / variance
-        return max(0.0, REAL * (quantile * math.sqrt(variance) + side * SKEWED * skewness))
+        return max(0.0, REAL * (quantile(self.freedom) * math.sqrt(variance) + side * SKEWED * skewness))
 
 
 class Part:
@@ -93,22 +94,25 @@ class Part:
         weights, value = self._fit.inverse[robot], self._fit.strengths[robot]
         own = self._own(weights, robot)
         others = NORMAL * REAL * math.sqrt(max(0.0, product(weights, self._with_all[robot]) - own.among_all))
-        by = quantile(max(1, self._rows.freedom[robot]))
-        low, high = (value + side * math.hypot(self._bent(robot, side * own.moved(side, by)), others) for side in (-1, 1))
+        low, high = (value + side * math.hypot(self._bent(robot, side * own.moved(side)), others) for side in (-1, 1))
         return Rating(SCALE * value, SCALE * low, SCALE * high)
 
     def _own(self, weights: Vector, robot: int) -> Own:
-        """What a robot's own matches do."""
+        """What a robot's own matches do.
+
+        How well their variance is known is measured for all pairs as one, which is enough, and for each group of more robots by itself:
+        there one group may have nearly all of it."""
         those = self._rows
         far = [weights[robot] - it for it in weights]
         squares = [it * it for it in far]
         spreads = [it.moments(weights) for it in those.spreads[robot]]
         more = sum(variance for variance, _ in spreads)
-        seen = product(squares, those.variances[robot]) + more
+        of_pairs = product(squares, those.variances[robot])
+        freedom = together([(of_pairs, those.freedom[robot]), *((it, one.freedom) for (it, _), one in zip(spreads, those.spreads[robot]))])
         third = product([*map(mul, squares, far)], those.thirds[robot]) + sum(it for _, it in spreads)
         upsets = [those.size(robot) / 2 * abs(it) * each for it, each in zip(far, those.each[robot])]
         unseen = [UNSEEN / those.opponents(robot) * it * it for it in upsets]
-        return Own(seen, third, sum(unseen), product(unseen, upsets), product(squares, self._variances[robot]) + more)
+        return Own(of_pairs + more, third, sum(unseen), product(unseen, upsets), product(squares, self._variances[robot]) + more, freedom)
 
     def _bent(self, robot: int, moved: float) -> float:
         """How far a robot's strength moves if its score does as it would for this way on a straight line.

@@ -9,7 +9,6 @@ import contextlib
 import hashlib
 import os
 import shutil
-import subprocess
 import sys
 import tempfile
 from collections import Counter
@@ -18,6 +17,7 @@ from typing import Iterable, Iterator
 
 from tools.faults import FAULTY, FILE, PROGRAM, Fault, plain, unreadable, unwritable
 from tools.output import tell
+from tools.programs import complaint
 from tools.signals import watch
 
 from .programs import Program
@@ -67,6 +67,11 @@ def copy(path: str, folder: str) -> Robot:
             source = file.read()
     except OSError as why:
         unreadable(path, why)
+    return laid(path, source, folder)
+
+
+def laid(path: str, source: bytes, folder: str) -> Robot:
+    """A robot with these bytes, which are put into a folder under their hash."""
     it = Robot(path, hashlib.sha256(source).hexdigest())
     place = os.path.join(folder, it.sha256)
     try:
@@ -108,11 +113,10 @@ def diagnosed(crobots: str, profile: int, robot: Robot, folder: str) -> int:
     """Compiles a robot's copy, and passes the program's diagnostic on under the robot's name; answers the program's status."""
     words = [crobots, "-c", f"-p{profile}", "--", os.path.join(folder, robot.sha256)]
     try:
-        ran = subprocess.run(words, stdin=subprocess.DEVNULL, stdout=subprocess.DEVNULL, stderr=subprocess.PIPE, check=False)
+        status, said = complaint(words)
     except OSError as why:
         raise Fault(f"{crobots} can't be run: {why.strerror}", PROGRAM) from why
-    if ran.returncode and not ran.stderr:
-        said = f"{crobots} -c -p{profile} -- {robot.path} ended with status {ran.returncode} and said nothing"
-        raise Fault(said, PROGRAM)
-    tell(os.fsdecode(ran.stderr).replace(robot.sha256, plain(os.path.basename(robot.path))))
-    return ran.returncode
+    if status and not said:
+        raise Fault(f"{crobots} -c -p{profile} -- {robot.path} ended with status {status} and said nothing", PROGRAM)
+    tell(said.replace(robot.sha256, plain(os.path.basename(robot.path))))
+    return status

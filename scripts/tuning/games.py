@@ -16,13 +16,13 @@ from tournaments.playing import Player
 from tournaments.programs import Program
 from tournaments.progress import Progress
 from tournaments.records import Record, Series
-from tournaments.robots import Robot
+from tournaments.robots import Robot, laid
 from tournaments.seats import keys, seatings
 from tournaments.sessions import missing, play
 from tournaments.settings import Settings
 
 from .marks import Number, changed
-from .opponents import Opponent, laid
+from .opponents import Opponent
 from .scoring import Scores
 
 # In how many parts the matches of a round are cut for each job.

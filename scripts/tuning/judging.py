@@ -8,13 +8,13 @@ from dataclasses import dataclass
 from typing import Iterator, Sequence
 
 from tools.output import say
+from tournaments.intervals import Mean
 from tournaments.versions import CHALLENGER
 
 from .evolution import Evolution, Point
 from .games import Games, Starts, Stretch, matches_of
 from .marks import Number
 from .opponents import Opponent
-from .scoring import Estimate
 from .sweeps import MISTAKEN, Values
 
 # What stands for the robot in the starts of the search: those of the judgement are others.
@@ -33,7 +33,7 @@ class Judged:
     values: Values
     points: float
     before: float
-    change: Estimate
+    change: Mean
     is_better: bool
 
 

@@ -3,14 +3,12 @@
 from __future__ import annotations
 
 import argparse
-import contextlib
 import os
-import tempfile
 from functools import partial
 from typing import Iterable, Sequence
 
-from tools.faults import Fault, unreadable, unwritable
-from tools.output import say, show
+from tools.faults import Fault, unwritable
+from tools.output import replaced, say, show
 from tools.signals import Stopped, stopping
 from tournaments import plans, programs, robots
 from tournaments.journals import Journal, journal
@@ -120,36 +118,15 @@ def tune(games: Games, others: Sequence[Opponent] | None) -> None:
 
 
 def write(path: str, text: bytes) -> None:
-    """Writes a file in one piece: whoever opens it has all of it, or what was there before."""
-    if os.path.exists(path) and not os.path.isfile(path):
-        try:
-            with open(path, "wb") as device:
-                device.write(text)
-        except OSError as why:
-            unwritable(path, why)
-        return
+    """Writes a file in one piece, with the mode of the one that was there; a device as it is."""
     try:
-        file, begun = tempfile.mkstemp(dir=os.path.dirname(path) or ".", prefix=".")
-        try:
-            with open(file, "wb") as writing:
-                writing.write(text)
-            os.chmod(begun, os.stat(path).st_mode & 0o777 if os.path.exists(path) else 0o644)
-            os.replace(begun, path)
-        except BaseException:
-            with contextlib.suppress(OSError):
-                os.unlink(begun)
-            raise
+        if not os.path.exists(path) or os.path.isfile(path):
+            replaced(path, text, os.stat(path).st_mode & 0o777 if os.path.exists(path) else 0o644)
+            return
+        with open(path, "wb") as device:
+            device.write(text)
     except OSError as why:
         unwritable(path, why)
-
-
-def is_same(path: str, source: bytes) -> bool:
-    """Whether a file still has the bytes that were read."""
-    try:
-        with open(path, "rb") as file:
-            return file.read() == source
-    except OSError as why:
-        unreadable(path, why)
 
 
 def script(name: str, arguments: Iterable[str]) -> None:
@@ -176,5 +153,3 @@ def script(name: str, arguments: Iterable[str]) -> None:
             raise Stopped(why.number, f"stopped: {done(games.progress)}{kept_there}") from why
         finally:
             games.progress.clear()
-
-

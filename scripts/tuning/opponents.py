@@ -2,7 +2,6 @@
 
 from __future__ import annotations
 
-import hashlib
 import os
 from dataclasses import dataclass
 from fractions import Fraction
@@ -12,7 +11,7 @@ from leagues.entries import source
 from leagues.seasons import season
 from leagues.showing import rated
 from leagues.store import opened
-from tools.faults import Fault, unreadable, unwritable
+from tools.faults import Fault, unreadable
 from tournaments import robots
 from tournaments.robots import Robot
 
@@ -81,16 +80,4 @@ def best(league: League, folder: str) -> list[Robot]:
         sources = [(it.robot, source(store, it.sha256)) for it in rows]
     if not sources:
         raise Fault(f"the league {league.folder} has no table yet")
-    return [laid(name, text, folder) for name, text in sources]
-
-
-def laid(name: str, text: bytes, folder: str) -> Robot:
-    """A robot whose bytes are put into a folder, under their hash."""
-    it = Robot(name, hashlib.sha256(text).hexdigest())
-    path = os.path.join(folder, it.sha256)
-    try:
-        with open(path, "wb") as file:
-            file.write(text)
-    except OSError as why:
-        unwritable(path, why)
-    return it
+    return [robots.laid(name, text, folder) for name, text in sources]

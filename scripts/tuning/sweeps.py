@@ -8,8 +8,9 @@ from dataclasses import dataclass
 from itertools import product
 from typing import Iterator, Sequence
 
+from tournaments.intervals import Mean
+
 from .games import Games, Starts, Stretch
-from .scoring import Estimate
 
 # How often a sweep of a number that changes nothing may call any of its values better or worse.
 MISTAKEN = 0.01
@@ -29,7 +30,7 @@ class Row:
     values: Values
     points: float
     matches: int
-    change: Estimate
+    change: Mean
     verdict: str
 
 
@@ -73,7 +74,7 @@ def row(games: Games, values: Values, level: float) -> Row:
     matches = sum(len(games.scores.of[mine, other]) for other in weights)
     points = games.scores.mean(mine, weights)
     if values == games.today:
-        return Row(values, points, matches, Estimate(0, 0, 0), "today's")
+        return Row(values, points, matches, Mean(0, 0, 0), "today's")
     sure = games.scores.change(mine, today, weights, level)
     verdict = "better" if sure.low > 0 else "worse" if sure.high < 0 else NOTHING
     return Row(values, points, matches, games.scores.change(mine, today, weights), verdict)

@@ -153,6 +153,7 @@ def lay(folder: str, module: str) -> None:
     lay_editor(os.path.join(folder, "codemirror"))
     manuals = [Page(text_of(TOP, "man", name)) for name in MANUALS]
     put(folder, "index.html", Template(text_of(WEB, "index.html")).substitute(policy=policy(), language=panel(manuals[0], WEB)))
+    put(folder, "embed.html", Template(text_of(WEB, "embed.html")).substitute(policy=policy()))
     put(folder, "manual.html", Template(text_of(WEB, "manual.html")).substitute(text=whole(manuals)))
     put(folder, "about.html", about(module))
     os.makedirs(os.path.join(folder, "pages"))

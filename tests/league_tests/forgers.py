@@ -15,9 +15,9 @@ KEYS = {
     "robot": ("id",), "entry": ("number",), "season": ("number",), "ruling": ("number",), "ending": ("season",),
     "correction": ("number",), "member": ("season", "robot"), "worker": ("number",), "seating": ("number",),
     "battle": ("seating", "number"), "removal": ("number",), "removed": ("removal", "seating", "number"),
-    "publication": ("number",), "standing": ("publication", "robot"),
+    "publication": ("number",), "standing": ("publication", "robot"), "handed": ("number",), "code": ("sha256", "profile", "program"),
 }
-TEXTS = {"id", "robot"}
+TEXTS = {"id", "robot", "sha256", "program"}
 Row = dict[str, str]
 
 
@@ -77,7 +77,7 @@ class Archive:
 
     def _rows(self, table: str) -> list[tuple[int, list[str], Any]]:
         """The rows of a table with the publication that shows each first, and with their cells as they are hashed."""
-        rows = self.tables[table]
+        rows = self.tables.get(table, [])
         if table == "publication":
             return [(number(it["number"]), [it[name] for name in self.columns[table] if name != "hash"], it) for it in rows]
         if table == "removed":

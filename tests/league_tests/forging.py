@@ -20,7 +20,7 @@ from leagues.standings import Standing, standings
 from tools.faults import Fault
 from tournaments.programs import program
 
-from .base import Base, write
+from .base import Base, read, write
 from .forgers import Archive, Row
 
 # By what a change is seen of somebody who works out the chain anew: by the rules alone, or only by an older archive or a
@@ -52,6 +52,8 @@ SEEN = {
     "standing": {"publication": SINCE, "robot": SINCE, "sha256": SINCE, "division": SINCE, "rank": SINCE,
                  "played": RULES, "won": RULES, "tied": RULES, "lost": RULES, "points": SINCE, "rating": SINCE,
                  "low": SINCE, "high": SINCE, "close": SINCE},
+    "handed": {"number": RULES, "folder": SINCE, "robot": SINCE, "name": SINCE, "publication": MARK},
+    "code": {"sha256": RULES, "profile": RULES, "program": SINCE, "hash": RULES, "publication": MARK},
 }
 ROWS_TRIED = 2
 ENDED = ("SELECT hashes, seed, seating.cycles, profile, program, battle.number, battle.cycles, damage1, damage2, damage3, "
@@ -76,7 +78,9 @@ class Forging(Base):
         self._does("play", "-j2", "--quiet", "--day=2026-03-01")
         self._published("2026-03-02")
         self._does("rules", "-m6")
-        self._does("add", "d.r", "--day=2026-03-05")
+        os.makedirs(self.at("inbox/d"))
+        write(self.at("inbox/d/tank.r"), read(self.at("d.r")))
+        self._does("take-in", "inbox", "--day=2026-03-05")
         self._does("correct", "entry", "--to=2026-03-04", "--why=a day too late", "--day=2026-03-05")
         self._does("add", "r5.r", "--day=2026-03-05")
         self._does("correct", "entry", "--undo", "--why=not asked for", "--day=2026-03-05")
@@ -219,7 +223,7 @@ class Forging(Base):
                 forged = last.copy()
                 forged.tables[table].remove(row)
                 tried.append((forged, f"without {row}", row))
-            by = SINCE if table in ("member", "ruling", "correction", "removed", "publication", "standing") else RULES
+            by = SINCE if table in ("member", "ruling", "correction", "removed", "publication", "standing", "code") else RULES
             # of bytes that don't play any more nobody knows how far they were to be played
             if table == "battle":
                 tried = [it for it in tried if self._is_wanted(last, it[-1])]
@@ -235,7 +239,7 @@ class Forging(Base):
                 forged.tables[table].append(row | another(last, table))
                 tried.append((forged, f"with another {row}", row))
             by = {"publication": CHAIN}.get(table, RULES if table in (
-                "robot", "season", "ending", "worker", "seating", "battle", "removal") else SINCE)
+                "robot", "season", "ending", "worker", "seating", "battle", "removal", "code") else SINCE)
             wrong += self._judged(tried, table, by)
         return wrong
 
@@ -307,6 +311,17 @@ class Forging(Base):
                     wrong.append(f"{gone} matches that {robot} lost are missing, and verify says nothing of it")
                 if gone and not all(self._wrong(forged, *self._archives()[-2:])[1:]):
                     wrong.append(f"{gone} matches that {robot} lost are gone, and an older archive doesn't show it")
+        return wrong
+
+    def how_many_are_missing(self) -> list[str]:
+        """An archive that says that matches are missing, where none is, is told the numbers: of a season that ended, and of the last one."""
+        last, wrong = Archive(self._archives()[-1]), []
+        for table, said in (("ending", "one"), ("publication", "two")):
+            forged = last.copy()
+            forged.tables[table][-1]["missing"] = "3"
+            found = self._said(forged.linked())
+            if f"0 matches of season {said} are missing, and the archive says 3" not in found:
+                wrong.append(f"{table}.missing: {found}")
         return wrong
 
     def _fitted(self, forged: Archive, missing: bool) -> None:
@@ -421,5 +436,5 @@ def another(last: Archive, table: str) -> Row:
     return {
         "robot": {"id": "ghost"}, "season": {"number": "3", "name": "three"}, "ending": {"season": "2"},
         "member": {"robot": "d"}, "worker": {"number": "3", "name": "w3"}, "battle": {"number": "9"},
-        "removed": {"number": "9"}, "standing": {"robot": "r5"},
+        "removed": {"number": "9"}, "standing": {"robot": "r5"}, "code": {"profile": "2"},
     }.get(table, {"number": highest("number")} if "number" in last.columns[table] else {})

@@ -1,4 +1,4 @@
-"""Leagues and archives of the version before, which had no chain."""
+"""Leagues and archives of earlier versions: the first one had no chain, the second one no names and folders in it."""
 
 from __future__ import annotations
 
@@ -12,7 +12,8 @@ from unittest import mock
 
 from leagues import store
 
-from .base import Base, League
+from .base import IDLE, SHOOTER, Base, League, write
+from .forgers import Archive
 
 # The tables as that version made them.
 SCHEMA = """
@@ -53,6 +54,14 @@ OLD = {
     "standing": "SELECT publication * 2 - 1, robot, sha256, division, rank, played, won, tied, lost, points, rating, low, "
                 "high FROM now.standing",
 }
+# What the second version had instead of its last tables.
+SECOND = """
+DROP TABLE handed; DROP TABLE code;
+CREATE TABLE handed (number INTEGER PRIMARY KEY, folder TEXT NOT NULL, robot TEXT NOT NULL REFERENCES robot, name TEXT NOT NULL);
+CREATE TABLE code (sha256 TEXT NOT NULL, profile INTEGER NOT NULL, hash TEXT NOT NULL, PRIMARY KEY (sha256, profile)) WITHOUT ROWID;
+INSERT INTO code VALUES ('0', 1, '0');
+PRAGMA user_version = 2;
+"""
 
 
 class Older(Base):
@@ -84,7 +93,7 @@ class Older(Base):
         """All that was there is there, nothing is played again, and the next publication begins the chain."""
         it, table = self._made("old")
         before, wrong = it.rows("SELECT * FROM battle"), []
-        if it.run("table") != table or it.rows("PRAGMA user_version") != [(2,)] or it.missing():
+        if it.run("table") != table or it.rows("PRAGMA user_version") != [(3,)] or it.missing():
             wrong.append(f"the table is {it.run('table')}")
         if [row[:8] for row in it.rows("SELECT * FROM battle")] != before:
             wrong.append("the matches are others")
@@ -106,6 +115,43 @@ class Older(Base):
         it.run("publish", "old-site", "--day=2026-03-07", "--replays=0", "--sums=0")
         ran = self.ran("verify", "-j2", "--since", archive, self.at("old-site/archive/old-2026-03-07.zip"))
         return wrong + ([] if not ran.returncode else [f"the next archive: {ran.stdout}{ran.stderr}"])
+
+    def names_and_folders(self) -> list[str]:
+        """Those that the second version kept beside its chain are in it now, also of folders with signs that can't be shown; its archives
+        are verified, and what comes later is compared with them."""
+        it = League(self, "second", "-m2")
+        for folder, name, text in (("ann", "Tank one.r", SHOOTER), ("b\nb", "robot.r", IDLE)):
+            os.makedirs(self.at(f"second-in/{folder}"))
+            write(self.at(f"second-in/{folder}/{name}"), text)
+        it.run("take-in", self.at("second-in"), "--day=2026-03-02")
+        it.run("play", "-j2", "--day=2026-03-02")
+        kept = it.rows("SELECT number, robot, name FROM handed")
+        older = self._second(it, self._published(it, "2026-03-02"))
+        wrong = [] if it.run("take-in", self.at("second-in"), "--day=2026-03-03") == "0 joined, 0 changed, 2 are as they were\n" else ["they join again"]
+        if it.rows("SELECT number, robot, name FROM handed WHERE publication = 2") != kept or it.rows("PRAGMA user_version") != [(3,)]:
+            wrong.append(f"the names are {it.rows('SELECT * FROM handed')}")
+        now = self._published(it, "2026-03-04")
+        for words in ([older], [now], ["--since", older, now]):
+            if (ran := self.ran("verify", "--all", "-j2", *words)).returncode:
+                wrong.append(f"{words}: {ran.stdout}{ran.stderr}")
+        return wrong
+
+    def _published(self, it: League, day: str) -> str:
+        it.run("publish", self.at("second-site"), f"--day={day}", "--replays=0", "--sums=0")
+        return self.at(f"second-site/archive/second-{day}.zip")
+
+    def _second(self, it: League, path: str) -> str:
+        """Makes a league with one archive one of the second version; answers its archive."""
+        archive = Archive(path)
+        for table in ("handed", "code"):
+            del archive.tables[table]
+        archive.linked()
+        with closing(sqlite3.connect(os.path.join(it.folder, "league.db"), isolation_level=None)) as database:
+            rows = database.execute("SELECT number, replace(folder, '\\n', char(10)), robot, name FROM handed").fetchall()
+            database.executescript(SECOND)
+            database.executemany("INSERT INTO handed VALUES (?, ?, ?, ?)", rows)
+            database.execute("UPDATE publication SET hash = ?", (archive.tables["publication"][0]["hash"],))
+        return archive.write(self.at("second-older.zip"))
 
     def in_a_folder_that_cannot_be_written(self) -> list[str]:
         """It is read in a copy, and nothing can be added to that."""

@@ -22,6 +22,7 @@ from sites.publishing import publish
 from .reading import Element, dangling, files, read, rows
 
 Results = Iterator[tuple[str, bool]]
+HASH = "ef" * 32
 RULES = Rules(matches=2, cycles=300, program="ab" * 32)
 # How a match of two ends if the first one, the second one, or both survive.
 WINS, LOSES, TIES = "150:0:100", "165:100:0", "300:5:5"
@@ -77,7 +78,7 @@ def shown(store: Store, day: str, copied: Mapping[str, str] = {}) -> Facts:
     """What the site shows of the last season."""
     season = seasons.season(store)
     schedule, found = Schedule(seasons.field(store, season)), fought.Results(store, season.rules)
-    return facts.facts_of_league(store, schedule, found, standings(schedule, found), facts.Words("A league", day, "", "", "", {}, {**copied}))
+    return facts.facts_of_league(store, schedule, found, standings(schedule, found), facts.Words("A league", day, "", "", "", {}, {**copied}, HASH))
 
 
 def keep_table(store: Store, day: str, final: bool = False) -> None:
@@ -244,6 +245,8 @@ def hidden(folder: str) -> Results:
         b"main" in content(site, it) for it in files(site) if it != "site.js" and not it.endswith(".css") and not it.endswith(".html"))
     page = read(os.path.join(site, "robots", "a.html"))
     yield "why", "Sources and the archive are shown when the season ends." in page.text() and "main()" not in page.text()
+    settings = read(os.path.join(site, "settings.html"))
+    yield "the hash stands there while the archive is hidden", HASH in [it.text() for it in settings.all("code")]
     yield "no command line without sources", not [*page.all("pre")] and [*page.all("article")]
 
 

@@ -156,6 +156,11 @@ def a_pairs_data(folder: str) -> Results:
         ["hunter.r", "hunter.r"], ["_3cscript_3ealert_281_29_3c_2fscript_3e.r", made.SCRIPT]]
 
 
+def hash_of(path: str) -> str:
+    with open(path, "rb") as file:
+        return hashlib.file_digest(file, "sha256").hexdigest()
+
+
 def a_robot(folder: str) -> Results:
     """The page of a robot."""
     page = read(os.path.join(folder, "robots", "hunter.r.html"))
@@ -166,6 +171,8 @@ def a_robot(folder: str) -> Results:
     tables = {it.one("caption").text(): rows(it) for it in page.all("table")}
     versions = tables["Versions, the last one first"]
     yield "its versions", [row[0] for row in versions[1:]] == ["2026-11-10", "2026-10-01"]
+    found = [hash_of(os.path.join(folder, "robots", it.attributes["href"]))[:16] for it in sections["Versions"].all("a")]
+    yield f"each version's link leads to its source {found}", found == [row[1] for row in versions[1:]]
     yield "all opponents", [it.attributes["data-opponents"] for it in page.all("div") if "data-opponents" in it.attributes] == ["hunter.r"]
     best = tables["Its best opponents"]
     yield "its best opponents", len(best) == 6
@@ -203,7 +210,8 @@ def the_settings(folder: str) -> Results:
     yield "settings", facts == {
         "Played as": "pairs", "Matches of a group": "10", "Cycles of a match, at most": "500,000", "Seed": "7",
         "Language profile": "1", "Sample": "every pair", "Version": "crobots <1>", "SHA-256 of its file": "ab" * 32,
-        "File": f"League 1.tar ({len(ARCHIVE)} bytes)", "SHA-256": hashlib.sha256(ARCHIVE).hexdigest()}
+        "File": f"League 1.tar ({len(ARCHIVE)} bytes)", "SHA-256": hashlib.sha256(ARCHIVE).hexdigest(),
+        "Hash of the publication": "cd" * 32}
     yield "how it is checked", page.one("pre").text() == "crobots-league verify 20 'the archive.tar'"
     with open(os.path.join(folder, "archive", "_4ceague_201.tar"), "rb") as file:
         yield "the archive", file.read() == ARCHIVE
@@ -228,8 +236,15 @@ def the_data(folder: str) -> Results:
         "matches": 10, "cycles": 500000, "seed": 7, "profile": 1, "sizes": [2], "Sample": "every pair"}
     listed = [it["page"] for it in told["robots"] + told["pairs"]] + [it["data"] for it in told["robots"]]
     yield "places as JSON", all(os.path.isfile(os.path.join(folder, it.partition("#")[0])) for it in listed)
+    row = told["table"][2]
+    yield f"a row as JSON {row}", {**row, "points": round(row["points"], 3)} == {
+        "division": 1, "rank": 3, "robot": made.NAMES[2], "played": 110, "won": 58, "tied": 11, "lost": 41, "points": 1.682,
+        "rating": 200.0, "low": 140.0, "high": 260.0, "close": True}
+    place = told["earlier"][0]["table"][made.NAMES[1]]
+    yield f"an earlier row as JSON {place}", [place[it] for it in ("rank", "rating", "low", "high")] == [3, 150.0, 90.0, 210.0]
     pair = told["pairs"][0]
-    yield "a pair as JSON", [pair[it] for it in ("won", "tied", "lost", "both_lost", "share", "verdict")] == [6, 1, 3, 1, 0.7, "not decided"]
+    yield "a pair as JSON", [pair[it] for it in ("won", "tied", "lost", "both_lost", "share", "low", "high", "verdict")] == [
+        6, 1, 3, 1, 0.7, 0.398, 0.892, "not decided"]
     yield "a match as JSON", {**told["robots"][1]["lost"][0], "command": ""} == {
         "robots": ["hunter.r", made.SCRIPT], "damage": [0, 100], "match": 4001, "seed": 2**64 - 4001, "cycles": 15, "command": ""}
     yield "names as JSON", [it["name"] for it in told["robots"]] == made.NAMES

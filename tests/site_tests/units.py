@@ -12,13 +12,15 @@ import shlex
 import subprocess
 import zlib
 from base64 import urlsafe_b64decode
+from dataclasses import replace
 from pathlib import Path
 from typing import Any, Iterator
 
 from harness import skip
 from packages import lacking
-from sites import addresses, charts, colours, commands, links, lookups, names, notables, places, robot_data, scales, shares, sources, sums
-from sites.facts import Battle, Place, Score, Seat, Settings
+from sites import addresses, charts, colours, commands, links, lookups, names, notables, places, robot_data, scales, shares, sources, sums, verdicts
+from sites.facts import Battle, BySeat, Pair, Place, Score, Seat, Settings
+from sites.gathering import Gathering, Losses
 from sites.lookups import Stay
 from sites.markup import Markup, block, tag
 
@@ -59,6 +61,7 @@ def results() -> Results:
     yield from markup()
     yield from scores()
     yield from chosen()
+    yield from gathered()
     yield from command_lines()
     yield from battle_links()
     yield from source_lines()
@@ -104,6 +107,9 @@ def scores() -> Results:
         yield f"the interval of {counts}", abs(found[0] - low) < 5e-5 and abs(found[1] - high) < 5e-5
     yield "the share of ties", shares.share(Score(6, 1, 3, 1)) == 0.7
     yield "the other side", shares.turned(Score(6, 1, 3, 1)) == Score(2, 1, 7, 1)
+    even = Pair("a", "b", Score(5, 0, 5), 0.5, 0.5)
+    said = [verdicts.verdict(replace(even, low=low, high=high)).what for low, high in ((0.5, 0.9), (0.501, 0.9), (0.1, 0.5), (0.1, 0.499))]
+    yield f"decided by the interval {said}", said == ["not decided", "better", "not decided", "worse"]
     yield "no match", (shares.share(Score(0, 0, 0)), shares.interval(Score(0, 0, 0))) == (0.5, (0.0, 1.0))
 
 
@@ -122,6 +128,21 @@ def chosen() -> Results:
     alone = [it.what for it in notables.notables(fought[:1], "a", "b")]
     yield "without an upset", alone == ["closest", "shortest", "longest"]
     yield "nothing is decided", notables.notables(fought[5:7], "a", "b") == ()
+
+
+def gathered() -> Results:
+    """What two robots did by their seats, and which lost matches are shown, of matches that are counted by hand."""
+    it = Gathering({"a": 0, "b": 1})
+    ended = [(0, 100), (100, 0), (5, 5), (100, 100), (100, 100)]
+    it.add([made.battle("a", "b", *damage, number) for number, damage in enumerate(ended, 1)])
+    it.add([made.battle("b", "a", 0, 100, 9)])
+    pair, = it.pairs()
+    yield f"scores by seat {pair.seats}", pair.seats == (BySeat(1, 2, Score(1, 1, 3, 2)), BySeat(2, 1, Score(0, 0, 1, 0)))
+    yield f"the score of both {pair.score}", pair.score == Score(1, 1, 4, 2) and abs(shares.share(pair.score) - 2.5 / 6) < 1e-9
+    lost = Losses({"a": 0, "b": 1, "c": 2, "x": 3})
+    for robot, number in (("a", 2), ("b", 4), ("c", 6), ("c", 3)):
+        lost.add(made.battle(robot, "x", 0, 100, number))
+    yield "lost to the lowest robots first, of each in the shortest match", [it.number for it in lost.of("x", 2)] == [3, 4]
 
 
 def command_lines() -> Results:

@@ -19,7 +19,7 @@ from sites.facts import Facts
 from sites.publishing import publish
 
 from . import made
-from .reading import dangling, files
+from .reading import dangling, files, read
 
 Results = Iterator[tuple[str, bool]]
 HERE = os.path.dirname(os.path.abspath(__file__))
@@ -41,6 +41,7 @@ def results() -> Results:
         yield from others(os.path.join(place, "others"))
         yield from lists(os.path.join(place, "lists"))
         yield from again(os.path.join(place, "again"))
+        yield from older(place)
         yield from cut(place)
         yield from killed(place)
 
@@ -141,6 +142,18 @@ def ending_after(files_written: int) -> Iterator[list[int]]:
             yield count
     finally:
         os.replace = real
+
+
+def older(place: str) -> Results:
+    """Archives of before stay, and are listed, the last one first; that of now isn't one of them, however often it is published."""
+    folder = os.path.join(place, "older")
+    for name in ("1.zip", "2.zip", "3.zip", "3.zip"):
+        write(place, name, name)
+        publish(made.league(2, archive=os.path.join(place, name)), folder)
+    sections = read(os.path.join(folder, "settings.html")).all("section")
+    listed = [[it.text() for it in part.all("li")] for part in sections if part.one("h2").text() == "Older archives"]
+    yield f"older archives {listed}", listed == [["2.zip", "1.zip"]] and {it for it in files(folder) if it.startswith("archive/")} == {
+        f"archive/{at}.zip" for at in (1, 2, 3)}
 
 
 def cut(place: str) -> Results:

@@ -128,10 +128,14 @@ a.r against b.r: won 0, tied 0, lost 2 of 2 matches
         return [f"{found}, not {wanted}" for found, wanted, near in cases if abs(found - wanted) > near]
 
     def students_quantiles(self) -> list[str]:
-        """Those of a table of Student's distribution."""
-        table = {1: 12.706, 2: 4.303, 3: 3.182, 4: 2.776, 5: 2.571, 7: 2.365, 10: 2.228, 20: 2.086, 30: 2.042, 100: 1.984, 1e9: 1.960}
-        found = {freedom: intervals.quantile(freedom) for freedom in table}
-        return [f"{freedom}: {found[freedom]}" for freedom, wanted in table.items() if abs(found[freedom] - wanted) > 0.01 * wanted]
+        """Those of a table of Student's distribution, for intervals of 95, 99 and 99.9 %; between one, two and three degrees those of the
+        fewer ones."""
+        table = {0.95: {1: 12.706, 1.9: 12.706, 2: 4.303, 2.9: 4.303, 3: 3.182, 4: 2.776, 5: 2.571, 7: 2.365, 10: 2.228, 20: 2.086, 30: 2.042,
+                        100: 1.984, 1e9: 1.960},
+                 0.99: {1: 63.657, 2: 9.925, 3: 5.841, 5: 4.032, 10: 3.169, 30: 2.750, 1e9: 2.576},
+                 0.999: {1: 636.62, 2: 31.599, 5: 6.869, 10: 4.587, 30: 3.646, 100: 3.391}}
+        found = {(level, freedom): (wanted, intervals.quantile(freedom, level)) for level, row in table.items() for freedom, wanted in row.items()}
+        return [f"{key}: {got}, not {wanted}" for key, (wanted, got) in found.items() if abs(got - wanted) > 0.01 * wanted]
 
     def intervals_are_as_wide_as_over_seeds(self) -> list[str]:
         """The deviation of the change over eight seeds, and that by the intervals: within a factor of two, where it was six."""

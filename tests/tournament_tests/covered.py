@@ -212,3 +212,12 @@ class Coverage(Base):
             name = f"{sample or 'all'} groups of {size} of {many}, {each} of each seating, wide {wide}"
             wrong += self._wrong(name, covered(those, tournament(those, each), 40, 6), (0.91, 1.0), 0.75)
         return wrong
+
+    def one_match_of_each_seating(self) -> list[str]:
+        """Of a robot's groups one may have nearly all of the variance, so it is known by few matches: these fields held 90.0 to 91.7 %
+        of one robot when all matches counted alike."""
+        wrong = []
+        for size, wide, seed in ((3, 1.0, 2), (3, 1.0, 3), (4, 0.2, 2)):
+            those = made_chances(random.Random(seed), itertools.combinations(range(5), size), wide)
+            wrong += self._wrong(f"groups of {size}, seed {seed}", covered(those, tournament(those, 1), 300, 6), (0.94, 0.985), 0.925)
+        return wrong

@@ -271,9 +271,19 @@ class Defined:
         each = UNSEEN / len(upsets)
         variance = sum(self.together(robot, robot, group) for group in own) + each * sum(it**2 for it in upsets)
         third = sum(self.third(robot, group) for group in own) + side * each * sum(it**3 for it in upsets)
-        freedom = max(1, sum(len(those) - 1 for group in own for those in self.groups[group]))
-        half = quantile(freedom) * math.sqrt(variance)
+        half = quantile(self.freedom(robot, own)) * math.sqrt(variance)
         return max(0.0, half + side * third / variance * (1 + 2 * NORMAL**2) / 6)
+
+    def freedom(self, robot: int, own: Sequence[tuple[int, ...]]) -> float:
+        """How well the variance by its own matches is known: all pairs are one part, each group of more robots is one."""
+        parts = [[it for it in own if len(it) == 2], *([it] for it in own if len(it) > 2)]
+        freedoms = [sum(len(those) - 1 for group in part for those in self.groups[group]) for part in parts]
+        variances = [sum(self.together(robot, robot, group) for group in part) for part in parts]
+        most = max(1, sum(freedoms))
+        if sum(variances) == 0:
+            return most
+        found = sum(variances) ** 2 / sum(it * it / (2 + by) for it, by in zip(variances, freedoms)) - 2
+        return sorted([1, found, most])[1]
 
     def bent(self, robot: int, side: int) -> float:
         """How far it moves if its score does so much; the others move back."""

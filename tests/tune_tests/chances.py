@@ -6,8 +6,9 @@ import random
 import statistics
 from fractions import Fraction
 
+from tournaments.intervals import mean, quantile
 from tuning.evolution import Evolution, mirrored
-from tuning.scoring import Scores, estimate, quantile
+from tuning.scoring import Scores
 from tuning.sweeps import MISTAKEN
 
 WORTH = {"w": 3.0, "t": 1.0, "l": 0.0}
@@ -36,22 +37,15 @@ def worth(wins: list[float]) -> float:
 class Chances:
     """Each method whose name does not begin with _ is a test: it answers what is wrong."""
 
-    def students_quantiles(self) -> list[str]:
-        """As tables of the distribution have them."""
-        table = {(0.975, 5): 2.5706, (0.975, 10): 2.2281, (0.975, 30): 2.0423, (0.995, 10): 3.1693, (0.995, 30): 2.75, (0.9995, 30): 3.646,
-                 (0.9995, 100): 3.3905, (0.975, 1e9): 1.95996}
-        got = {key: quantile(*key) for key in table}
-        return [f"{key}: {got[key]}, not {value}" for key, value in table.items() if abs(got[key] - value) > 0.01 * value]
-
     def an_estimate_by_hand(self) -> list[str]:
         """Two opponents, of weights 3 and 1: means 1 and -1, so (3 - 1) / 4; variances 2 and 2 of 2 numbers each.
 
         The part of each is (3/4)^2 * 2 / 2 and (1/4)^2 * 2 / 2: 0.625 together. Of counted matches there are 1 / (9/32 + 1/32) =
         3.2, so two that are worth 3 add 2 * (3 / 3.2)^2 = 1.7578."""
-        it = estimate([(3.0, [0.0, 2.0]), (1.0, [-2.0, 0.0])], 3.0, 0.95)
+        it = mean([[0.0, 2.0], [-2.0, 0.0]], [3.0, 1.0], 3.0)
         variance = 0.625 + 1.7578125
         freedom = variance**2 / (0.5625**2 + 0.0625**2 + 1.7578125**2 / 3.2)
-        margin = quantile(0.975, freedom) * variance**0.5
+        margin = quantile(freedom) * variance**0.5
         right = abs(it.value - 0.5) < 1e-12 and abs(it.high - it.value - margin) < 1e-9 and abs(it.value - it.low - margin) < 1e-9
         return [] if right else [f"{it}, not 0.5 with {margin}"]
 
@@ -81,7 +75,7 @@ class Chances:
     def few_matches_that_differ_aren_t_sure(self) -> list[str]:
         """Five of 200 matches, all won more: by chance alone one in 32 has that on one side; seven are sure by 95 %."""
         def change(won: int, level: float) -> bool:
-            return estimate([(1.0, [3.0] * won + [0.0] * (200 - won))], 3.0, level).is_sure
+            return mean([[3.0] * won + [0.0] * (200 - won)], [1.0], 3.0, level).is_sure
         got = [change(won, 0.95) for won in (3, 4, 5, 6, 7, 12)] + [change(12, 1 - MISTAKEN / 19), change(20, 1 - MISTAKEN / 19)]
         return [] if got == [False, False, False, True, True, True, False, True] else [f"{got}"]
 

@@ -11,10 +11,9 @@ from typing import Any, Callable, ContextManager, Iterator
 
 from harness import loaded
 
-from . import everyone, helping, inside, keeping, paths, robust, seeing, seen
+from . import embeds, everyone, firsts, helping, inside, keeping, paths, robust, seeing, seen, worths
 from .battles import Battle, Mistake, Settings, mistakes, outcome, random_battles, sample_battles, samples, vectors
 from .pages import Page, as_loaded, chromium, console, served, without
-from .worths import results as worths
 
 DEBIAN = "/usr/lib/python3/dist-packages"
 # the key as the protocol of drivers has it
@@ -439,12 +438,14 @@ def results(crobots: str, stages: str, folder: str) -> Iterator[tuple[str, list[
         yield "a stopped series", stopped(page, crobots)
         yield "keys", keys(page)
         yield "the page as a file", story(page, crobots, folder, chromium)
+        yield from firsts.results(page, is_chromium=True)
+        yield from embeds.results(page, folder)
         yield from keeping.results(page)
         yield from seen.results(page, folder)
         yield from seeing.results(page, crobots)
         yield from inside.results(page)
         yield from helping.results(page, crobots, folder)
-        yield from worths(page, crobots, stages, folder)
+        yield from worths.results(page, crobots, stages, folder)
         yield from robust.results(page, folder)
         yield from everyone.results(page)
         yield from paths.results(page, folder)

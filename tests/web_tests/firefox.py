@@ -5,11 +5,10 @@ from __future__ import annotations
 import os
 from typing import Iterator
 
-from . import browser, everyone, inside, paths
+from . import browser, embeds, everyone, firsts, inside, paths, worths
 from .battles import random_battles, sample_battles
 from .marionette import firefox, program
 from .pages import Page, served
-from .worths import few
 
 
 def lacking(folder: str) -> str:
@@ -30,9 +29,11 @@ def results(crobots: str, stages: str, folder: str) -> Iterator[tuple[str, list[
         yield "links", browser.links(page, crobots)
         yield "watched matches", browser.watched(page, crobots)
         yield "widths", everyone.widths(page)
+        yield from firsts.results(page)
+        yield from embeds.results(page, folder)
         yield from inside.results(page)
+        yield from worths.few(page, crobots, stages, folder)
         yield from paths.results(page, folder)
-        yield from few(page, crobots, stages, folder)
         other = Page(driver, "file://" + os.path.join(os.path.abspath(folder), "index.html"))
         other.open()
         yield "the page as a file", browser.reports(other, crobots, sample_battles()[20:21])

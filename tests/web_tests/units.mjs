@@ -57,10 +57,17 @@ const room = 6 * 1024 * 1024;
 const battle = source => JSON.stringify({robots: [{name: "a.r", source}]});
 const fill = battle("").length;
 check("a link and back", await battleOf(await fragmentOf({robots: [robot], settings: usual})), {robots: [robot], settings: usual});
+const [one, three] = [1, 3].map(count => ({robots: Array(count).fill(robot)}));
 const momentary = await fragmentOf({robots: [robot], settings: usual}, {number: 3, cycle: 450});
-check("a link to a moment", [await battleOf(momentary), linkedMoment(momentary), linkedMoment(await fragmentOf({robots: [robot], settings: usual}))],
-    [{robots: [robot], settings: usual}, {number: 3, cycle: 450}, null]);
-check("moments that are none", ["&match=0&cycle=1", "&match=1000001&cycle=1", "&match=1&cycle=1000000001", "&match=1&cycle=-1", "&match=x&cycle=1", "&cycle=1&match=1"].map(linkedMoment), Array(6).fill(null));
+check("a link to a moment", [await battleOf(momentary), linkedMoment(momentary, one), linkedMoment(await fragmentOf({robots: [robot], settings: usual}), one)],
+    [{robots: [robot], settings: usual}, {number: 3, cycle: 450, robot: 0}, null]);
+// one robot fights itself, so there are two
+const followed = await Promise.all([[one, 2], [one, 3], [three, 3], [three, 4]].map(async ([it, number]) =>
+    linkedMoment(await fragmentOf({...it, settings: usual}, {number: 1, cycle: 0, robot: number}), it)?.robot));
+check("the robot that is followed", followed, [2, undefined, 3, undefined]);
+const wrongMoments = ["&match=0&cycle=1", "&match=1000001&cycle=1", "&match=1&cycle=1000000001", "&match=1&cycle=-1", "&match=x&cycle=1", "&cycle=1&match=1",
+    "&match=1&cycle=1&robot=0", "&match=1&cycle=1&robot=5", "&match=1&cycle=1&robot=", "&match=1&robot=1&cycle=1"];
+check("moments that are none", wrongMoments.map(it => linkedMoment(it, three)), wrongMoments.map(() => null));
 check("the largest link", (await battleOf(packed(battle("x".repeat(room - fill)))))?.robots[0].source.length, room - fill);
 check("links that are none", [await battleOf(packed(battle("x".repeat(room - fill + 1)))), await battleOf("#battle=%%%"), await battleOf(packed("[")), await battleOf("#x")],
     [null, null, null, null]);

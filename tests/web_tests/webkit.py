@@ -11,10 +11,9 @@ import subprocess
 import tempfile
 from typing import Any, Iterator
 
-from . import browser, everyone, inside, paths, robust
+from . import browser, embeds, everyone, firsts, inside, paths, robust, worths
 from .battles import random_battles, sample_battles
 from .pages import Page, served
-from .worths import few
 
 BROWSERS = "/usr/lib/*/webkit2gtk-4.*/MiniBrowser"
 DRIVER, DISPLAY = "WebKitWebDriver", "Xvfb"
@@ -108,9 +107,11 @@ def results(crobots: str, stages: str, folder: str) -> Iterator[tuple[str, list[
         yield "a stopped series", browser.stopped(page, crobots)
         yield "widths", everyone.widths(page)
         yield "keys", browser.keys(page)
+        yield from firsts.results(page)
+        yield from embeds.results(page, folder)
         yield from inside.results(page)
+        yield from worths.few(page, crobots, stages, folder)
         yield from paths.results(page, folder)
-        yield from few(page, crobots, stages, folder)
         yield "the page as a file", browser.story(page, crobots, folder, webkit)
         yield "a plain text field", robust.plain(page, folder)
         yield "missing data", robust.no_data(page, folder)

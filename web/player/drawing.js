@@ -7,6 +7,8 @@ import {countAtMost} from "./sorted.js";
 const FIELD_SIDE = 10000;
 const LEAST_SIDE = 100;
 const NARROW = 500;
+// a smaller field has no room for five numbers along a border
+const LEAST_SIDE_OF_FIFTHS = 220;
 const EDGE = 20;
 const RINGS = [400, 200, 50];
 const MOST_SCAN = 14143;
@@ -116,7 +118,8 @@ export class FieldDrawing {
         const {context, colours} = this;
         context.fillStyle = colours.muted;
         context.font = fontOf(this.left < 30 ? 9 : 11);
-        for (let metres = 0; metres < 1000; metres += 200) {
+        const step = FIELD_SIDE * this.scale < LEAST_SIDE_OF_FIFTHS ? 250 : 200;
+        for (let metres = 0; metres < 1000; metres += step) {
             context.textAlign = "center";
             context.textBaseline = "top";
             context.fillText(`${metres}`, this.x(metres * 10), this.y(0) + 5);

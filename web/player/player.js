@@ -21,8 +21,11 @@ const MILLISECONDS_OF_AN_ADDRESS = 500;
 
 /** What plays a match on the page. */
 export class Player {
-    /** Shows a match from a cycle on, and plays it if it is to; `sources` shows the robot that is chosen from inside, if it is there. */
-    constructor(match, {from = match.first, isPlaying = false, sources = null} = {}) {
+    /**
+     * Shows a match from a cycle on, and plays it if it is to; a robot may be chosen. `sources` shows the robot that is chosen from
+     * inside, if it is there.
+     */
+    constructor(match, {from = match.first, isPlaying = false, chosen = 0, sources = null} = {}) {
         this.match = match;
         this.sources = sources;
         this.cycle = this.#within(from);
@@ -41,6 +44,7 @@ export class Player {
         this.#listen();
         this.#marks();
         this.addressed = Math.floor(this.cycle);
+        this.#choose(chosen);
         if (isPlaying) this.toggle(); else this.show();
     }
 

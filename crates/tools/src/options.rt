@@ -1,5 +1,9 @@
 //! Options: which ones a program knows, and how words give them.
 
+ghost use Rattle.std.specs.Prelude.{◌≡◌};
+ghost use Rattle.std.specs.Option.{option_map};
+ghost use Rattle.tools.specs.Given.{option_of, value_of};
+
 use crate::faults::{Fault, Wrong};
 use crate::known::{Known, asks_for_page, known_by};
 use std::alloc::Global;
@@ -38,7 +42,9 @@ impl<'a> Options<'a> {
     }
 
     /// Returns the value of the option of this name, if it was given: the empty text for one that has no value.
-    pub fn value(&self, name: &str) -> Option<&'a str> {
+    pub fn value(&self, name: &str) -> Option<&'a str>
+        ensures { option_map (λ value. value.now) result ≡ value_of self.now name.now }
+    {
         self.found(name).map(|given| given.value)
     }
 
@@ -60,7 +66,9 @@ impl<'a> Options<'a> {
     }
 
     /// Returns the option of this name, if it was given.
-    fn found(&self, name: &str) -> Option<GivenOption<'a>> {
+    fn found(&self, name: &str) -> Option<GivenOption<'a>>
+        ensures { result ≡ option_of self.now name.now }
+    {
         for given in &self.given {
             if given.name == name {
                 return Some(*given);

@@ -1,7 +1,9 @@
 //! A span: the part of a match that a program shows, one robot or all, from a first cycle to a last.
 
-ghost use Rattle.std.specs.Prelude.{◌≡◌, ◌≤◌, ◌↔◌, if◌then◌else◌, nat_le, IfOk, IsTrue, None};
-ghost use Rattle.tools.specs.Span.{IsOfRobot, IsOfRobots};
+ghost use Rattle.std.specs.Prelude.{◌≡◌, ◌≤◌, ◌↔◌, codes, if◌then◌else◌, nat_le, IfOk, IsTrue, None};
+ghost use Rattle.std.specs.Result.{result_ok};
+ghost use Rattle.tools.specs.Given.{value_of};
+ghost use Rattle.tools.specs.Span.{IsOfRobot, IsOfRobots, robot_named, span_asked};
 
 use crate::faults::{Fault, Wrong};
 use crate::known::Known;
@@ -41,6 +43,7 @@ impl Span {
     /// `--from` and `--to`, the first and the last cycle, 0 to 1,000,000,000, by default all cycles. Other values, and
     /// a last cycle before the first one, are wrong usage.
     pub fn read(options: &Options<'_>, robots: usize) -> Result<Span, Fault>
+        ensures asked { result_ok result ≡ span_asked options.now robots }
         ensures robot { IfOk result (λ span. IsOfRobots span.robot robots) }
         ensures cycles { IfOk result (λ span. span.from ≤ span.to) }
         ensures most { IfOk result (λ span. span.to ≤ MOST_CYCLES) }
@@ -97,7 +100,8 @@ fn in_order(from: u32, to: u32) -> Result<(u32, u32), Fault>
 
 /// Reads the number of the only robot of the span, from 1 to the number of robots, if one is asked for.
 fn robot_of(options: &Options<'_>, robots: usize) -> Result<Option<usize>, Fault>
-    ensures { IfOk result (λ robot. IsOfRobots robot robots) }
+    ensures named { result_ok result ≡ robot_named robots (value_of options.now (codes "robot")) }
+    ensures inside { IfOk result (λ robot. IsOfRobots robot robots) }
 {
     let Some(text) = options.value("robot") else {
         return Ok(None);

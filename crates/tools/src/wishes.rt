@@ -1,6 +1,9 @@
 //! Which match is asked for.
 
-ghost use Rattle.std.specs.Prelude.{◌≤◌, IfOk};
+ghost use Rattle.std.specs.Prelude.{◌≡◌, ◌≤◌, IfOk};
+ghost use Rattle.std.specs.Result.{result_ok};
+ghost use Rattle.settings.specs.Given.{number_or_default};
+ghost use Rattle.tools.specs.Given.{value_of};
 
 use crate::faults::{Fault, Wrong};
 use crate::known::Known;
@@ -90,7 +93,8 @@ pub fn number_of(
 ) -> Result<u64, Fault>
     requires least { least ≤ default }
     requires most { default ≤ most }
-    ensures { IfOk result (λ n. (least ≤ n) × (n ≤ most)) }
+    ensures value { result_ok result ≡ number_or_default least most default (value_of options.now name.now) }
+    ensures within { IfOk result (λ n. (least ≤ n) × (n ≤ most)) }
 {
     match options.value(name) {
         Some(text) => {

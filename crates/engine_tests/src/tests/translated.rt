@@ -65,6 +65,55 @@ const SOURCES: &[(&str, &[u8], bool, bool)] = &[
         true,
         true,
     ),
+    // nothing reaches a jump behind a return, and all that is reached finds its words as if the jump weren't there
+    (
+        "a choice behind a return",
+        b"main(){int a; if (a) {return 1; if (a) a = 2; a = 3;} a = 4;}",
+        true,
+        true,
+    ),
+    (
+        "a choice of two behind a return",
+        b"main(){int a; if (a) {return 1; if (a) a = 2; else a = 3; a = 4;} a = 5;}",
+        true,
+        true,
+    ),
+    (
+        "a loop behind a return",
+        b"main(){int a; if (a) {return 1; while (a) a = 2; a = 3;} a = 4;}",
+        true,
+        true,
+    ),
+    (
+        "a conjunction behind a return",
+        b"main(){int a; if (a) {return 1; a = a && 2; a = 3;} a = 4;}",
+        true,
+        true,
+    ),
+    (
+        "a disjunction behind a return",
+        b"main(){int a; if (a) {return 1; a = a || 2; a = 3;} a = 4;}",
+        true,
+        true,
+    ),
+    (
+        "a choice behind two returns",
+        b"main(){int a; while (a) {return; return a; if (a) a = 2; a = 3;} a = 4;}",
+        true,
+        true,
+    ),
+    (
+        "a choice behind a return of a call's value",
+        b"f(a){return a;} main(){int a; if (a) {return f(1); if (a) a = 2; a = 3;} a = 4;}",
+        true,
+        true,
+    ),
+    (
+        "a choice behind a return in a loop behind another",
+        b"main(){int a; if (a) {return 1; while (a) {return 2; if (a) a = 2; a = 3;} a = 4;} a = 5;}",
+        true,
+        true,
+    ),
 ];
 
 #[test]

@@ -1,0 +1,259 @@
+"""The addresses of the ladder, and what each answers."""
+
+from __future__ import annotations
+
+import logging
+import os
+from typing import Callable
+
+from flask import Flask, Response, abort, redirect, request
+from leagues import naming
+from leagues.entries import source
+from leagues.store import Store
+from tools.faults import Fault
+from werkzeug.exceptions import HTTPException
+
+from . import accounts, films, handing, organisers, pages, reasons, walls
+from .accounts import SESSION_SECONDS, Who
+from .frames import SCRIPT, STYLES, Site
+from .handing import FAULTY, MANY, TAKEN, Answer
+from .live import read
+from .requests import (COOKIE, FILM_POLICY, SOURCE_POLICY, address, answered, attempts, configured, html, is_from_here, organiser, site, store, who,
+                       writer)
+from .terms import terms
+
+HERE = os.path.dirname(os.path.abspath(__file__))
+# A form has its other fields beside the source, and a source may have letters that a form codes with three.
+FORM_MAX = 1 << 18
+FORM_PARTS = 20
+TYPES = {"css": "text/css", "js": "text/javascript"}
+
+
+def made(it: Site) -> Flask:
+    """The application of a site."""
+    app = Flask(__name__, static_folder=None, template_folder=None)
+    app.config["MAX_CONTENT_LENGTH"] = FORM_MAX
+    logging.getLogger("waitress").setLevel(logging.ERROR)
+    configured(app, it)
+    app.request_class.max_form_parts = FORM_PARTS
+    app.register_error_handler(HTTPException, failed)
+    for rule, does, methods in ROUTES:
+        app.add_url_rule(rule, f"{rule} {methods}", does, methods=[methods])
+    return app
+
+
+def failed(why: HTTPException) -> Response:
+    """An answer of Flask's own, as a line."""
+    if why.response is not None:
+        assert isinstance(why.response, Response)
+        return why.response
+    return Response(f"{why.code}: {why.name}\n", why.code, mimetype="text/plain")
+
+
+def index() -> Response:
+    return html(pages.index(site(), store(), who()))
+
+
+def tag() -> Response:
+    """What changes if the table does: readers poll it."""
+    return Response(read(site().folder).tag, mimetype="text/plain")
+
+
+def table() -> Response:
+    return html(pages.standing(site(), store(), read(site().folder)))
+
+
+def shared(name: str) -> Response:
+    """A style or the script."""
+    folder = os.path.join(HERE, "..", "sites") if name == STYLES[0] else HERE
+    with open(os.path.join(folder, name), encoding="utf-8") as file:
+        answer = Response(file.read(), mimetype=TYPES[name.rpartition(".")[2]])
+    answer.headers["Cache-Control"] = "max-age=300"
+    return answer
+
+
+def robot_id(name: str) -> str:
+    """A robot of the league, or 404."""
+    return name if name in naming.taken(store()) else abort(404)
+
+
+def robot(name: str) -> Response:
+    by = who()
+    it = robot_id(name)
+    why = [*reasons.shown(site(), store(), it)] if handing.is_theirs(store(), by, it) else []
+    return html(pages.robot(site(), store(), by, it, why))
+
+
+def version(name: str, number: int) -> Response:
+    """A version's source, to be saved and never shown as a page."""
+    it, by = robot_id(name), who()
+    found = handing.versions(store(), it)
+    if not pages.is_shown(store(), by, it) or not 1 <= number <= len(found):
+        abort(404)
+    answer = Response(source(store(), found[number - 1].sha256), mimetype="text/plain")
+    answer.headers["Content-Disposition"] = f'attachment; filename="{it}.r"'
+    answer.headers["Content-Security-Policy"] = SOURCE_POLICY
+    return answer
+
+
+def join_page() -> Response:
+    return html(pages.join(site(), can_sign_up(store())))
+
+
+def can_sign_up(it: Store) -> bool:
+    """Whether one author more may sign up."""
+    return len(accounts.authors(it)) < terms(it).sign_up
+
+
+def refuse_foreign() -> None:
+    """Refuses what another site's page sends."""
+    if not is_from_here():
+        abort(Response("403: this was not sent by a page of this league\n", 403, mimetype="text/plain"))
+    if attempts().are_many(address()):
+        abort(Response("429: too many wrong tokens came from your address: wait a minute\n", 429, mimetype="text/plain"))
+
+
+def join() -> Response:
+    """Sets the cookie of somebody who has a link."""
+    refuse_foreign()
+    session = accounts.join(store(), request.form.get("token", "").strip(), address())
+    if not session:
+        attempts().failed(address())
+        return answered(Answer(401, "this link isn't one of this league, or was withdrawn: ask the organiser for a new one"), None)
+    answer = away("mine")
+    answer.set_cookie(COOKIE, session, max_age=int(SESSION_SECONDS), path=site().to(""), httponly=True, samesite="Strict", secure=is_secure())
+    return answer
+
+
+def is_secure() -> bool:
+    """Whether readers come by TLS."""
+    return site().outside.startswith("https:") or request.is_secure
+
+
+def away(to: str) -> Response:
+    """Leads to another page."""
+    answer = redirect(site().to(to), 303)
+    assert isinstance(answer, Response)
+    return answer
+
+
+def leave() -> Response:
+    refuse_foreign()
+    accounts.leave(store(), request.cookies.get(COOKIE, ""))
+    answer = away("")
+    answer.delete_cookie(COOKIE, path=site().to(""), httponly=True, samesite="Strict", secure=is_secure())
+    return answer
+
+
+def sign_up() -> Response:
+    """Makes an author of somebody without an invitation, as long as the terms allow it."""
+    refuse_foreign()
+    if not can_sign_up(store()):
+        return answered(Answer(MANY, "nobody more can sign up: ask the organiser for an invitation"), None)
+    try:
+        name = accounts.name_of(request.form.get("name", ""))
+        if accounts.number_of(store(), name) is not None:
+            return answered(Answer(FAULTY, "there is an author of that name already: choose another one"), None)
+        it = accounts.invite(store(), name, "", "sign-up", address())
+    except Fault as why:
+        return answered(Answer(FAULTY, str(why)), None)
+    return html(pages.signed_up(site(), it.name, it.token))
+
+
+def mine() -> Response:
+    by = who()
+    return html(pages.mine(site(), store(), by)) if by else away("join")
+
+
+def handed(name: str, text: bytes, by: Who) -> Response:
+    return answered(handing.hand_in(store(), by, name, text, site().programs, address()), by)
+
+
+def by_form() -> Response:
+    """A robot of a form: a file, or what was written. A browser sends line ends that nobody typed."""
+    by = writer()
+    file = request.files.get("file")
+    if file is not None and file.filename:
+        return handed(request.form.get("robot", "").strip() or file.filename, file.read(), by)
+    text = request.form.get("source", "").replace("\r\n", "\n").encode("utf-8", "replace")
+    return handed(request.form.get("robot", "").strip(), text, by)
+
+
+def by_file(name: str) -> Response:
+    """A robot that `curl -T` or `crobots-league send` sends."""
+    return handed(name, request.get_data(cache=False), writer())
+
+
+def back(name: str) -> Response:
+    by = writer()
+    number = request.form.get("version", "")
+    whole = int(number) if number.isascii() and number.isdigit() and len(number) < 9 else 0
+    return answered(handing.back(store(), by, robot_id(name), whole, site().programs, address()), by)
+
+
+def withdraw(name: str) -> Response:
+    by = writer()
+    return answered(handing.withdraw(store(), by, robot_id(name), address()), by)
+
+
+def replay(seating: int, number: int) -> Response:
+    """A film of a match. It shows no source."""
+    made_ = films.page(store(), seating, number) if max(seating, number) < 1 << 62 else None
+    if made_ is None:
+        abort(404)
+    answer = Response(made_, mimetype="text/html")
+    answer.headers["Content-Security-Policy"] = FILM_POLICY
+    return answer
+
+
+def wall() -> Response:
+    return html(walls.wall(site(), store()))
+
+
+def organiser_page() -> Response:
+    return html(organisers.organiser(site(), store(), organiser()))
+
+
+def invite() -> Response:
+    """Makes an author, or gives one a new link, which is shown once."""
+    by = organiser()
+    try:
+        it = accounts.invite(store(), request.form.get("name", ""), request.form.get("team", ""), by.name, address())
+    except Fault as why:
+        return answered(Answer(FAULTY, str(why)), by)
+    outside = site().outside or f"{request.scheme}://{request.host}"
+    return answered(Answer(TAKEN, f"The link of {it.name}, which is shown only now:\n\n{outside}{site().to('join')}#{it.token}"), by)
+
+
+def withdraw_link() -> Response:
+    by = organiser()
+    name = request.form.get("name", "")
+    try:
+        accounts.withdraw(store(), name, by.name, address())
+    except Fault as why:
+        return answered(Answer(FAULTY, str(why)), by)
+    return answered(Answer(TAKEN, f"the link of {name} is withdrawn"), by)
+
+
+def checklist() -> Response:
+    return html(organisers.checklist(site(), store(), organiser()))
+
+
+def checklist_csv() -> Response:
+    organiser()
+    answer = Response(organisers.checklist_csv(store(), site().folder), mimetype="text/csv")
+    answer.headers["Content-Disposition"] = 'attachment; filename="checklist.csv"'
+    return answer
+
+
+Does = Callable[..., Response]
+GET, POST, PUT = "GET", "POST", "PUT"
+ROUTES: tuple[tuple[str, Does, str], ...] = (
+    ("/", index, GET), ("/tag", tag, GET), ("/table", table, GET), ("/wall", wall, GET),
+    (f"/{STYLES[0]}", lambda: shared(STYLES[0]), GET), (f"/{STYLES[1]}", lambda: shared(STYLES[1]), GET), (f"/{SCRIPT}", lambda: shared(SCRIPT), GET),
+    ("/join", join_page, GET), ("/join", join, POST), ("/leave", leave, POST), ("/sign-up", sign_up, POST),
+    ("/mine", mine, GET), ("/robots", by_form, POST), ("/robots/<name>", robot, GET), ("/robots/<name>", by_file, PUT),
+    ("/robots/<name>/versions/<int:number>", version, GET), ("/robots/<name>/back", back, POST), ("/robots/<name>/withdraw", withdraw, POST),
+    ("/replays/<int:seating>/<int:number>", replay, GET), ("/organiser", organiser_page, GET), ("/organiser/invite", invite, POST),
+    ("/organiser/withdraw", withdraw_link, POST), ("/checklist", checklist, GET), ("/checklist.csv", checklist_csv, GET),
+)

@@ -1,0 +1,219 @@
+"""A robot is handed in: it joins, gets other bytes, gets older ones back, or leaves. What is refused is refused in words.
+
+All of it is one transaction, which is on the disk when 'taken' is answered. The same bytes again are taken again: whoever heard no
+answer may ask twice."""
+
+from __future__ import annotations
+
+import shutil
+import time
+from dataclasses import dataclass
+
+from leagues import entries, naming, seasons
+from leagues.days import today
+from leagues.entries import ADD, CHANGE, WITHDRAW, Entry
+from leagues.store import Store
+from tools.faults import Fault
+
+from .accounts import Who, authors, owners
+from .audits import HERE, note
+from .judging import Programs, fault
+from .terms import Terms, terms
+
+TAKEN, NOT_THEIRS, GONE, LARGE, FAULTY, MANY, SHUT, FULL = 200, 403, 404, 413, 422, 429, 403, 507
+HOUR = 3600.0
+HAND_IN = "hand in"
+MEGABYTE = 1_000_000
+
+
+@dataclass(frozen=True)
+class Answer:
+    """What is answered: a status of HTTP and words."""
+
+    status: int
+    words: str
+
+    @property
+    def is_taken(self) -> bool:
+        return self.status == TAKEN
+
+
+class Refused(Exception):
+    """Why something isn't taken."""
+
+    def __init__(self, status: int, words: str) -> None:
+        super().__init__(words)
+        self.answer = Answer(status, words)
+
+
+def hand_in(store: Store, who: Who, name: str, source: bytes, programs: Programs, address: str = HERE) -> Answer:
+    """Takes a robot of an author, or says why not."""
+    try:
+        robot = id_of(name)
+        refuse_size(store, source)
+        if again := same(store, who, robot, source):
+            return again
+        allowed(store, who, robot)
+        refuse_fault(store, source, programs, robot)
+        with store.change():
+            if again := same(store, who, robot, source):
+                return again
+            allowed(store, who, robot)
+            return entered(store, who, robot, source, address)
+    except Refused as why:
+        return why.answer
+    except Fault as why:
+        return Answer(FAULTY, str(why))
+
+
+def id_of(name: str) -> str:
+    """A robot's id: its name, if it can be one, else one made of it."""
+    short = name.removesuffix(".r")
+    robot = short if entries.ID.fullmatch(short) else naming.plain(short)[:naming.MOST]
+    if not entries.ID.fullmatch(robot):
+        raise Refused(FAULTY, "a robot's name has letters, digits, '-', '_' and '.', at most 40, and begins with a letter or a digit")
+    return robot
+
+
+def refuse_size(store: Store, source: bytes) -> None:
+    """Refuses a source that is too large."""
+    most = terms(store).size
+    if len(source) > most:
+        raise Refused(LARGE, f"the source has {len(source)} bytes, and {most} are taken")
+    if not source:
+        raise Refused(FAULTY, "the source is empty")
+
+
+def refuse_fault(store: Store, source: bytes, programs: Programs, robot: str) -> None:
+    """Refuses a source that doesn't compile, with the reason."""
+    if why := fault(programs, seasons.season(store).rules.profile, source):
+        raise Refused(FAULTY, why.replace("robot.r", f"{robot}.r"))
+
+
+def allowed(store: Store, who: Who, robot: str) -> None:
+    """Refuses what the terms don't allow to somebody now."""
+    by = terms(store)
+    if not who.is_organiser and (why := by.closed(today())):
+        raise Refused(SHUT, why)
+    refuse_season(store)
+    refuse_full(store, by)
+    refuse_owner(store, who, robot, by)
+    refuse_often(store, who, by)
+
+
+def refuse_season(store: Store) -> None:
+    """Refuses everything while no season goes on."""
+    if (it := seasons.season(store)).ended:
+        raise Refused(SHUT, f"the season {it.name} ended on {it.ended}, and the next one hasn't begun")
+
+
+def refuse_full(store: Store, by: Terms) -> None:
+    """Refuses everything while the disk is nearly full."""
+    if shutil.disk_usage(store.folder).free < by.floor * MEGABYTE:
+        raise Refused(FULL, "there is too little room on the league's disk: ask the organiser")
+
+
+def refuse_owner(store: Store, who: Who, robot: str, by: Terms) -> None:
+    """Refuses the robot of somebody else, and one robot more than an author may have. Ids are told apart without regard to case."""
+    there = {name.casefold(): name for name in naming.taken(store)}.get(robot.casefold())
+    whose = owners(store)
+    if who.is_organiser and there == robot or there in whose and whose[there] == who.number and there == robot:
+        return
+    if there:
+        own = whose.get(there) == who.number
+        raise Refused(NOT_THEIRS, f"your robot is called {there}" if own else f"there is a robot {there}, and it isn't yours: choose another name")
+    if not who.is_organiser and sum(it == who.number for it in whose.values()) >= by.robots:
+        raise Refused(MANY, f"you have {by.robots} robots, and an author has at most so many: hand in a new version of one")
+
+
+def refuse_often(store: Store, who: Who, by: Terms) -> None:
+    """Refuses one version more than an author may hand in within an hour."""
+    row = store.one("SELECT count(*) FROM ladder_audit WHERE who = ? AND what = ? AND at > ?", who.name, HAND_IN, time.time() - HOUR)
+    if not who.is_organiser and row[0] >= by.versions:
+        raise Refused(MANY, f"you handed in {row[0]} versions within an hour, and at most {by.versions} are taken")
+
+
+def same(store: Store, who: Who, robot: str, source: bytes) -> Answer | None:
+    """That a robot of somebody plays with these bytes already, if it does."""
+    happened = [it for it in entries.entries(store) if it.robot == robot]
+    if not is_theirs(store, who, robot) or not happened or happened[-1].what == WITHDRAW or happened[-1].sha256 != entries.hashed(source):
+        return None
+    return Answer(TAKEN, f"taken: {robot}, version {count(happened)}")
+
+
+def entered(store: Store, who: Who, robot: str, source: bytes, address: str) -> Answer:
+    """Lets a robot join or change."""
+    happened = [it for it in entries.entries(store) if it.robot == robot]
+    if happened:
+        entries.change(store, robot, source, day_of(store))
+    else:
+        joined(store, who, robot, source)
+    note(store, who.name, HAND_IN, robot, address)
+    late = " (in the days of grace)" if terms(store).is_late() else ""
+    return Answer(TAKEN, f"taken: {robot}, version {count(happened) + 1}{late}")
+
+
+def joined(store: Store, who: Who, robot: str, source: bytes) -> None:
+    """Lets a robot join. Its author is called by a number if names aren't shown: what is published says no name then."""
+    shown = who.name if terms(store).names or who.is_organiser else f"author {who.number}"
+    entries.add(store, robot, "" if who.is_organiser else shown, source, day_of(store))
+    if who.number is not None:
+        store.run("INSERT INTO ladder_owner VALUES (?, ?)", robot, who.number)
+
+
+def day_of(store: Store) -> str:
+    """Today, or the day of the last entry if a clock was wrong: one wrong day keeps nobody out."""
+    return max(today(), entries.last_day(store))
+
+
+def count(happened: list[Entry]) -> int:
+    """How many versions a robot had."""
+    return sum(it.what in (ADD, CHANGE) for it in happened)
+
+
+def versions(store: Store, robot: str) -> list[Entry]:
+    """The versions of a robot, the first one first."""
+    return [it for it in entries.entries(store) if it.robot == robot and it.what != WITHDRAW]
+
+
+def back(store: Store, who: Who, robot: str, number: int, programs: Programs, address: str = HERE) -> Answer:
+    """Gives a robot the bytes of an older version."""
+    if not is_theirs(store, who, robot):
+        return Answer(NOT_THEIRS, f"{robot} is no robot of yours")
+    found = versions(store, robot)
+    if not 1 <= number <= len(found):
+        return Answer(GONE, f"there is no version {number} of {robot}")
+    source = entries.source(store, found[number - 1].sha256)
+    return hand_in(store, who, robot, source, programs, address)
+
+
+def withdraw(store: Store, who: Who, robot: str, address: str = HERE) -> Answer:
+    """Lets a robot leave."""
+    try:
+        with store.change():
+            refuse_season(store)
+            if not is_theirs(store, who, robot):
+                raise Refused(NOT_THEIRS, f"{robot} is no robot of yours")
+            by = seasons.season(store).rules
+            if robot in (by.anchor, by.champion):
+                raise Refused(NOT_THEIRS, f"the rules name the robot {robot}, so it can't leave")
+            entries.withdraw(store, robot, day_of(store))
+            note(store, who.name, "withdraw", robot, address)
+            return Answer(TAKEN, f"{robot} left; its matches are kept")
+    except Refused as why:
+        return why.answer
+    except Fault as why:
+        return Answer(FAULTY, str(why))
+
+
+def is_theirs(store: Store, who: Who | None, robot: str) -> bool:
+    """Whether somebody may see and change a robot."""
+    if who is None:
+        return False
+    return who.is_organiser and robot in naming.taken(store) or who.number is not None and owners(store).get(robot) == who.number
+
+
+def author_names(store: Store) -> dict[str, str]:
+    """The names of the authors of robots."""
+    names = {it.number: it.name for it in authors(store)}
+    return {robot: names[number] for robot, number in owners(store).items()}

@@ -1,0 +1,187 @@
+"""The command serve: one process looks after two others, the web server and the player, and begins them anew if they end."""
+
+from __future__ import annotations
+
+import argparse
+import contextlib
+import glob
+import importlib
+import os
+import shutil
+import signal
+import socket
+import sys
+import tempfile
+import threading
+import time
+from types import FrameType
+from typing import Any, Callable
+from urllib.parse import urlsplit
+
+from leagues.store import opened
+from tools.faults import FILE, Fault
+from tools.output import say, show
+from tools.programs import found
+from tools.signals import Stopped, heeded
+from tournaments.programs import program
+
+from . import accounts, players, schema
+from .frames import Site
+from .judging import Programs
+
+# Debian has these for its own Python; another one of the same version finds them there.
+DEBIAN = "/usr/lib/python3/dist-packages"
+NEEDED = {"flask": "python3-flask", "waitress": "python3-waitress"}
+THREADS, BODY, HEAD, CONNECTIONS, IDLE = 8, 1 << 18, 1 << 14, 1000, 30
+LOCAL = "127.0.0.1"
+PAUSE = 1.0
+
+
+def serve(given: argparse.Namespace) -> None:
+    """Serves a league until a signal asks for the end."""
+    waitress = needed()
+    site = site_of(given)
+    with opened(given.league) as store:
+        schema.ready(store)
+        token = accounts.organiser(store)
+    with listening(given) as heard:
+        port = heard.getsockname()[1]
+        outside = site.outside or f"http://{given.address or LOCAL}:{port}"
+        show([f"The ladder is at {outside}{site.to('')}\n", *([f"The organiser joins at {outside}{site.to('join')}#{token}\n"] if token else [])])
+        clean()
+        # it is read once, and not by each child anew
+        importlib.import_module("ladder.app")
+        Keeper(given.script, [lambda: web(waitress, site, heard), lambda: play(given)]).keep()
+
+
+def needed() -> Any:
+    """The web server, if it and Flask are installed."""
+    for module, package in NEEDED.items():
+        try:
+            importlib.import_module(module)
+        except ImportError:
+            if os.path.isdir(DEBIAN) and DEBIAN not in sys.path:
+                sys.path.append(DEBIAN)
+                return needed()
+            raise Fault(f"serve needs {module}: apt-get install {package}") from None
+    return importlib.import_module("waitress")
+
+
+def site_of(given: argparse.Namespace) -> Site:
+    """What all pages share, by the words. An address from outside may have a path, below which the ladder is."""
+    folder = os.path.abspath(given.league)
+    parts = urlsplit(given.url or "")
+    return Site(folder, given.title or os.path.basename(folder), Programs(program(given.crobots).path, there("crobots-why"), there("crobots-trace")),
+                parts.path.rstrip("/"), f"{parts.scheme}://{parts.netloc}" if given.url else "")
+
+
+def there(name: str) -> str:
+    """A program that may be lacking."""
+    try:
+        return found(name)
+    except Fault:
+        return ""
+
+
+def listening(given: argparse.Namespace) -> socket.socket:
+    """The socket: of this machine alone, unless another address was given."""
+    host = given.address or ("0.0.0.0" if given.public else LOCAL)
+    try:
+        return socket.create_server((host, given.port), backlog=512)
+    except OSError as why:
+        raise Fault(f"cannot listen at {host}:{given.port}: {why.strerror}", FILE) from why
+
+
+def clean() -> None:
+    """Removes sources that a killed server was looking at. Young ones may be those of another server."""
+    for path in glob.glob(os.path.join(tempfile.gettempdir(), "crobots-ladder-*")):
+        with contextlib.suppress(OSError):
+            if os.stat(path).st_uid == os.getuid() and os.stat(path).st_mtime < time.time() - 600:
+                shutil.rmtree(path, ignore_errors=True)
+
+
+def web(waitress: Any, site: Site, heard: socket.socket) -> None:
+    """The web server."""
+    app = importlib.import_module("ladder.app").made(site)
+    waitress.serve(app, sockets=[heard], **options(site))
+
+
+def options(site: Site) -> dict[str, Any]:
+    """The limits of the web server. A proxy before it is on this machine, and says from where a request comes."""
+    found = {"threads": THREADS, "ident": None, "max_request_body_size": BODY, "max_request_header_size": HEAD, "connection_limit": CONNECTIONS,
+             "channel_timeout": IDLE, "url_scheme": "http", "clear_untrusted_proxy_headers": True}
+    return found | ({"trusted_proxy": LOCAL, "trusted_proxy_headers": {"x-forwarded-for"}} if site.outside else {})
+
+
+def play(given: argparse.Namespace) -> None:
+    """The player. If somebody else plays the league, it waits for its turn."""
+    while True:
+        try:
+            players.run(given.script, given.league, given.crobots, given.jobs, lambda: None)
+        except Fault as why:
+            say(given.script, str(why))
+            time.sleep(5)
+
+
+class Keeper:
+    """Keeps children alive. They end when it ends, however that is: each reads a pipe that ends then."""
+
+    def __init__(self, name: str, works: list[Callable[[], None]]) -> None:
+        self._name, self._works = name, works
+        self._children: dict[int, int] = {}
+        self._reading, self._writing = os.pipe()
+
+    def keep(self) -> None:
+        """Begins all, and begins again what ends, until a signal comes."""
+        try:
+            for at in range(len(self._works)):
+                self._begin(at)
+            while True:
+                child, status = os.wait()
+                at = self._children.pop(child)
+                say(self._name, f"the {('server', 'player')[at]} ended with status {os.waitstatus_to_exitcode(status)}, and begins again")
+                time.sleep(PAUSE)
+                self._begin(at)
+        finally:
+            self._end()
+
+    def _begin(self, at: int) -> None:
+        child = os.fork()
+        if child == 0:
+            self._be(self._works[at])
+        self._children[child] = at
+
+    def _be(self, work: Callable[[], None]) -> None:
+        """What a child does: it never comes back."""
+        status = 1
+        try:
+            os.close(self._writing)
+            for number in heeded():
+                signal.signal(number, stopped)
+            threading.Thread(target=self._mourn, daemon=True).start()
+            work()
+            status = 0
+        except (Fault, OSError) as why:
+            say(self._name, str(why))
+        except Stopped:
+            status = 0
+        finally:
+            os._exit(status)
+
+    def _mourn(self) -> None:
+        """Ends a child when its keeper is gone."""
+        os.read(self._reading, 1)
+        os._exit(0)
+
+    def _end(self) -> None:
+        for child in self._children:
+            with contextlib.suppress(OSError):
+                os.kill(child, signal.SIGTERM)
+        for child in self._children:
+            with contextlib.suppress(OSError):
+                os.waitpid(child, 0)
+
+
+def stopped(number: int, _: FrameType | None) -> None:
+    """Ends a child at once: all that was answered is on the disk."""
+    os._exit(0)

@@ -1,0 +1,108 @@
+"""Kills at any instant: nothing that was answered 'taken' is lost, and nothing is played twice."""
+
+from __future__ import annotations
+
+import http.client
+import os
+import random
+import signal
+import threading
+import time
+from typing import Iterator
+
+from .base import SECONDS, Base, Ladder, other
+
+# How many kills; by hand LADDER_KILLS makes them 30 of each.
+KILLS = int(os.environ.get("LADDER_KILLS", "5"))
+
+
+class Crashes(Base):
+    """Tests of kills."""
+
+    _RULES = ("-l300", "-m", "40")
+
+    def nothing_that_was_taken_is_lost(self) -> Iterator[str]:
+        """Server, player and all of it are killed in turns while robots are handed in and matches are played."""
+        ladder = self._made("kills")
+        ladder.terms(robots=1000, versions=10_000)
+        ladder.serve()
+        token, chance = ladder.author("Ann"), random.Random(1)
+        answers: list[int] = []
+        end = threading.Event()
+        sender = threading.Thread(target=send, args=(ladder, token, answers, end))
+        sender.start()
+        for at in range(KILLS):
+            more(answers)
+            time.sleep(chance.uniform(0, 0.5))
+            kill(ladder, chance.choice(children(ladder)) if at % 5 != 4 else 0)
+        more(answers)
+        end.set()
+        sender.join()
+        ladder.wait()
+        ladder.end()
+        yield from lost(ladder, answers)
+        yield from self._verified(ladder)
+
+    def _verified(self, ladder: Ladder) -> Iterator[str]:
+        """All matches are there once, the league plays on, and its archive is right."""
+        ladder.run("play", "--quiet")
+        seatings, twice = ladder.rows("SELECT count(*) FROM seating")[0][0], ladder.rows("SELECT count(*) - count(DISTINCT hashes || seed) FROM seating")[0][0]
+        robots = ladder.rows("SELECT count(*) FROM robot")[0][0]
+        matches = ladder.rows("SELECT count(*) FROM battle")[0][0]
+        if (seatings, twice, matches) != (robots * (robots - 1), 0, robots * (robots - 1) * 20):
+            yield f"{robots} robots: {seatings} seatings, {twice} twice, {matches} matches"
+        ladder.run("publish", self._at("site"), "--replays=0", "--sums=0")
+        archive = next(os.path.join(folder, name) for folder, _, names in os.walk(self._at("site")) for name in names if name.endswith(".zip"))
+        said = Ladder(archive, self._environment).verified()
+        if "no differences" not in said:
+            yield said
+
+
+def send(ladder: Ladder, token: str, answers: list[int], end: threading.Event) -> None:
+    """Hands in one robot after the other, a new one each tenth time, and notes which were answered 'taken'."""
+    at = 0
+    while not end.is_set():
+        at += 1
+        try:
+            answer = ladder.ask("PUT", f"/robots/r{at // 40}", other(at), token=token)
+        except (OSError, http.client.HTTPException):
+            time.sleep(0.05)
+            continue
+        if answer.status == 200:
+            answers.append(at)
+
+
+def more(answers: list[int]) -> None:
+    """Waits until one robot more was taken."""
+    before, end = len(answers), time.monotonic() + SECONDS
+    while len(answers) == before and time.monotonic() < end:
+        time.sleep(0.02)
+
+
+def lost(ladder: Ladder, answers: list[int]) -> Iterator[str]:
+    """What was answered 'taken' and isn't there."""
+    kept = {bytes(text).decode() for text, in ladder.rows("SELECT bytes FROM source JOIN entry USING (sha256)")}
+    gone = [at for at in answers if other(at) not in kept]
+    if gone or len(answers) < KILLS:
+        yield f"{len(gone)} of {len(answers)} are lost: {gone[:9]}"
+    noted = ladder.rows("SELECT count(*) FROM ladder_audit WHERE what = 'hand in'")[0][0]
+    if noted != len(ladder.rows("SELECT 1 FROM entry")):
+        yield f"{noted} hand-ins in the audit, {len(kept)} sources"
+
+
+def children(ladder: Ladder) -> list[int]:
+    """The processes of the server and the player."""
+    assert ladder.process
+    with open(f"/proc/{ladder.process.pid}/task/{ladder.process.pid}/children", encoding="ascii") as file:
+        return [*map(int, file.read().split())] or [0]
+
+
+def kill(ladder: Ladder, child: int) -> None:
+    """Kills a child, or all of it, and begins again then."""
+    assert ladder.process
+    if child:
+        os.kill(child, signal.SIGKILL)
+        return
+    ladder.process.kill()
+    ladder.process.wait()
+    ladder.serve()

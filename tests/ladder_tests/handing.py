@@ -1,0 +1,189 @@
+"""What is taken, and what is refused in words."""
+
+from __future__ import annotations
+
+import datetime
+import hashlib
+import os
+import subprocess
+import threading
+from typing import Iterator
+
+from .base import BAD, IDLE, LEAGUE, SHOOTER, Base, Ladder, other
+
+HUGE = "/*" + "x" * 65_536 + "*/" + IDLE
+TODAY = datetime.date.today()
+
+
+class Handing(Base):
+    """Tests of handing in."""
+
+    def each_way_keeps_the_very_bytes(self) -> Iterator[str]:
+        ladder, token = self._author("Ann")
+        ladder.terms(robots=9)
+        text = f"/* é */\r\n{SHOOTER}\n"
+        path = self._file("d.r", text)
+        link = f"{ladder.here}/join#{token}"
+        ways = {
+            "a": lambda: ladder.post("/robots", {"robot": "a"}, ("x.r", text.encode()), cookie=ladder.joined(token)).status == 200,
+            "b": lambda: ladder.post("/robots", {"robot": ""}, ("b.r", text.encode()), token=token).status == 200,
+            "c": lambda: subprocess.run(["curl", "-sfT", path, "-H", f"Authorization: Bearer {token}", f"{ladder.here}/robots/c.r"], capture_output=True, check=False).returncode == 0,
+            "d": lambda: subprocess.run([LEAGUE, "send", link, path], env=self._environment, capture_output=True, check=False).returncode == 0,
+        }
+        for robot, does in ways.items():
+            if not does():
+                yield f"{robot} isn't taken"
+            elif self._bytes(ladder, robot) != text.encode():
+                yield f"{robot}: {self._bytes(ladder, robot)!r}"
+        # a browser sends what was written in a field with other line ends
+        ladder.post("/robots", {"robot": "e", "source": IDLE + "\r\n\r\n"}, token=token)
+        if self._bytes(ladder, "e") != (IDLE + "\n\n").encode():
+            yield f"a field: {self._bytes(ladder, 'e')!r}"
+
+    def refusals_are_words(self) -> Iterator[str]:
+        ladder, token = self._author("Ben")
+        ladder.add("theirs", IDLE)
+        for name, text, status, words in (
+                ("huge", HUGE, 413, f"the source has {len(HUGE)} bytes, and 65536 are taken"), ("empty", "", 422, "the source is empty"),
+                ("theirs", SHOOTER, 403, "there is a robot theirs, and it isn't yours: choose another name"),
+                ("THEIRS", SHOOTER, 403, "there is a robot theirs, and it isn't yours: choose another name"),
+                ("%2d%2d", SHOOTER, 422, "a robot's name has letters, digits, '-', '_' and '.', at most 40, and begins with a letter or a digit")):
+            answer = ladder.ask("PUT", f"/robots/{name}", text, token=token)
+            if (answer.status, answer.text) != (status, f"{words}\n"):
+                yield f"{name}: {answer.status} {answer.text!r}"
+        yield from (f"{it} joined" for it, in ladder.rows("SELECT robot FROM ladder_owner JOIN ladder_author ON number = author WHERE name = 'Ben'"))
+
+    def limits_of_an_author(self) -> Iterator[str]:
+        ladder = self._new("limits")
+        token = ladder.author("Ann")
+        ladder.terms(robots=2, versions=4)
+        found = [ladder.ask("PUT", f"/robots/r{at}", other(at), token=token) for at in range(3)]
+        if [it.status for it in found] != [200, 200, 429] or "you have 2 robots" not in found[2].text:
+            yield f"robots: {[(it.status, it.text) for it in found]}"
+        found = [ladder.ask("PUT", "/robots/r0", other(at), token=token) for at in (5, 6, 7)]
+        if [it.status for it in found] != [200, 200, 429] or "within an hour" not in found[2].text:
+            yield f"versions: {[(it.status, it.text) for it in found]}"
+        again = ladder.ask("PUT", "/robots/r0", other(6), token=token)
+        if (again.status, again.text) != (200, "taken: r0, version 3\n"):
+            yield f"the same bytes beyond the limit: {again.status} {again.text}"
+
+    def days_of_a_hand_in(self) -> Iterator[str]:
+        ladder = self._new("days")
+        token = ladder.author("Ann")
+        for days, wanted in (((1, 9, 0), f"the hand-in opens on {day(1)}"), ((-9, -1, 0), f"the hand-in closed on {day(-1)}"),
+                             ((-9, -2, 1), f"the hand-in closed on {day(-1)}"), ((-9, -1, 1), "taken: r, version 1 (in the days of grace)"),
+                             ((0, 0, 0), "taken: r, version 2")):
+            ladder.terms(opens=day(days[0]), closes=day(days[1]), grace=days[2])
+            answer = ladder.ask("PUT", "/robots/r", other(days[0]), token=token)
+            if answer.text != f"{wanted}\n":
+                yield f"{days}: {answer.text!r}"
+
+    def the_same_bytes_again_are_taken(self) -> Iterator[str]:
+        ladder, token = self._author("Cid")
+        found = [ladder.ask("PUT", "/robots/same", IDLE, token=token).text for _ in range(3)]
+        if {*found} != {"taken: same, version 1\n"} or len(ladder.rows("SELECT 1 FROM entry WHERE robot = 'same'")) != 1:
+            yield f"{found}"
+
+    def versions_and_back(self) -> Iterator[str]:
+        ladder, token = self._author("Dan")
+        for at in (1, 2):
+            ladder.ask("PUT", "/robots/v", other(at), token=token)
+        steps = [(lambda: ladder.post("/robots/v/back", {"version": "1"}, token=token), (200, "taken: v, version 3\n")),
+                 (lambda: ladder.post("/robots/v/back", {"version": "9"}, token=token), (404, "there is no version 9 of v\n")),
+                 (lambda: ladder.post("/robots/v/withdraw", token=token), (200, "v left; its matches are kept\n")),
+                 (lambda: ladder.post("/robots/v/withdraw", token=token), (422, "the robot v has left already\n")),
+                 (lambda: ladder.ask("PUT", "/robots/v", other(1), token=token), (200, "taken: v, version 4\n"))]
+        for at, (does, wanted) in enumerate(steps):
+            it = does()
+            if (it.status, it.text) != wanted:
+                yield f"step {at}: {it.status} {it.text!r}"
+        entries = ladder.rows("SELECT what, sha256 FROM entry WHERE robot = 'v' ORDER BY number")
+        one, two = (hashlib.sha256(other(at).encode()).hexdigest() for at in (1, 2))
+        if entries != [("add", one), ("change", two), ("change", one), ("withdraw", one), ("change", one)]:
+            yield f"{entries}"
+
+    def a_fault_is_explained(self) -> Iterator[str]:
+        ladder, token = self._author("Eve")
+        answer = ladder.ask("PUT", "/robots/bad", BAD, token=token)
+        path = self._file("bad.r", BAD)
+        said = subprocess.run(["crobots-why", os.path.basename(path)], cwd=self._folder, env=self._environment, capture_output=True, text=True, check=False).stdout
+        if answer.status != 422 or answer.text.strip() != said.strip() or "break" not in said:
+            yield f"{answer.status} {answer.text!r}, not {said!r}"
+        if ladder.rows("SELECT 1 FROM robot WHERE id = 'bad'"):
+            yield "it joined"
+
+    def a_wrong_clock_keeps_nobody_out(self) -> Iterator[str]:
+        ladder = self._new("clock")
+        token = ladder.author("Ann")
+        ladder.add("late", IDLE, "2099-01-01")
+        answer = ladder.ask("PUT", "/robots/r", SHOOTER, token=token)
+        if answer.status != 200:
+            yield f"{answer.status} {answer.text}"
+
+    def a_full_disk_takes_nothing(self) -> Iterator[str]:
+        ladder = self._new("full")
+        token = ladder.author("Ann")
+        ladder.terms(floor=1_000_000)
+        before = ladder.written()
+        free = os.statvfs(ladder.folder)
+        wanted = 200 if free.f_bavail * free.f_frsize > 10**12 else 507
+        answer = ladder.ask("PUT", "/robots/r", SHOOTER, token=token)
+        if answer.status != wanted or wanted == 507 and ladder.written() != before:
+            yield f"{answer.status} {answer.text}"
+
+    def who_keeps_sources_back_shows_none(self) -> Iterator[str]:
+        """Each of the rules: sources of others are shown only if the season and the terms say so."""
+        for season, term, wanted in (("shown", "all", 200), ("shown", "author", 404), ("hidden", "all", 404), ("hidden", "author", 404)):
+            ladder = self._new(f"{season}{term}", f"--sources={season}")
+            ladder.terms(readers=term)
+            ann, bob = ladder.author("Ann"), ladder.author("Bob")
+            ladder.ask("PUT", "/robots/r", IDLE, token=ann)
+            found = [ladder.ask("GET", "/robots/r/versions/1", token=it) for it in (ann, bob, "")]
+            if [it.status for it in found] != [200, wanted, wanted]:
+                yield f"{season}, {term}: {[it.status for it in found]}"
+            if found[0].text != IDLE or not found[0].heads["content-type"].startswith("text/plain") or "attachment" not in found[0].heads["content-disposition"]:
+                yield f"{found[0]}"
+            ladder.end()
+
+    def names_that_aren_t_shown_are_nowhere(self) -> Iterator[str]:
+        ladder = self._new("names")
+        ladder.terms(names=False)
+        token = ladder.author("Zacharias")
+        ladder.ask("PUT", "/robots/r", IDLE, token=token)
+        for path in ("/", "/table", "/wall", "/robots/r"):
+            if "Zacharias" in ladder.ask("GET", path).text:
+                yield f"{path} has the name"
+        ladder.run("publish", self._at("names-site"))
+        for folder, _, files in os.walk(self._at("names-site")):
+            for name in files:
+                with open(os.path.join(folder, name), "rb") as file:
+                    if b"Zacharias" in file.read():
+                        yield f"{name} has the name"
+
+    def many_at_once_are_all_taken(self) -> Iterator[str]:
+        ladder = self._new("many")
+        tokens = [ladder.author(f"a{at}") for at in range(8)]
+        found: list[int] = []
+
+        def send(at: int) -> None:
+            found.extend(ladder.ask("PUT", f"/robots/m{at}x{one}", other(100 * at + one), token=tokens[at]).status for one in range(3))
+
+        them = [threading.Thread(target=send, args=(at,)) for at in range(8)]
+        for it in them:
+            it.start()
+        for it in them:
+            it.join()
+        if found != [200] * 24 or len(ladder.rows("SELECT 1 FROM ladder_owner")) != 24:
+            yield f"{found}"
+
+    def _author(self, name: str) -> tuple[Ladder, str]:
+        ladder = self._ladder()
+        return ladder, ladder.author(name)
+
+    def _bytes(self, ladder: Ladder, robot: str) -> bytes:
+        rows = ladder.rows("SELECT bytes FROM source JOIN entry USING (sha256) WHERE robot = ? ORDER BY number DESC LIMIT 1", robot)
+        return bytes(rows[0][0]) if rows else b""
+
+
+def day(from_today: int) -> str:
+    return (TODAY + datetime.timedelta(from_today)).isoformat()

@@ -1,0 +1,176 @@
+"""Tests of the first second: what sees who comes for the first time, who comes by a link, and who comes back."""
+
+from __future__ import annotations
+
+from typing import Callable, Iterator
+
+from .battles import Battle, Settings, samples
+from .pages import Page, as_loaded, fragment
+
+SIZES = ((1366, 768), (1920, 1080), (740, 360), (360, 740))
+PLAYER = "document.getElementById('film').contentWindow?.player"
+MOVES = f"return {PLAYER}?.isPlaying && {PLAYER}.cycle > {PLAYER}.match.first"
+# where things are in the window, scrolled nowhere
+BOXES = """const film = document.getElementById('film'), top = film.getBoundingClientRect().top;
+    const of = it => { const {top, bottom} = it.getBoundingClientRect(); return [top, bottom]; };
+    const inside = id => of(film.contentDocument.getElementById(id)).map(it => it + top);
+    return {field: inside('field'), play: inside('play-pause'), run: of(document.getElementById('run')), beat: of(document.getElementById('beat')),
+        window: [scrollY, innerHeight]}"""
+# notes when a picture of a match that moves was drawn first
+WATCH = """if (top === window) { const look = () => { const player = document.getElementById('film')?.contentWindow?.player;
+    if (player?.isPlaying && player.cycle > player.match.first) window.firstMoved = performance.now(); else requestAnimationFrame(look); };
+    document.addEventListener('DOMContentLoaded', look); }"""
+# the most milliseconds until then, on a processor that is slowed down four times; of some openings the fastest counts
+MOST, SLOWDOWN, OPENINGS = 1000, 4, 12
+MOVER = ("mover.r", b"main() { while (1) drive(90, 50); }")
+STILL = ("still.r", b"main() { }")
+
+
+def in_sight(page: Page) -> list[str]:
+    """Who comes for the first time sees a match that plays, with its field, its play button, Run and what there is to do about it in the
+    window at once; what has the focus keeps it."""
+    wrong = []
+    for size in SIZES:
+        page.size(*size)
+        page.fresh()
+        page.wait(MOVES)
+        boxes, focus = page.js(BOXES), page.js("return document.activeElement.tagName")
+        _, height = boxes["window"]
+        wrong += [f"{size}: {name} at {box}" for name, box in boxes.items() if box[0] < 0 or box[1] > height or box[1] <= box[0]]
+        wrong += [] if boxes["window"][0] == 0 and focus == "BODY" else [f"{size}: scrolled to {boxes['window'][0]}, the focus is at {focus}"]
+    page.whole_window()
+    return wrong
+
+
+def drawers(page: Page) -> list[str]:
+    """Listing, Inside and all else that opens are closed at first; on a wide window the three places stand side by side."""
+    page.size(1920, 1080)
+    page.fresh()
+    page.wait(MOVES)
+    left = page.js("return ['workbench', 'replay', 'battle'].map(id => document.getElementById(id).getBoundingClientRect()).map(it => [it.left, it.right, it.top])")
+    opened = page.js("return [...document.querySelectorAll('details')].filter(it => it.open).map(it => it.id)")
+    page.whole_window()
+    beside = left[0][1] <= left[1][0] < left[1][1] <= left[2][0] and len({top for _, _, top in left}) == 1
+    return [] if beside and not opened else [f"{left}, open: {opened}"]
+
+
+def beat(page: Page) -> list[str]:
+    """To write a robot that beats the match begins a battle of a new robot against its winner, and leads to the editor."""
+    page.fresh()
+    page.wait(MOVES)
+    page.inside("it.getElementById('to-end').click()")
+    alive = page.js(f"return {PLAYER}.match.robots.filter(it => it.death === null).map(it => it.name)")
+    page.click("beat")
+    page.wait("return document.querySelector('.CodeMirror').contains(document.activeElement)")
+    names, shown = page.names, page.js("return [document.getElementById('welcome').hidden, document.getElementById('controls').hidden]")
+    right = len(alive) == 1 and names == ["robot1.r", alive[0]] and page.source.startswith("main()") and shown == [True, False]
+    return [] if right and f"{alive[0]} is against it" in page.seen("noted") else [f"{alive} {names} {shown} {page.seen('noted')}"]
+
+
+def at_once(page: Page) -> list[str]:
+    """Run and Watch work at once, whatever the page plays of its own accord then."""
+    wrong = []
+    for _ in range(3):
+        page.fresh()
+        if not page.run().startswith("Match 1: ") or page.seen("welcome"):
+            wrong.append(page.text("said"))
+        page.fresh()
+        page.watch(2)
+        heading = page.inside("return it.getElementById('heading').textContent")
+        wrong += [] if heading == "Match 2: hunter.r and sniper.r" and not page.seen("welcome") else [heading]
+    return wrong
+
+
+def by_link(page: Page) -> list[str]:
+    """Who comes by a link sees its battle play: the moment that it names, with the robot that is followed, or else its first match."""
+    battle = Battle([MOVER, STILL], Settings(limit=3_000, first=4))
+    wrong = []
+    for tail, number, least, robot in (("", 4, 0, 0), ("&match=3&cycle=900", 3, 600, 0), ("&match=3&cycle=900&robot=2", 3, 600, 2),
+                                       ("&match=3&cycle=900&robot=3", 4, 0, 0)):
+        page.fresh(fragment(battle) + tail)
+        page.wait(MOVES)
+        cycle, chosen, heading = page.js(f"return [{PLAYER}.cycle, {PLAYER}.chosen, {PLAYER}.match && document.getElementById('film').contentDocument"
+                                         ".getElementById('heading').textContent]")
+        right = heading == f"Match {number}: mover.r and still.r" and cycle >= least and (cycle < 590) == (least == 0) and chosen == robot
+        wrong += [] if right and page.seen("welcome") == "" else [f"{tail}: {heading}, cycle {cycle}, robot {chosen}"]
+    return wrong + sent(page)
+
+
+def sent(page: Page) -> list[str]:
+    """A link to a moment names the robot that is followed."""
+    page.show(Battle([MOVER, STILL], Settings(limit=3_000)))
+    page.watch(1, 600)
+    links = []
+    for _ in range(2):
+        page.click("link-moment")
+        page.wait("return document.getElementById('told').textContent.startsWith('The link')")
+        links.append(page.js("return location.hash.split('&').slice(1)"))
+        page.inside("it.querySelectorAll('.number')[1].click()")
+        page.js("document.getElementById('told').textContent = ''")
+    return [] if links == [["match=1", "cycle=600"], ["match=1", "cycle=600", "robot=2"]] else [f"{links}"]
+
+
+def faulty_link(page: Page) -> list[str]:
+    """A link to a battle that can't be played leads to where its robots are written."""
+    page.size(360, 740)
+    page.fresh(fragment(Battle([("a.r", b"main() { break; }"), STILL])))
+    page.wait("return document.getElementById('told').textContent.startsWith('No match was played')")
+    page.wait("return document.getElementById('workbench').offsetWidth > 0")
+    page.whole_window()
+    return []
+
+
+def back(page: Page) -> list[str]:
+    """Who comes back sees the robots as they were left, and no match."""
+    page.fresh()
+    page.write(MOVER[1].decode())
+    page.open()
+    page.wait("return !document.getElementById('run').disabled")
+    shown = page.js("return [document.getElementById('welcome').hidden, document.getElementById('film').hidden, document.getElementById('main').dataset.place]")
+    return [] if page.source == MOVER[1].decode() and shown == [True, True, "write"] else [f"{shown} {page.source[:40]}"]
+
+
+def calm(page: Page) -> list[str]:
+    """Who wants no motion sees the match's first picture, and its play button."""
+    page.media(reduced_motion="reduce")
+    page.fresh()
+    page.wait(f"return Boolean({PLAYER})")
+    stands = page.js(f"return [{PLAYER}.isPlaying, {PLAYER}.cycle, document.getElementById('film').contentDocument.getElementById('play-pause').ariaLabel]")
+    page.media()
+    return [] if stands == [False, 0, "play"] else [f"{stands}"]
+
+
+def soon(page: Page) -> list[str]:
+    """On a slow processor the first picture of a match that moves comes within a second."""
+    least = float("inf")
+    page.driver.execute_cdp_cmd("Emulation.setCPUThrottlingRate", {"rate": SLOWDOWN})
+    with page.before(WATCH):
+        for _ in range(OPENINGS):
+            page.fresh()
+            least = min(least, page.wait("return window.firstMoved"))
+            if least <= MOST:
+                break
+    page.driver.execute_cdp_cmd("Emulation.setCPUThrottlingRate", {"rate": 1})
+    print(f"the first match moves in {page.driver.name}, slowed down {SLOWDOWN} times, after {least:.0f} ms")
+    return [] if least <= as_loaded(MOST) else [f"the first match moves after {least:.0f} ms"]
+
+
+def samples_are_there(page: Page) -> list[str]:
+    """The robots of the match are those in the tabs."""
+    page.fresh()
+    known = dict(samples())
+    return [] if page.names == ["hunter.r", "sniper.r"] and page.source == known["hunter.r"].decode() else [f"{page.names}"]
+
+
+# what each browser shows, and what only Chromium's driver can look at
+SHOWN: dict[str, Callable[[Page], list[str]]] = {
+    "in sight": in_sight, "drawers": drawers, "a robot that beats it": beat, "at once": at_once, "by a link": by_link, "a link that is faulty": faulty_link,
+    "coming back": back, "its robots": samples_are_there,
+}
+DRIVEN: dict[str, Callable[[Page], list[str]]] = {"no motion": calm, "soon": soon}
+
+
+def results(page: Page, is_chromium: bool = False) -> Iterator[tuple[str, list[str]]]:
+    """The tests' names, and what is wrong."""
+    for name, test in (SHOWN | DRIVEN if is_chromium else SHOWN).items():
+        yield f"the first second: {name}", test(page)
