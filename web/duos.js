@@ -41,7 +41,7 @@ export class Duo {
     /** @param {import("./calling.js").Bench} bench */
     constructor(bench) {
         this.bench = bench;
-        this.halves = ["duo-old", "duo-fresh"].map(id => new Half(byId(id), null, {isWide: false}));
+        this.halves = ["duo-old", "duo-fresh"].map(id => new Half(byId(id), {isWide: false}));
         this.halves.forEach(it => { it.isBeside = true; });
         this.isPlaying = false;
         byId("duo-play").addEventListener("click", () => this.play(!this.isPlaying));

@@ -60,7 +60,7 @@ function levels(samples) {
 }
 
 class Page {
-    constructor({compiler, runner}, data, editor, keeper) {
+    constructor({compiler, runner, newCaller}, data, editor, keeper) {
         this.data = data;
         const known = [...data.robots, ...data.steps].map(({source}) => source);
         const most = keeper.database ? MOST_BYTES : MOST_LOCAL_BYTES;
@@ -175,10 +175,11 @@ export async function make(module) {
     byId("main").hidden = false;
     const address = workerOf(data);
     // the module is compiled in its workers meanwhile
-    const [compiler, runner] = [new Caller(address, module), new Caller(address, module)];
+    const newCaller = () => new Caller(address, module);
+    const [compiler, runner] = [newCaller(), newCaller()];
     const [battle, editor, keeper] = await Promise.all([battleOf(location.hash), makeEditor(byId("source"), data.editor), keeperOf()]);
     const kept = await keeper.load();
-    const page = new Page({compiler, runner}, data, editor, keeper);
+    const page = new Page({compiler, runner, newCaller}, data, editor, keeper);
     helpWriting(editor, data.functions);
     const moment = battle && linkedMoment(location.hash, battle);
     page.store.take(kept);

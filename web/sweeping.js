@@ -7,10 +7,12 @@ import {byId, made} from "./dom.js";
 import {fixed, withSign} from "./intervals.js";
 import {NOTHING, matchesOf, sweepOf} from "./sweeps.js";
 import {opponentsOf} from "./trials.js";
-import {constantsOf, tunablesOf} from "./tuning.js";
+import {constantsOf, countOf, tunablesOf} from "./tuning.js";
 
 const HEADS = ["value", "points", "change", "95 % interval", "matches", "verdict"];
 
+// of a number with more values one learns nothing that one of fewer steps wouldn't say, and the page would be busy for long
+const MOST_VALUES = 100;
 const CAPTION = "'Better' and 'worse' hold for all values at once in 99 of 100 sweeps";
 
 function cellsOf({value, points, change, matches, verdict}) {
@@ -88,8 +90,10 @@ export class Sweeping {
     async sweep(source, number) {
         const {each} = this.choice;
         const opponents = opponentsOf(this.choice.robots, [source]);
-        if (!each || !opponents.length) {
-            this.tell(each ? "There is no other robot to play against: choose others." : "");
+        const count = countOf(number);
+        if (!each || !opponents.length || count > MOST_VALUES) {
+            const many = `${number.name} has ${count.toLocaleString("en")} values, and ${MOST_VALUES} are the most here: give its mark a greater step.`;
+            this.tell(!each ? "" : opponents.length ? many : "There is no other robot to play against: choose others.");
             return;
         }
         const run = this.bench.begin();

@@ -160,10 +160,15 @@ export function coarse(width, many) {
     }
 }
 
+const stepOf = ({low, high, step}) => step ?? coarse(high - low, VALUES);
+
+/** How many values a sweep has, but for today's if that isn't one of its steps. */
+export const countOf = range => Math.floor((range.high - range.low) / stepOf(range)) + 1;
+
 /** The values of a sweep in their order, today's among them. */
-export function valuesOf({low, high, step, value}) {
-    const each = step ?? coarse(high - low, VALUES);
-    const values = Array.from({length: Math.floor((high - low) / each) + 1}, (_, at) => low + at * each);
+export function valuesOf(range) {
+    const {low, value} = range;
+    const values = Array.from({length: countOf(range)}, (_, at) => low + at * stepOf(range));
     return [...new Set([...values, value])].sort((one, other) => one - other);
 }
 
