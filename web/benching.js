@@ -20,7 +20,8 @@ export class Choice {
         this.store = store;
         this.samples = samples;
         this.select = document.createElement("select");
-        this.matches = Object.assign(document.createElement("input"), {type: "number", min: "4", max: `${MOST_MATCHES}`, required: true, value: `${USUAL_MATCHES}`});
+        this.matches = Object.assign(document.createElement("input"),
+            {type: "number", min: "4", max: `${MOST_MATCHES}`, required: true, value: `${USUAL_MATCHES}`});
         this.byLevel = byLevel;
         box.replaceChildren(...Object.entries({Against: this.select, "Matches against each": this.matches}).map(([name, field]) => {
             const label = made("label", `${name} `);
@@ -37,7 +38,8 @@ export class Choice {
         const {value} = this.select;
         if (names.join() !== [...this.select.options].map(it => it.value).join()) {
             this.select.replaceChildren(...names.map(name => new Option(name, name)));
-            this.select.value = names.includes(value) ? value : names.find(name => !this.byLevel || name.startsWith("samples")) ?? names[0];
+            const usual = names.find(name => !this.byLevel || name.startsWith("samples"));
+            this.select.value = names.includes(value) ? value : usual ?? names[0];
         }
     }
 

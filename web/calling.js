@@ -63,23 +63,30 @@ export class Caller {
     }
 }
 
-/** An engine of its own for trials, which starts when it is first needed. It does one thing at a time: what begins ends what ran. */
+/**
+ * @typedef {{isOver: boolean, call: (call: string, settings: any, robots: any) => Promise<any>,
+ *     run: (settings: any, robots: any) => Promise<any>}} Run
+ */
+
+/** An engine of its own for trials, which starts when it is needed. It does one thing at a time: what begins ends what ran. */
 export class Bench {
     /** @param {() => Caller} newCaller */
     constructor(newCaller) {
         this.newCaller = newCaller;
         /** @type {Caller | null} */
         this.caller = null;
-        /** @type {{isOver: boolean, call: (call: string, settings: any, robots: any) => Promise<any>} | null} */
+        /** @type {Run | null} */
         this.run = null;
     }
 
-    /** Begins something. Returns a run, whose `call` calls the engine and fails once the run was stopped. */
+    /** Begins something. Returns a run, whose `call` calls the engine and fails once it was stopped; `run` is that of matches. */
     begin() {
         this.stop();
         this.caller ??= this.newCaller();
         const {caller} = this;
-        const run = {isOver: false, call: (call, settings, robots) => run.isOver ? Promise.reject(new Error(STOPPED)) : caller.call(call, settings, robots)};
+        const call = (name, ...words) => run.isOver ? Promise.reject(new Error(STOPPED)) : caller.call(name, words[0], words[1]);
+        /** @type {Run} */
+        const run = {isOver: false, call, run: (settings, robots) => call("run", settings, robots)};
         this.run = run;
         return run;
     }

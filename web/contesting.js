@@ -17,15 +17,17 @@ const cellsOf = ({name, fresh, old, change}) =>
 
 /** What a change is, in words. */
 function verdictOf(change) {
-    return isSure(change) ? `The interval excludes 0: ${change.low > 0 ? "a gain" : "a loss"}.` : "No difference that these matches could show.";
+    const kind = change.low > 0 ? "a gain" : "a loss";
+    return isSure(change) ? `The interval excludes 0: ${kind}.` : "No difference that these matches could show.";
 }
 
 /** The result in words. */
 export function toldOf({all, opponents}, each, name) {
-    const [gained, lost] = [it => it.low > 0, it => it.high < 0].map(is => opponents.filter(({change}) => is(change)).map(it => it.name).join(", ") || "none");
-    return `${name} as it is now, in place of its version: ${signed(all.change.value)} points a match, 95 % interval ${signed(all.change.low)} to `
-        + `${signed(all.change.high)}, by ${2 * each} matches against each of ${opponents.length}. ${verdictOf(all.change)} `
-        + `Gained on: ${gained}. Lost on: ${lost}.`;
+    const listed = is => opponents.filter(({change}) => is(change)).map(it => it.name).join(", ") || "none";
+    const {value, low, high} = all.change;
+    return `${name} as it is now, in place of its version: ${signed(value)} points a match, 95 % interval ${signed(low)} to `
+        + `${signed(high)}, by ${2 * each} matches against each of ${opponents.length}. ${verdictOf(all.change)} `
+        + `Gained on: ${listed(it => it.low > 0)}. Lost on: ${listed(it => it.high < 0)}.`;
 }
 
 export class Contesting {
@@ -72,7 +74,8 @@ export class Contesting {
             this.tell(each ? "There is no other robot to play against: choose others." : "");
             return;
         }
-        const task = {name: fresh.name, fresh: fresh.source, old: old.source, settings: {...store.battle.settings}, each, opponents};
+        const settings = {...store.battle.settings};
+        const task = {name: fresh.name, fresh: fresh.source, old: old.source, settings, each, opponents};
         const run = this.bench.begin();
         byId("contest").replaceChildren();
         this.tell("Both are playing.");
@@ -81,8 +84,7 @@ export class Contesting {
         this.far.begin(run, matchesOf(opponents, each));
         reveal(byId("contest-told"));
         try {
-            const found = await contestOf({...task, call: (settings, robots) => run.call("run", settings, robots), onSlice: count => this.far.add(run, count)});
-            this.show(task, found);
+            this.show(task, await contestOf({...task, call: run.run, onSlice: count => this.far.add(run, count)}));
         } catch (fault) {
             this.far.end(run, () => this.tell(fault.message === STOPPED ? "Stopped." : fault.message));
         }
@@ -97,7 +99,8 @@ export class Contesting {
         const more = flipped.length > MOST_SHOWN ? [made("p", `${flipped.length - MOST_SHOWN} more changed.`)] : [];
         const list = made("ol", "", "flipped");
         list.append(...rows);
-        byId("contest").replaceChildren(table, made("p", `${flipped.length} of ${count} matches changed${rows.length ? "; press one to see both films" : ""}.`), list, ...more);
+        const told = `${flipped.length} of ${count} matches changed${rows.length ? "; press one to see both films" : ""}.`;
+        byId("contest").replaceChildren(table, made("p", told), list, ...more);
     }
 
     /** A match that changed, as a button that shows both. */
@@ -112,7 +115,8 @@ export class Contesting {
     /** The match with the version, and with the robot as it is now. */
     battles({name, old, fresh, settings: {limit, profile}}, {opponent, isFirst, seed, number}) {
         const settings = {limit, profile, seed, first: number};
-        const battles = [old, fresh].map(source => seated(source, opponent.source, isFirst).map((it, at) => ({...it, name: (at === 0) === isFirst ? name : opponent.name})));
-        return {settings, battles, heads: ["The version", "Now"]};
+        const names = isFirst ? [name, opponent.name] : [opponent.name, name];
+        const named = source => seated(source, opponent.source, isFirst).map((it, at) => ({...it, name: names[at]}));
+        return {settings, battles: [old, fresh].map(named), heads: ["The version", "Now"]};
     }
 }

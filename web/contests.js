@@ -13,7 +13,10 @@ import {POINTS, Trials, opponentsOf, startsOf} from "./trials.js";
 const average = numbers => numbers.reduce((whole, it) => whole + it, 0) / numbers.length;
 const pointsOf = (pairs, version) => pairs.map(it => POINTS[it[version].did]);
 
-/** What pairs of matches are worth: a class for each opponent. @returns {Worth} */
+/**
+ * What pairs of matches are worth: a class for each opponent.
+ * @returns {Worth}
+ */
 function worthOf(name, classes) {
     const pairs = classes.flat();
     return {

@@ -29,11 +29,14 @@ const signed = value => withSign(value, 2);
 /** What is drawn of a row: its dot with what a pointer says of it. */
 function dotOf({value, change, verdict}, x, y) {
     const kind = {better: "better", worse: "worse", "today's": "today"}[verdict] ?? "value";
-    const words = `${value}: ${signed(change.value)} (${signed(change.low)} to ${signed(change.high)})${verdict ? `, ${verdict}` : ""}`;
+    const words = `${value}: ${signed(change.value)} (${signed(change.low)} to ${signed(change.high)}), ${verdict}`;
     return drawn("circle", {cx: x, cy: y, r: kind === "today" ? 5 : 4, class: kind}, drawn("title", {}, words));
 }
 
-/** The lines and the numbers beside and below the curve. @param {number[][]} ends */
+/**
+ * The lines and the numbers beside and below the curve.
+ * @param {number[][]} ends
+ */
 function axes(up, along, ends) {
     const [heights, widths] = ends.map(([low, high]) => ticksOf(low, high));
     const lines = heights.flatMap(tick => [
@@ -56,10 +59,12 @@ export function curveOf(rows, number) {
     const way = rows.map(({value, change}) => `${along(value)},${up(change.value)}`);
     const [top, bottom] = ["high", "low"].map(side => rows.map(({value, change}) => `${along(value)},${up(change[side])}`));
     const x = along(number.value);
-    return drawn("svg", {viewBox: `0 0 ${WIDTH} ${HEIGHT}`, role: "img", "aria-label": `Change in points by ${number.name}; the table below has the numbers`, class: "curve"},
+    const label = `Change in points by ${number.name}; the table below has the numbers`;
+    return drawn("svg", {viewBox: `0 0 ${WIDTH} ${HEIGHT}`, role: "img", "aria-label": label, class: "curve"},
         ...axes(up, along, [heights, widths]),
         drawn("line", {x1: x, x2: x, y1: TOP, y2: HEIGHT - BOTTOM, class: "now"}),
-        drawn("polygon", {points: [...top, ...bottom.reverse()].join(" "), class: "band"}), drawn("polyline", {points: way.join(" "), class: "way"}),
+        drawn("polygon", {points: [...top, ...bottom.reverse()].join(" "), class: "band"}),
+        drawn("polyline", {points: way.join(" "), class: "way"}),
         ...rows.map(row => dotOf(row, along(row.value), up(row.change.value))),
         drawn("text", {x, y: HEIGHT - 8, "text-anchor": "middle", class: "now"}, `today's ${number.value}`));
 }

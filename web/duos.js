@@ -41,7 +41,7 @@ export class Duo {
     /** @param {import("./calling.js").Bench} bench */
     constructor(bench) {
         this.bench = bench;
-        this.halves = ["duo-old", "duo-fresh"].map(id => new Half(byId(id), null, {isWide: false}));
+        this.halves = ["duo-old", "duo-fresh"].map(id => new Half(byId(id), {isWide: false}));
         this.halves.forEach(it => { it.isBeside = true; });
         this.isPlaying = false;
         byId("duo-play").addEventListener("click", () => this.play(!this.isPlaying));
@@ -93,7 +93,8 @@ export class Duo {
         byId("duo-slider").max = `${this.last}`;
         byId("duo-mark").hidden = byId("duo-parting").disabled = this.parting === null;
         byId("duo-mark").style.setProperty("--part", `${(this.parting ?? 0) / this.last}`);
-        byId("duo-parting").textContent = this.parting === null ? "They never differ" : `To the first difference: cycle ${shown(this.parting)}`;
+        const told = `To the first difference: cycle ${shown(this.parting ?? 0)}`;
+        byId("duo-parting").textContent = this.parting === null ? "They never differ" : told;
     }
 
     /** Goes to a cycle, and pauses there. */
@@ -108,7 +109,8 @@ export class Duo {
         byId("duo-slider").value = `${Math.floor(this.cycle)}`;
         const isApart = this.parting !== null && this.cycle >= this.parting;
         byId("duo").classList.toggle("apart", isApart);
-        byId("duo-told").textContent = `cycle ${shown(this.cycle)} of ${shown(this.last)}: ${isApart ? `apart since cycle ${shown(this.parting)}` : "the same so far"}`;
+        const told = isApart ? `apart since cycle ${shown(this.parting)}` : "the same so far";
+        byId("duo-told").textContent = `cycle ${shown(this.cycle)} of ${shown(this.last)}: ${told}`;
     }
 
     play(isPlaying) {

@@ -1,13 +1,13 @@
 // Intervals of means: how sure a difference is. This is the one place of the page that works them out.
 //
-// `meanOf` is what crobots-challenge says of a change, `estimateOf` what crobots-tune says of a value; both by Student's distribution.
+// They are those of crobots-challenge and crobots-tune, by Student's distribution.
 
 /** @typedef {{value: number, low: number, high: number}} Interval */
 
 const NORMAL = 1.959964;
-// the quantiles of one and two degrees of freedom, for which the series is no use
-const FEW = [0, 12.7062, 4.3027];
-// Wichura's AS 241: the quotients of polynomials by which a normal quantile is found, the highest power first
+const LEVEL = 0.95;
+// Wichura's AS 241: the quotients of polynomials by which a normal quantile is found, the highest power first. His third one is for
+// chances below 1 in 10 ** 10, which nothing here asks for.
 const MIDDLE = [
     [2509.0809287301226727, 33430.575583588128105, 67265.770927008700853, 45921.953931549871457, 13731.693765509461125,
         1971.5909503065514427, 133.14166789178437745, 3.387132872796366608],
@@ -20,17 +20,14 @@ const NEAR = [
     [1.05075007164441684324e-9, 5.475938084995344946e-4, 0.0151986665636164571966, 0.14810397642748007459, 0.68976733498510000455,
         1.6763848301838038494, 2.05319162663775882187, 1],
 ];
-const FAR = [
-    [2.01033439929228813265e-7, 2.71155556874348757815e-5, 0.0012426609473880784386, 0.026532189526576123093, 0.29656057182850489123,
-        1.7848265399172913358, 5.4637849111641143699, 6.6579046435011037772],
-    [2.04426310338993978564e-15, 1.4215117583164458887e-7, 1.8463183175100546818e-5, 7.868691311456132591e-4, 0.0148753612908506148525,
-        0.13692988092273580531, 0.59983220655588793769, 1],
-];
 
 const sum = numbers => numbers.reduce((whole, it) => whole + it, 0);
 const average = numbers => sum(numbers) / numbers.length;
 
-/** The quotient of two polynomials. @param {number[][]} both */
+/**
+ * The quotient of two polynomials.
+ * @param {number[][]} both
+ */
 function quotient(both, x) {
     const [above, below] = both.map(factors => factors.reduce((value, factor) => value * x + factor, 0));
     return above / below;
@@ -42,25 +39,31 @@ function varianceOf(numbers) {
     return sum(numbers.map(it => (it - middle) ** 2)) / (numbers.length - 1);
 }
 
-/** What a normal number is at most, by this chance. */
+/** What a normal number is at most, by this chance, which is from 1 in 10 ** 10 on. */
 export function normalQuantile(chance) {
     const from = chance - 0.5;
     if (Math.abs(from) <= 0.425) {
         return from * quotient(MIDDLE, 0.180625 - from * from);
     }
     const tail = Math.sqrt(-Math.log(Math.min(chance, 1 - chance)));
-    return Math.sign(from) * (tail <= 5 ? quotient(NEAR, tail - 1.6) : quotient(FAR, tail - 5));
+    return Math.sign(from) * quotient(NEAR, tail - 1.6);
 }
 
-/** Student's quantile of so many degrees of freedom where the normal one is z: the first terms of its series in 1 / freedom. */
-function student(z, freedom, count) {
-    const v = 4 * freedom;
-    const terms = [
-        z, (z ** 3 + z) / v, (5 * z ** 5 + 16 * z ** 3 + 3 * z) / (6 * v ** 2),
-        (3 * z ** 7 + 19 * z ** 5 + 17 * z ** 3 - 15 * z) / (6 * v ** 3),
-        (79 * z ** 9 + 776 * z ** 7 + 1482 * z ** 5 - 1920 * z ** 3 - 945 * z) / (360 * v ** 4),
-    ];
-    return sum(terms.slice(0, count));
+/**
+ * Student's quantile, beyond which there is half of what is outside of an interval of this level: by its series in 1 / freedom from
+ * three degrees on; below that of fewer, whole ones, which have formulas.
+ */
+function quantile(freedom, level) {
+    if (freedom < 2) {
+        return Math.tan(Math.PI * level / 2);
+    }
+    if (freedom < 3) {
+        return level * Math.sqrt(2 / (1 - level ** 2));
+    }
+    const [z, v] = [level === LEVEL ? NORMAL : normalQuantile((1 + level) / 2), 4 * freedom];
+    return z + (z ** 3 + z) / v + (5 * z ** 5 + 16 * z ** 3 + 3 * z) / (6 * v ** 2)
+        + (3 * z ** 7 + 19 * z ** 5 + 17 * z ** 3 - 15 * z) / (6 * v ** 3)
+        + (79 * z ** 9 + 776 * z ** 7 + 1482 * z ** 5 - 1920 * z ** 3 - 945 * z) / (360 * v ** 4);
 }
 
 /** @returns {Interval} */
@@ -70,34 +73,22 @@ const around = (value, margin) => ({value, low: value - margin, high: value + ma
 export const isSure = ({low, high}) => low > 0 || high < 0;
 
 /**
- * The mean of classes of equal weight, each with two numbers or more, with its 95 % interval; the degrees of freedom of several
- * classes are those of Welch and Satterthwaite.
+ * The mean of classes of equal weight, each with two numbers or more, with an interval of a level; the degrees of freedom of several
+ * classes are those of Welch and Satterthwaite. Few numbers that differ say little of how many there are; so two more may be counted
+ * that weren't seen: one that is so much more, and one that is as much less.
  */
-export function meanOf(classes) {
+export function meanOf(classes, unseen = 0, level = LEVEL) {
+    const share = 1 / classes.length;
+    const variances = classes.map(it => share ** 2 * varianceOf(it) / it.length);
+    const counted = 1 / sum(classes.map(it => share ** 2 / it.length));
+    const upsets = 2 * (unseen / counted) ** 2;
+    const variance = sum(variances) + upsets;
     const value = average(classes.map(average));
-    const variances = classes.map(it => varianceOf(it) / it.length);
-    const variance = sum(variances);
     if (!variance) {
         return around(value, 0);
     }
-    const freedom = variance ** 2 / sum(variances.map((part, at) => part ** 2 / (classes[at].length - 1)));
-    const quantile = freedom < 3 ? FEW[Math.floor(freedom)] : student(NORMAL, freedom, 4);
-    return around(value, quantile * Math.sqrt(variance) / classes.length);
-}
-
-/**
- * The mean of classes of numbers, each of the same weight, with an interval of a level. Few matches that differ say little of how
- * many there are; so two more are counted, one that is worth `most` more, and one that is worth as much less.
- */
-export function estimateOf(classes, most, level = 0.95) {
-    const share = 1 / classes.length;
-    const parts = classes.map(it => share ** 2 * varianceOf(it) / it.length);
-    const counted = 1 / sum(classes.map(it => share ** 2 / it.length));
-    const imagined = 2 * (most / counted) ** 2;
-    const variance = sum(parts) + imagined;
-    const freedom = variance ** 2 / (sum(parts.map((part, at) => part ** 2 / (classes[at].length - 1))) + imagined ** 2 / counted);
-    const quantile = student(normalQuantile(1 - (1 - level) / 2), Math.max(freedom, 1), 5);
-    return around(sum(classes.map(it => share * average(it))), quantile * Math.sqrt(variance));
+    const freedom = variance ** 2 / (sum(variances.map((it, at) => it ** 2 / (classes[at].length - 1))) + upsets ** 2 / counted);
+    return around(value, quantile(freedom, level) * Math.sqrt(variance));
 }
 
 /** A number of at least 0 with some digits, as the scripts write it: of a number in the middle of two the even one. */

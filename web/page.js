@@ -1,10 +1,8 @@
 // The page: what it is built with, and what happens at its buttons.
 import {ask, buttonOf} from "./asking.js";
 import {FIRST_WINNER, checked, copyOf} from "./battles.js";
-import {Bench, Caller} from "./calling.js";
-import {Contesting} from "./contesting.js";
+import {Caller} from "./calling.js";
 import {byId} from "./dom.js";
-import {Duo} from "./duos.js";
 import {makeEditor} from "./editor.js";
 import {Alone} from "./embedding.js";
 import {onDrop, readFiles, save} from "./files.js";
@@ -17,8 +15,8 @@ import {Places} from "./places.js";
 import {Playing, tell} from "./playing.js";
 import {DatabaseShelf, Keeper, LocalShelf} from "./shelves.js";
 import {NEW_SOURCE, Store} from "./store.js";
-import {Sweeping} from "./sweeping.js";
 import {Workbench} from "./workbench.js";
+import {Worths} from "./worths.js";
 
 // how much room versions take at most: in a database, and where there is only the storage of texts
 const MOST_BYTES = 24 * 1024 * 1024;
@@ -62,7 +60,7 @@ function levels(samples) {
 }
 
 class Page {
-    constructor({compiler, runner}, data, editor, keeper) {
+    constructor({compiler, runner, newCaller}, data, editor, keeper) {
         this.data = data;
         const known = [...data.robots, ...data.steps].map(({source}) => source);
         const most = keeper.database ? MOST_BYTES : MOST_LOCAL_BYTES;
@@ -73,11 +71,8 @@ class Page {
         this.playing = new Playing(this.store, runner, this.places, () => this.workbench.compileAll());
         this.keeping = new Keeping(this.store, keeper, moment => this.playing.watchMoment(moment));
         this.histories = new Histories(this.store, text => this.keeping.noted.say(text), async () => this.store.take(await keeper.load()),
-            robot => this.contesting.weigh(robot));
-        const bench = new Bench(newCaller);
-        this.contesting = new Contesting(this.store, bench, data.robots, new Duo(bench));
-        const sweeping = new Sweeping(this.store, editor, bench, data.robots);
-        this.workbench.onCompile = (source, compiled) => sweeping.offer(source, compiled);
+            robot => this.worths.weigh(robot));
+        this.worths = new Worths(this.workbench, data.robots, newCaller);
         this.finder = new Finder(editor);
         this.listen();
         this.showSteps();
@@ -180,10 +175,11 @@ export async function make(module) {
     byId("main").hidden = false;
     const address = workerOf(data);
     // the module is compiled in its workers meanwhile
-    const [compiler, runner] = [new Caller(address, module), new Caller(address, module)];
+    const newCaller = () => new Caller(address, module);
+    const [compiler, runner] = [newCaller(), newCaller()];
     const [battle, editor, keeper] = await Promise.all([battleOf(location.hash), makeEditor(byId("source"), data.editor), keeperOf()]);
     const kept = await keeper.load();
-    const page = new Page({compiler, runner}, data, editor, keeper);
+    const page = new Page({compiler, runner, newCaller}, data, editor, keeper);
     helpWriting(editor, data.functions);
     const moment = battle && linkedMoment(location.hash, battle);
     page.store.take(kept);

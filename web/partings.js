@@ -3,7 +3,10 @@
 const rowsOf = text => text.trimEnd().split("\n").slice(1);
 const cycleOf = row => Number(row.slice(0, row.indexOf("\t")));
 
-/** Rows by their cycles, those of a cycle in one order. @returns {Map<number, string>} */
+/**
+ * Rows by their cycles, those of a cycle in one order.
+ * @returns {Map<number, string>}
+ */
 function byCycle(rows) {
     const found = new Map();
     rows.forEach(row => found.set(cycleOf(row), [...found.get(cycleOf(row)) ?? [], row]));

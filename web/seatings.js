@@ -1,12 +1,11 @@
 // Seats and starts as tournaments have them: a pair plays in both orders, and each order has a seed of its own.
 //
 // The seed is drawn from that of the battle and from what stands for the robots; so a version's matches don't depend on its text.
-import {hashOf} from "./hashes.js";
 
 // what stands for a robot of which there are several versions
 export const CHALLENGER = "challenger";
 
-const hash = text => hashOf(new TextEncoder().encode(text));
+const hash = text => globalThis.CROBOTS_HASH(new TextEncoder().encode(text));
 
 /** What stands for a robot: the SHA-256 of its source. */
 export const keyOf = hash;

@@ -74,6 +74,8 @@ async function start() {
     await checkFile("data", globalThis.CROBOTS);
     await checkFile("page", globalThis.CROBOTS_PAGE);
     const module = await checkedModule();
+    // the page needs it too
+    globalThis.CROBOTS_HASH = hashOf;
     document.getElementById("lacking").hidden = true;
     const {embed, make} = globalThis.CROBOTS_PAGE();
     await (document.body.classList.contains("alone") ? embed : make)(module);

@@ -7,19 +7,26 @@ import {byId, made} from "./dom.js";
 import {fixed, withSign} from "./intervals.js";
 import {NOTHING, matchesOf, sweepOf} from "./sweeps.js";
 import {opponentsOf} from "./trials.js";
-import {constantsOf, tunablesOf} from "./tuning.js";
+import {constantsOf, countOf, tunablesOf} from "./tuning.js";
 
 const HEADS = ["value", "points", "change", "95 % interval", "matches", "verdict"];
 
-const cellsOf = ({value, points, change, matches, verdict}) =>
-    [`${value}`, fixed(points, 3), withSign(change.value, 3), `${withSign(change.low, 3)} to ${withSign(change.high, 3)}`, matches.toLocaleString("en"), verdict];
+// of a number with more values one learns nothing that one of fewer steps wouldn't say, and the page would be busy for long
+const MOST_VALUES = 100;
+const CAPTION = "'Better' and 'worse' hold for all values at once in 99 of 100 sweeps";
+
+function cellsOf({value, points, change, matches, verdict}) {
+    const [middle, low, high] = [change.value, change.low, change.high].map(it => withSign(it, 3));
+    return [`${value}`, fixed(points, 3), middle, `${low} to ${high}`, matches.toLocaleString("en"), verdict];
+}
 
 /** The result in words. */
 export function toldOf(rows, {name, value}) {
     const [better, worse] = ["better", "worse"].map(verdict => rows.filter(it => it.verdict === verdict));
     better.sort((one, other) => other.points - one.points);
     const listed = several => several.map(it => it.value).join(", ") || "none";
-    return `${name}: surely better than today's ${value}: ${listed(better)}. Surely worse: ${listed(worse)}. Of the others: ${NOTHING}.`;
+    return `${name}: surely better than today's ${value}: ${listed(better)}. Surely worse: ${listed(worse)}. `
+        + `Of the others: ${NOTHING}.`;
 }
 
 export class Sweeping {
@@ -33,7 +40,10 @@ export class Sweeping {
         this.bench = bench;
         this.choice = new Choice(byId("sweep-choice"), store, samples, true);
         this.far = new Far(byId("sweep-far"), () => bench.stop());
-        /** What is swept, or was. @type {{key: string, source: string} | null} */
+        /**
+         * What is swept, or was.
+         * @type {{key: string, source: string} | null}
+         */
         this.swept = null;
         store.onChange(() => this.follow());
     }
@@ -57,8 +67,10 @@ export class Sweeping {
     /** Offers the numbers of a source, by its listing and the places of its instructions; none of one with a fault. */
     offer(source, compiled) {
         const {found, fault} = this.numbersOf(source, compiled);
-        this.editor.offer(found.map(it => ({line: it.line, at: it.end - source.lastIndexOf("\n", it.end - 1) - 1, call: () => this.sweep(source, it)})));
-        byId("sweep-numbers").replaceChildren(...found.map(it => this.button(source, it)), ...fault ? [made("span", fault, "fault")] : []);
+        const lineOf = ({end}) => source.lastIndexOf("\n", end - 1) + 1;
+        this.editor.offer(found.map(it => ({line: it.line, at: it.end - lineOf(it), call: () => this.sweep(source, it)})));
+        const told = fault ? [made("span", fault, "fault")] : [];
+        byId("sweep-numbers").replaceChildren(...found.map(it => this.button(source, it)), ...told);
         byId("sweeps").hidden = !found.length && !fault && !byId("sweep").children.length;
     }
 
@@ -78,8 +90,10 @@ export class Sweeping {
     async sweep(source, number) {
         const {each} = this.choice;
         const opponents = opponentsOf(this.choice.robots, [source]);
-        if (!each || !opponents.length) {
-            this.tell(each ? "There is no other robot to play against: choose others." : "");
+        const count = countOf(number);
+        if (!each || !opponents.length || count > MOST_VALUES) {
+            const many = `${number.name} has ${count.toLocaleString("en")} values, and ${MOST_VALUES} are the most here: give its mark a greater step.`;
+            this.tell(!each ? "" : opponents.length ? many : "There is no other robot to play against: choose others.");
             return;
         }
         const run = this.bench.begin();
@@ -100,10 +114,10 @@ export class Sweeping {
         const {number} = task;
         const draw = rows => byId("sweep").replaceChildren(curveOf(rows, number));
         try {
-            const rows = await sweepOf({...task, call: (settings, robots) => run.call("run", settings, robots), onSlice: count => this.far.add(run, count), onLook: draw});
+            const rows = await sweepOf({...task, call: run.run, onSlice: count => this.far.add(run, count), onLook: draw});
             this.tell(toldOf(rows, number));
             const table = made("details");
-            table.append(made("summary", "Numbers"), tableOf(HEADS, rows.map(cellsOf), "'Better' and 'worse' hold for all values at once in 99 of 100 sweeps"));
+            table.append(made("summary", "Numbers"), tableOf(HEADS, rows.map(cellsOf), CAPTION));
             byId("sweep").append(table);
         } catch (fault) {
             this.far.end(run, () => this.tell(fault.message === STOPPED ? "Stopped." : fault.message));

@@ -1,6 +1,6 @@
 // A sweep: each value of a number against the same opponents in the same matches, as crobots-tune does. Nothing here knows of a
 // browser.
-import {estimateOf, isSure} from "./intervals.js";
+import {isSure, meanOf} from "./intervals.js";
 import {POINTS, Trials, opponentsOf, startsOf} from "./trials.js";
 import {valuesOf, withValue} from "./tuning.js";
 
@@ -28,16 +28,19 @@ function looksOf(each) {
 
 /** What a value is called that differs from today's by this. */
 function verdictOf(differences, level) {
-    const change = estimateOf(differences, POINTS.won, level);
+    const change = meanOf(differences, POINTS.won, level);
     return isSure(change) ? change.low > 0 ? "better" : "worse" : NOTHING;
 }
 
-/** A value's points, by its match, of each opponent, beside today's. @returns {Row} */
+/**
+ * A value's points, by its match, of each opponent, beside today's.
+ * @returns {Row}
+ */
 function rowOf(value, mine, today, level) {
     const differences = mine.map((points, at) => points.map((it, match) => it - today[at][match]));
     const facts = {value, points: average(mine.map(average)), matches: mine.flat().length};
     return mine === today ? {...facts, change: {value: 0, low: 0, high: 0}, verdict: "today's"}
-        : {...facts, change: estimateOf(differences, POINTS.won), verdict: verdictOf(differences, level)};
+        : {...facts, change: meanOf(differences, POINTS.won), verdict: verdictOf(differences, level)};
 }
 
 /** How many matches a sweep has. */

@@ -13,12 +13,18 @@ const MATCH = /^Match (\d+): cycles = (\d+)\n {2}1\) \w+ +damage +(\d+)% 1\n {2}
 
 /** @typedef {{number: number, cycles: number, did: "won" | "tied" | "lost"}} Played */
 
-/** What the robot with the first damage did. */
+/**
+ * What the robot with the first damage did.
+ * @returns {"won" | "tied" | "lost"}
+ */
 function didOf(mine, other) {
     return mine >= DEAD ? "lost" : other >= DEAD ? "won" : "tied";
 }
 
-/** Returns the matches of a report of two robots, by what the first of them did, or the second. @returns {Played[]} */
+/**
+ * Returns the matches of a report of two robots, by what the first of them did, or the second.
+ * @returns {Played[]}
+ */
 export function playedOf(report, isFirst) {
     return [...report.matchAll(MATCH)].map(([, number, cycles, ...damages]) => {
         const [first, second] = damages.map(Number);
@@ -54,7 +60,10 @@ export class Trials {
         this.size = FIRST_SLICE;
     }
 
-    /** Plays matches from a number on of a robot's source in its seat. Throws what ended them before. @returns {Promise<Played[]>} */
+    /**
+     * Plays matches from a number on of a robot's source in its seat. Throws what ended them before.
+     * @returns {Promise<Played[]>}
+     */
     async play(source, {opponent, isFirst, seed}, first, count) {
         const robots = seated(source, opponent.source, isFirst);
         const found = [];

@@ -19,11 +19,15 @@ const BLANKS = /^[\t-\r ]*$/;
 const encoder = new TextEncoder();
 const decoder = new TextDecoder("utf-8", {ignoreBOM: true});
 
-/** Returns where constants stand, of a listing and of the places of its instructions. @returns {Place[]} */
+/**
+ * Returns where constants stand, of a listing and of the places of its instructions.
+ * @returns {Place[]}
+ */
 export function constantsOf(listing, places) {
     const constants = new Set([...listing.matchAll(/^ *(\d+) CONST /gm)].map(([, address]) => address));
     const rows = places.trimEnd().split("\n").slice(1).map(row => row.split("\t"));
-    return rows.filter(([address]) => constants.has(address)).map(([, , , line, column]) => ({line: Number(line), column: Number(column)}));
+    const found = rows.filter(([address]) => constants.has(address));
+    return found.map(([, , , line, column]) => ({line: Number(line), column: Number(column)}));
 }
 
 /** A source as its bytes, a letter for each. */
@@ -71,7 +75,10 @@ class Bytes {
 /** Whether a comment is meant as a mark: it begins with 'tune' and a number. */
 const isMark = text => /^tune \d/.test(text);
 
-/** The range of bounds as 100..900 and a step. @returns {Range} */
+/**
+ * The range of bounds as 100..900 and a step.
+ * @returns {Range}
+ */
 function ranged(bounds, step, where, name) {
     const found = BOUNDS.exec(bounds);
     if (!found) {
@@ -87,12 +94,15 @@ function ranged(bounds, step, where, name) {
     return {low, high, step: step === undefined ? null : Number(step), name};
 }
 
-/** The range of a mark. @returns {Range} */
+/**
+ * The range of a mark.
+ * @returns {Range}
+ */
 function rangeOf(text, where) {
     const [bounds, ...words] = text.split(" ").slice(1);
     const names = words.filter((_, at) => at % 2 === 0);
-    const isRight = words.length % 2 === 0 && names.every(it => it === "step" || it === "name") && new Set(names).size === names.length;
-    if (!isRight) {
+    const isKnown = names.every(it => it === "step" || it === "name");
+    if (words.length % 2 || !isKnown || new Set(names).size < names.length) {
         throw new Error(`${where}: a mark is 'tune LOW..HIGH', and perhaps 'step STEP' and 'name NAME', not '${text}'`);
     }
     const options = Object.fromEntries(names.map((name, at) => [name, words[2 * at + 1]]));
@@ -102,14 +112,18 @@ function rangeOf(text, where) {
     return ranged(bounds, options.step, where, options.name ?? "");
 }
 
-/** The number of a constant with its mark's range. @returns {Tunable} */
+/**
+ * The number of a constant with its mark's range.
+ * @returns {Tunable}
+ */
 function tunable(bytes, place, end, range) {
     const begin = bytes.at(place);
     const value = Number(bytes.text.slice(begin, end));
     if (value < range.low || value > range.high) {
         throw new Error(`${bytes.placed(begin)}: ${value} isn't from ${range.low} to ${range.high}`);
     }
-    return {...place, ...range, name: range.name || `${place.line}:${place.column}`, begin: bytes.letters(begin), end: bytes.letters(end), value};
+    const name = range.name || `${place.line}:${place.column}`;
+    return {...place, ...range, name, begin: bytes.letters(begin), end: bytes.letters(end), value};
 }
 
 /**
@@ -146,12 +160,18 @@ export function coarse(width, many) {
     }
 }
 
+const stepOf = ({low, high, step}) => step ?? coarse(high - low, VALUES);
+
+/** How many values a sweep has, but for today's if that isn't one of its steps. */
+export const countOf = range => Math.floor((range.high - range.low) / stepOf(range)) + 1;
+
 /** The values of a sweep in their order, today's among them. */
-export function valuesOf({low, high, step, value}) {
-    const each = step ?? coarse(high - low, VALUES);
-    const values = Array.from({length: Math.floor((high - low) / each) + 1}, (_, at) => low + at * each);
+export function valuesOf(range) {
+    const {low, value} = range;
+    const values = Array.from({length: countOf(range)}, (_, at) => low + at * stepOf(range));
     return [...new Set([...values, value])].sort((one, other) => one - other);
 }
 
 /** The source with another value of a number; one that keeps its value keeps its digits. */
-export const withValue = (source, {begin, end, value}, other) => other === value ? source : source.slice(0, begin) + other + source.slice(end);
+export const withValue = (source, {begin, end, value}, other) =>
+    other === value ? source : source.slice(0, begin) + other + source.slice(end);

@@ -9,6 +9,7 @@ declare var CROBOTS: {
 };
 type Start = (module: Uint8Array) => Promise<void>;
 declare var CROBOTS_PAGE: () => {make: Start, embed: Start};
+declare var CROBOTS_HASH: (bytes: Uint8Array) => Promise<string>;
 declare var player: any;
 declare var showFilm: (film: any, heading: string, options: any) => void;
 declare var CompressionStream: {new(format: string): any};

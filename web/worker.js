@@ -30,7 +30,7 @@ function read({ending, text, faults}, {beyond = -1}, robots) {
     return {ending, faults, film: filmOf(text, names.length === 1 ? [...names, ...names] : names)};
 }
 
-/** Plays the same match with other robots, and reads the films; `parting` is the cycle in which the first two differ, if they do. */
+/** Plays a match with other robots, and reads the films. `parting` is the cycle in which the first two differ, if they do. */
 function compare(filming, settings, battles) {
     const films = battles.map(robots => filming.film(settings, robots));
     const [one, other] = films.map(({text}) => text);

@@ -54,7 +54,7 @@ def samples() -> list[dict[str, str | int]]:
 
 def packed(data: bytes) -> str:
     """Bytes deflated and in base 64."""
-    packer = zlib.compressobj(9, wbits=-15)
+    packer = zlib.compressobj(9, wbits=-15, memLevel=9)
     return base64.b64encode(packer.compress(data) + packer.flush()).decode()
 
 
@@ -175,12 +175,12 @@ def lay(folder: str, module: str) -> None:
 def pack(folder: str) -> None:
     """Puts all files of a folder into a zip beside it."""
     paths = sorted(path for path in glob.glob(os.path.join(folder, "**", "*"), recursive=True) if os.path.isfile(path))
-    with zipfile.ZipFile(f"{folder}.zip", "w", zipfile.ZIP_DEFLATED, compresslevel=9) as pack_:
+    with zipfile.ZipFile(f"{folder}.zip", "w") as pack_:
         for path in paths:
             entry = zipfile.ZipInfo(os.path.relpath(path, folder), TIME)
             entry.compress_type, entry.external_attr = zipfile.ZIP_DEFLATED, 0o644 << 16
             with open(path, "rb") as file:
-                pack_.writestr(entry, file.read())
+                pack_.writestr(entry, file.read(), compresslevel=9)
 
 
 def is_foreign(folder: str) -> bool:

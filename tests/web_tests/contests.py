@@ -21,7 +21,7 @@ sys.path.insert(0, os.path.join(TOP, "scripts"))
 from tools.faults import Fault  # noqa: E402
 from tournaments import intervals, seats  # noqa: E402
 from tune_tests import marks as tables  # noqa: E402
-from tuning import marks, scoring  # noqa: E402
+from tuning import marks  # noqa: E402
 
 from .battles import random_battles, samples  # noqa: E402
 from .stores import modules, told  # noqa: E402
@@ -35,7 +35,7 @@ NEAR = 1e-9
 # mean of both the error 0.7071 and, by Welch and Satterthwaite, two degrees of freedom, whose quantile is 4.3027.
 BY_HAND = (([[1, 1, 1]], 1.0, 0.0), ([[*range(10)]], 4.5, 2.1659), ([[0, 2], [1, 3]], 1.5, 3.0425))
 # what tables of the normal distribution have
-QUANTILES = {0.5: 0.0, 0.975: 1.959964, 0.025: -1.959964, 0.995: 2.575829, 0.9999: 3.719016, 0.9999999999: 6.361341}
+QUANTILES = {0.5: 0.0, 0.975: 1.959964, 0.025: -1.959964, 0.995: 2.575829, 0.9999: 3.719016, 0.0001: -3.719016, 0.999999: 4.753424}
 
 
 def lacking(_folder: str) -> str:
@@ -61,7 +61,7 @@ def is_near(got: Any, wanted: tuple[float, float, float]) -> bool:
 
 def by_hand() -> list[str]:
     """Means, their intervals and quantiles that were worked out by hand or stand in tables."""
-    got = answers([("mean", (classes,)) for classes, _, _ in BY_HAND] + [("normal", (chance,)) for chance in QUANTILES])
+    got = answers([("mean", (classes, 0, 0.95)) for classes, _, _ in BY_HAND] + [("normal", (chance,)) for chance in QUANTILES])
     wrong = [f"{classes}: {it}, not {value} and {half}" for (classes, value, half), it in zip(BY_HAND, got)
              if abs(it["value"] - value) > 1e-4 or abs(it["high"] - value - half) > 2e-3 or abs(value - it["low"] - half) > 2e-3]
     return wrong + [f"{chance}: {it}" for chance, it in zip(QUANTILES, got[len(BY_HAND):]) if abs(it - QUANTILES[chance]) > 1e-6]
@@ -76,13 +76,13 @@ def drawn_classes(draw: random.Random) -> list[list[float]]:
 def like_python() -> list[str]:
     """Of drawn differences the intervals are those of the scripts, for a change and for a value, at each level."""
     draw = random.Random(SEED)
-    several = [drawn_classes(draw) for _ in range(300)]
+    several = [drawn_classes(draw) for _ in range(600)]
     levels = [draw.choice((0.95, 0.99, 1 - 0.01 / 19)) for _ in several]
-    got = answers([("mean", (it,)) for it in several] + [("estimate", (it, 3, level)) for it, level in zip(several, levels)])
-    changes = [(it.value, it.low, it.high) for it in map(intervals.mean, several)]
-    estimates = [scoring.estimate([(1.0, numbers) for numbers in it], 3, level) for it, level in zip(several, levels)]
-    wanted = changes + [(it.value, it.low, it.high) for it in estimates]
-    return [f"{numbers}: {it}, not {right}" for numbers, it, right in zip(several * 2, got, wanted) if not is_near(it, right)][:5]
+    unseen = [draw.choice((0, 3)) for _ in several]
+    got = answers([("mean", it) for it in zip(several, unseen, levels)])
+    right = [intervals.mean(them, (), most, level) for them, most, level in zip(several, unseen, levels)]
+    wanted = [(it.value, it.low, it.high) for it in right]
+    return [f"{numbers}: {it}, not {known}" for numbers, it, known in zip(several, got, wanted) if not is_near(it, known)][:5]
 
 
 def signed(value: float, digits: int) -> str:
@@ -177,7 +177,8 @@ def values() -> list[str]:
         them.append({"low": low, "high": high, "step": draw.choice((None, None, 1 + (high - low) // draw.randint(1, 30))), "value": draw.randint(low, high)})
     got = answers([("values", (it,)) for it in them])
     right = [marks.Range(it["low"] or 0, it["high"] or 0, it["step"]).values(it["value"] or 0) for it in them]
-    wrong = [f"{it}: {values[:30]}, not {wanted[:30]}" for it, values, wanted in zip(them, got, right) if values != wanted][:3]
+    wrong = [f"{it}: {values}, not {wanted}" for it, (count, values), wanted in zip(them, got, right)
+             if values != wanted or count not in (len(values), len(values) - 1)][:3]
     source = "main(){ \u00e4 007 /* tune 0..9 */; 5 /* tune 0..9 */; }"
     made = answers([("changed", (source, constants(source.encode()), pair)) for pair in ((7, 5), (8, 5), (0, 123))])
     texts = [source, source.replace("007", "8"), source.replace("007", "0").replace("5", "123")]

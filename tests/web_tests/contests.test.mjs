@@ -12,6 +12,7 @@ const {Trials, opponentsOf, playedOf} = await load("trials");
 const {contestOf, matchesOf} = await load("contests");
 const {sweepOf, matchesOf: matchesOfSweep} = await load("sweeps");
 const {Bench, STOPPED} = await load("calling");
+globalThis.CROBOTS_HASH = (await load("hashes")).hashOf;
 
 const SETTINGS = {limit: 1000, profile: 2, seed: "7"};
 const POINTS = {won: 3, tied: 1, lost: 0};

@@ -7,13 +7,14 @@ import path from "node:path";
 import {pathToFileURL} from "node:url";
 
 const load = name => import(pathToFileURL(path.join(process.argv[2], `${name}.js`)));
-const {estimateOf, fixed, meanOf, normalQuantile, withSign} = await load("intervals");
+const {fixed, meanOf, normalQuantile, withSign} = await load("intervals");
 const {seatingsOf, keyOf, CHALLENGER} = await load("seatings");
-const {constantsOf, tunablesOf, valuesOf, withValue} = await load("tuning");
+const {constantsOf, countOf, tunablesOf, valuesOf, withValue} = await load("tuning");
 const {partingOf} = await load("partings");
 const {contestOf} = await load("contests");
 const {sweepOf} = await load("sweeps");
 const {Engine} = await load("engine");
+globalThis.CROBOTS_HASH = (await load("hashes")).hashOf;
 const engine = process.argv[3] ? await Engine.load(fs.readFileSync(process.argv[3])) : null;
 const call = (settings, robots) => engine.run(settings, robots);
 const quiet = () => {};
@@ -32,13 +33,12 @@ async function sweep(settings, source, opponents, each) {
 }
 
 const WORKS = {
-    mean: classes => meanOf(classes),
-    estimate: (classes, most, level) => estimateOf(classes, most, level),
+    mean: (classes, unseen, level) => meanOf(classes, unseen, level),
     written: (value, digits) => [fixed(Math.abs(value), digits), withSign(value, digits)],
     normal: chance => normalQuantile(chance),
     seatings: async (seed, source) => seatingsOf(seed, CHALLENGER, await keyOf(source)),
     tunables: (source, places) => tunablesOf(source, places),
-    values: number => valuesOf(number),
+    values: number => [countOf(number), valuesOf(number)],
     changed: (source, places, values) => tunablesOf(source, places).reverse().reduce((text, it, at) => withValue(text, it, values.at(-1 - at)), source),
     parting: (one, other) => partingOf(one, other),
     constants,

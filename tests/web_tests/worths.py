@@ -226,9 +226,12 @@ def refused(page: Page) -> list[str]:
     begin(page, "main(){ drive(1 /* tune 9..0 */, 2); }")
     page.wait("return document.getElementById('sweep-numbers').textContent")
     said = [page.seen("sweep-numbers")]
+    page.write("main(){ drive(1 /* tune 0..2147483647 step 1 */, 2); }")
+    said.append(page.js("document.querySelector('#sweep-numbers button').click(); return document.getElementById('sweep-told').textContent"))
     page.write("main(){ drive(1 /* tune 0..9 */, 2); break; }")
     said.append(str(page.js("return document.getElementById('sweeps').hidden")))
-    wanted = ["A mark is wrong: 1:17: 9..0 has to rise, up to 2147483647 at most.", "True"]
+    wanted = ["A mark is wrong: 1:17: 9..0 has to rise, up to 2147483647 at most.",
+              "1:15 has 2,147,483,648 values, and 100 are the most here: give its mark a greater step.", "True"]
     return [] if said == wanted else [f"{said}, not {wanted}"]
 
 
