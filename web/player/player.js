@@ -66,6 +66,11 @@ export class Player {
         this.show();
     }
 
+    /** How many cycles a second it plays. */
+    get pace() {
+        return SPEEDS[this.speed];
+    }
+
     show() {
         const {match, cycle} = this;
         const whole = Math.floor(cycle);
