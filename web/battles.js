@@ -14,10 +14,10 @@ import {cleanName} from "./names.js";
 /** @type {Settings} */
 const USUAL = {matches: 1, limit: 500000, seed: "1", first: 1, profile: 1};
 const FIRST_ROBOTS = ["hunter.r", "sniper.r"];
-/** The match of the first robots that is worth watching: the number of one that is neither short nor over soon. */
-export const FIRST_MATCH = 1;
+/** The match of the first robots that is worth watching: of the first sixteen the closest one. */
+export const FIRST_MATCH = 2;
 /** Who wins it. */
-export const FIRST_WINNER = "hunter.r";
+export const FIRST_WINNER = "sniper.r";
 /** @type {Record<string, number>} */
 const MOST = {matches: Limits.matches, limit: Limits.cycles, first: Limits.first, profile: 2};
 const SETTINGS = Object.keys(USUAL);

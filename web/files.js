@@ -44,7 +44,12 @@ export async function readFiles(files) {
 
 /** Saves a text as a file. */
 export function saveText(name, text) {
-    const address = URL.createObjectURL(new Blob([text], {type: "text/plain"}));
+    saveBlob(name, new Blob([text], {type: "text/plain"}));
+}
+
+/** Saves something as a file. */
+export function saveBlob(name, blob) {
+    const address = URL.createObjectURL(blob);
     const link = Object.assign(document.createElement("a"), {href: address, download: name});
     link.click();
     // the browser has begun to read it by then

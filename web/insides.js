@@ -300,7 +300,8 @@ export class Inside {
         }[event.key];
         // some keyboards have brackets behind AltGr
         const isPlain = !event.ctrlKey && !event.metaKey && !event.altKey || event.getModifierState("AltGraph");
-        if (id && isPlain && this.isOpen && event.target.tagName !== "SELECT") {
+        // the film has gone a cycle on or back by itself
+        if (id && isPlain && this.isOpen && !event.defaultPrevented && event.target.tagName !== "SELECT") {
             event.preventDefault();
             this.actions[id]();
         }

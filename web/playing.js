@@ -2,6 +2,7 @@
 import {FIRST_MATCH, areSame, checked, copyOf, isSeed} from "./battles.js";
 import {byId} from "./dom.js";
 import {Ending, Limits} from "./limits.js";
+import {Filming} from "./filming.js";
 import {Inside} from "./insides.js";
 import {Screen} from "./replays.js";
 import {Report, totalsOf} from "./reports.js";
@@ -73,6 +74,7 @@ export class Playing {
         this.places = places;
         this.reprofiled = reprofiled;
         this.screen = new Screen(byId("film"), places);
+        this.filming = new Filming(this.screen, tellWatched);
         this.inside = new Inside(this.screen, runner, this);
         this.report = new Report(byId("report"), number => this.watch(new Wish(this.reported, number, 0)));
         byId("settings").addEventListener("input", event => this.takeSettings(event.target.id));
@@ -289,6 +291,7 @@ export class Playing {
         this.inside.watch(isShown ? wish : this.filmed);
         if (isShown) {
             this.filmed = wish;
+            this.filming.show();
             this.judgeAges();
             this.screen.fit();
         }

@@ -12,10 +12,13 @@ declare var CROBOTS_PAGE: () => {make: Start, embed: Start};
 declare var CROBOTS_HASH: (bytes: Uint8Array) => Promise<string>;
 declare var player: any;
 declare var showFilm: (film: any, heading: string, options: any) => void;
+declare var canRecord: () => boolean;
+declare var filmedSvg: () => string;
+declare var filmedWebm: (isOver: () => boolean) => Promise<Blob>;
 declare var CompressionStream: {new(format: string): any};
 declare var DecompressionStream: {new(format: string): any};
 
-interface Window { CodeMirror: any; player: any; showFilm: typeof showFilm; ResizeObserver: typeof ResizeObserver; structuredClone: any }
+interface Window { CodeMirror: any; player: any; showFilm: typeof showFilm; canRecord: typeof canRecord; filmedSvg: typeof filmedSvg; filmedWebm: typeof filmedWebm; ResizeObserver: typeof ResizeObserver; structuredClone: any }
 interface Array<T> {
     findLast(is: (it: T, at: number) => unknown): T | undefined;
     findLastIndex(is: (it: T, at: number) => unknown): number;

@@ -11,7 +11,7 @@ from typing import Any, Callable, ContextManager, Iterator
 
 from harness import loaded
 
-from . import embeds, everyone, firsts, helping, inside, keeping, paths, robust, seeing, seen, worths
+from . import embeds, everyone, firsts, helping, inside, keeping, paths, players, reels, robust, seeing, seen, worths
 from .battles import Battle, Mistake, Settings, mistakes, outcome, random_battles, sample_battles, samples, vectors
 from .pages import Page, as_loaded, chromium, console, served, without
 
@@ -440,6 +440,8 @@ def results(crobots: str, stages: str, folder: str) -> Iterator[tuple[str, list[
         yield "the page as a file", story(page, crobots, folder, chromium)
         yield from firsts.results(page, is_chromium=True)
         yield from embeds.results(page, folder)
+        yield from reels.results(page)
+        yield from players.results(page)
         yield from keeping.results(page)
         yield from seen.results(page, folder)
         yield from seeing.results(page, crobots)

@@ -43,13 +43,13 @@ def by_address(page: Page) -> list[str]:
     """The address names the battle, the moment and the robot that is followed; none names two samples. It may change later."""
     wrong = []
     link = fragment(BATTLE)
-    wanted = {"": ["Match 1: hunter.r and sniper.r", 0, False], link: ["Match 4: mover.r and still.r", 0, False],
+    wanted = {"": ["Match 2: hunter.r and sniper.r", 0, False], link: ["Match 4: mover.r and still.r", 0, False],
               f"{link}&match=2&cycle=900&robot=2": ["Match 2: mover.r and still.r", 2, True]}
     for tail, right in wanted.items():
         other = opened(page, tail)
         got = shown(other)
         way = other.js("return document.getElementById('whole').href")
-        wrong += [] if got == right or not tail and str(got[0]).endswith(": hunter.r and sniper.r") else [f"{tail[-30:]}: {got}"]
+        wrong += [] if got == right else [f"{tail[-30:]}: {got}"]
         wrong += [] if way == urllib.parse.urljoin(page.address, f"index.html{tail}") else [f"the way to the page is {way[-60:]}"]
     other.js("location.hash = arguments[0]", link)
     other.wait("return document.getElementById('film').contentDocument?.getElementById('heading')?.textContent.startsWith('Match 4')")

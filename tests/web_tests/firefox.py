@@ -5,7 +5,7 @@ from __future__ import annotations
 import os
 from typing import Iterator
 
-from . import browser, embeds, everyone, firsts, inside, paths, worths
+from . import browser, embeds, everyone, firsts, inside, paths, reels, worths
 from .battles import random_battles, sample_battles
 from .marionette import firefox, program
 from .pages import Page, served
@@ -31,6 +31,7 @@ def results(crobots: str, stages: str, folder: str) -> Iterator[tuple[str, list[
         yield "widths", everyone.widths(page)
         yield from firsts.results(page)
         yield from embeds.results(page, folder)
+        yield from reels.results(page)
         yield from inside.results(page)
         yield from worths.few(page, crobots, stages, folder)
         yield from paths.results(page, folder)

@@ -75,9 +75,9 @@ def at_once(page: Page) -> list[str]:
         if not page.run().startswith("Match 1: ") or page.seen("welcome"):
             wrong.append(page.text("said"))
         page.fresh()
-        page.watch(2)
+        page.watch(3)
         heading = page.inside("return it.getElementById('heading').textContent")
-        wrong += [] if heading == "Match 2: hunter.r and sniper.r" and not page.seen("welcome") else [heading]
+        wrong += [] if heading == "Match 3: hunter.r and sniper.r" and not page.seen("welcome") else [heading]
     return wrong
 
 

@@ -19,6 +19,9 @@ const {Series, ended} = await load("series");
 const {adviceOf} = await load("advice");
 const {turnsOf} = await load("listings");
 const {reasonOf, warningsOf} = await load("explaining");
+const {filmOf} = await load("player/films");
+const {Match} = await load("player/matches");
+const {SvgContext, picturesOf, svgOf} = await load("player/reels");
 const {Code, callsOf, foundIn, momentOf, valuesOf} = await load("moments");
 
 function check(name, got, wanted) {
@@ -71,6 +74,29 @@ check("moments that are none", wrongMoments.map(it => linkedMoment(it, three)), 
 check("the largest link", (await battleOf(packed(battle("x".repeat(room - fill)))))?.robots[0].source.length, room - fill);
 check("links that are none", [await battleOf(packed(battle("x".repeat(room - fill + 1)))), await battleOf("#battle=%%%"), await battleOf(packed("[")), await battleOf("#x")],
     [null, null, null, null]);
+
+// a film as an SVG: a field of 10000 tenths of a metre has 590 of 640 pixels, 30 from the left and 20 from the top
+globalThis.window = {devicePixelRatio: 1};
+const rows = ["cycle robot kind a b c d e", "0 1 name a", "0 2 name b", "0 1 at 1000 5000 0 0 0", "0 2 at 6000 5000 0 0 0", "9 1 shot 0 500 1000 5000",
+    "150 1 burst 6000 5000", "150 2 hurt 5 1 6000 5000", "150 2 at 6000 5000 0 0 5", "300 1 end 0", "300 2 end 5"];
+const match = new Match(filmOf(rows.map(row => row.replaceAll(" ", "\t")).join("\n")));
+const colours = {panel: "#ffffff", field: "#fefefe", grid: "#eeeeee", border: "#888888", ink: "#111111", muted: "#555555", burst: "#dd4400", onRobot: "#ffffff",
+    robots: ["#0000aa", "#aa0000", "#00aa00", "#aa00aa"]};
+const svg = svgOf(match, "a & b", {from: 0, speed: 300, colours});
+const groups = svg.split("\n").filter(line => line.startsWith("<g "));
+check("pictures of a film", [picturesOf({cycles: 300}, 0, 300), picturesOf({cycles: 300}, 290, 300), picturesOf({cycles: 10 ** 6}, 0, 300).length],
+    [[0, 30, 60, 90, 120, 150, 180, 210, 240, 270, 300], [290, 300], 200]);
+check("a film as SVG", [groups.length, groups.map(it => /delay:([\d.]+)s/.exec(it)[1]), groups.map(it => /class="([^"]*)"/.exec(it)[1])],
+    [11, ["0.0", "0.1", "0.2", "0.3", "0.4", "0.5", "0.6", "0.7", "0.8", "0.9", "1.0"], ["f a", ...Array(9).fill("f"), "f e"]]);
+check("its title", /<title>(.*)<\/title>/.exec(svg)[1], "a &#38; b, cycles 0 to 300");
+const placed = groups.map(it => /<text x="([\d.]+)" y="([\d.]+)" [^>]*>1<\/text>/.exec(it)?.slice(1));
+check("robots in it", placed, Array(11).fill(["89", "315.5"]));
+// seen for 105 cycles, a third of a second
+check("hits in it", groups.map(it => it.includes(">−5%<")), [false, false, false, false, false, true, true, true, true, false, false]);
+check("its ground stands there once", [svg.split("1000 m").length, svg.split("<clipPath").length, svg.split("<g").length === svg.split("</g>").length], [2, 2, true]);
+const drawn = (act, context = new SvgContext()) => { context.beginPath(); act(context); context.stroke(); return /d="([^"]*)"/.exec(context.parts[0])[1]; };
+check("arcs", [drawn(it => it.arc(10, 10, 5, 0, Math.PI / 2)), drawn(it => it.arc(10, 10, 5, 0, Math.PI / 2, true)), drawn(it => it.arc(10, 10, 5, 0, 2 * Math.PI))],
+    ["M15 10A5 5 0 0 1 10 15", "M15 10A5 5 0 1 0 10 15", "M15 10A5 5 0 1 1 5 10A5 5 0 1 1 15 10z"]);
 
 check("places", [placesOf("ab", "abxABab"), placesOf("", "x"), placesOf("aa", "aaaa")], [[0, 3, 5], [], [0, 2]]);
 

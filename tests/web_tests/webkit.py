@@ -11,7 +11,7 @@ import subprocess
 import tempfile
 from typing import Any, Iterator
 
-from . import browser, embeds, everyone, firsts, inside, paths, robust, worths
+from . import browser, embeds, everyone, firsts, inside, paths, reels, robust, worths
 from .battles import random_battles, sample_battles
 from .pages import Page, served
 
@@ -109,6 +109,7 @@ def results(crobots: str, stages: str, folder: str) -> Iterator[tuple[str, list[
         yield "keys", browser.keys(page)
         yield from firsts.results(page)
         yield from embeds.results(page, folder)
+        yield from reels.results(page)
         yield from inside.results(page)
         yield from worths.few(page, crobots, stages, folder)
         yield from paths.results(page, folder)

@@ -66,6 +66,11 @@ export class Player {
         this.show();
     }
 
+    /** How many cycles a second it plays. */
+    get pace() {
+        return SPEEDS[this.speed];
+    }
+
     show() {
         const {match, cycle} = this;
         const whole = Math.floor(cycle);
@@ -240,7 +245,7 @@ export class Player {
         const arrow = event.shiftKey ? "cycle" : "update";
         const keys = {
             " ": "play-pause", Home: "to-start", End: "to-end", n: "hit-after", p: "hit-before", r: "restart-after",
-            d: "describe", f: "whole-screen",
+            d: "describe", f: "whole-screen", ",": "cycle-before", ".": "cycle-after",
             ArrowRight: `${arrow}-after`, ArrowLeft: `${arrow}-before`, ArrowUp: "faster", ArrowDown: "slower",
         };
         return keys[event.key.length === 1 ? event.key.toLowerCase() : event.key];
