@@ -150,21 +150,26 @@ class Playing:
         return [*wrong, "no.r is written"] if (self._folder / "no.r").exists() else wrong
 
     def killed_and_resumed(self) -> list[str]:
-        """At eight moments: with its journal a search ends as one that wasn't stopped. So does a sweep."""
+        """At thirty moments, five of each journal: a search ends as one that wasn't stopped. So does a sweep."""
         wrong, rest = [], random.Random(3)
         for words in (("-m40", "--budget", "3000", "two.r", "still.r"), ("--sweep", "-m100", "draws.r", "still.r", "other.r")):
             begun = time.monotonic()
             wanted = self._run(*words).stdout
             taken = time.monotonic() - begun
-            for number in range(4):
+            for number in range(3):
                 journal = f"killed{number}{len(words)}"
-                with subprocess.Popen(self._words(*words, "--journal", journal), cwd=self._folder, start_new_session=True, stdout=subprocess.PIPE,
-                                      stderr=subprocess.DEVNULL) as child:
-                    time.sleep(rest.uniform(0.1, taken))
-                    os.killpg(child.pid, signal.SIGKILL)
+                for _ in range(5):
+                    self._killed(rest.uniform(0.1, taken / 2), *words, "--journal", journal)
                 ran = self._run(*words, "--journal", journal)
                 wrong += [] if ran.stdout == wanted else [f"{words} {number}: {ran!r:.500}, not {wanted:.300}"]
         return wrong
+
+    def _killed(self, after: float, *words: str) -> None:
+        """Runs the script, and kills it and all that it started after some seconds."""
+        with subprocess.Popen(self._words(*words), cwd=self._folder, start_new_session=True, stdout=subprocess.PIPE,
+                              stderr=subprocess.DEVNULL) as child:
+            time.sleep(after)
+            os.killpg(child.pid, signal.SIGKILL)
 
     def a_plan_is_played_elsewhere(self) -> list[str]:
         """Its lines write records; with these as a journal the sweep plays nothing, and says the same."""
