@@ -32,9 +32,9 @@ def invite(given: argparse.Namespace) -> None:
             show([f"the link of {given.author} is withdrawn\n"])
             return
         if given.author:
-            made = [accounts.invite(store, given.author, given.group)]
+            made = [accounts.invite(store, given.author, given.group or "")]
         else:
-            made = accounts.numbered(store, given.count or 1, given.group)
+            made = accounts.numbered(store, given.count or 1, given.group or "")
     show(sheet(made, given.url))
 
 

@@ -290,7 +290,7 @@ class Words:
         it = self._command("invite", "makes links by which authors join the open ladder")
         it.add_argument("--author", metavar="NAME", default="", help="the author's name; one who is there gets a new link (default: a number)")
         it.add_argument("--count", metavar="N", type=within(1, 10_000), help="make N authors (default 1)")
-        it.add_argument("--group", metavar="NAME", type=text, default="", help="the name of their group")
+        it.add_argument("--group", metavar="NAME", type=text, help="the name of their group")
         it.add_argument("--withdraw", action="store_true", help="withdraw the link of this author")
         it.add_argument("--url", metavar="URL", type=outside, default="http://127.0.0.1:8080", help="the ladder's address, with which the links begin (default http://127.0.0.1:8080)")
         self._terms(self._command("terms", "says the terms of the open ladder, and changes those that are given"))

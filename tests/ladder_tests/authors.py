@@ -192,11 +192,26 @@ class Authors(Base):
 
     def words_that_don_t_go_together(self) -> Iterator[str]:
         ladder = self._ladder()
-        for words in (("invite", "--author", "A", "--count", "2"), ("invite", "--withdraw"), ("terms", "--opens=2026-03-02", "--closes=2026-03-01"),
-                      ("invite", "--author", "organiser"), ("invite", "--author", "a\x07b"), ("invite", "--author", "Nobody", "--withdraw")):
+        for words, wanted in ((("invite", "--author", "A", "--count", "2"), "--author is for one author"), (("invite", "--withdraw"), "--withdraw wants --author"),
+                              (("terms", "--opens=2026-03-02", "--closes=2026-03-01"), "can't close before it opens"),
+                              (("invite", "--author", "organiser"), "it isn't 'organiser'"), (("invite", "--author", "a\x07b"), "an author's name"),
+                              (("invite", "--author", "Nobody", "--withdraw"), "there is no author Nobody")):
             said = ladder.run(*words, status=2)
-            if said.count("\n") > 2 or "\x07" in said:
+            if said.count("\n") > 2 or "\x07" in said or wanted not in said:
                 yield f"{words}: {said!r}"
+
+    def the_command_line_makes_and_withdraws_links(self) -> Iterator[str]:
+        ladder = self._new("commands")
+        link = re.fullmatch(r"Ann: http://127\.0\.0\.1:8080/join#([\w-]{22})\n", ladder.run("invite", "--author", "Ann"))
+        if not link or ladder.ask("GET", "/mine", token=link[1]).status != 200:
+            yield "the link isn't taken"
+        if not re.fullmatch(r"author 2: http\S+\n", said := ladder.run("invite")):
+            yield said
+        ladder.run("invite", "--author", "Ann", "--withdraw")
+        if link and ladder.ask("GET", "/mine", token=link[1]).status != 303:
+            yield "the withdrawn link is taken"
+        if "robots: 2\n" not in ladder.run("terms", "--robots", "2", "--names", "hidden") or "names: hidden\n" not in ladder.run("terms"):
+            yield "terms don't stay"
 
     def _people(self, name: str) -> tuple[Ladder, dict[str, str]]:
         """A ladder of its own, with the tokens of all roles."""
