@@ -37,9 +37,8 @@ def outcome(battle: Battle, it: Seat) -> str:
 def seat(lookup: Lookup, battle: Battle, it: Seat, up: str) -> Markup:
     """A robot in its seat, with its damage."""
     did = outcome(battle, it)
-    unseen = tag("span", " damage", class_="unseen")
     return tag("li", tag("span", lookup.robot_link(it.robot, up)), tag("span", did, class_=f"did {did}"),
-               tag("span", charts.damage(it.damage), f" {it.damage} %", unseen, class_="hurt"))
+               tag("span", charts.damage(it.damage), f" {it.damage} % damage", class_="hurt"))
 
 
 def ways(lookup: Lookup, replays: Replays, battle: Battle, up: str) -> Markup:

@@ -14,11 +14,14 @@ from replays.main import TRACE
 from tools.faults import Fault
 from tools.programs import found
 
+from . import places
 from .facts import Battle, Settings
 
 # Of a longer match a page has the last cycles alone, so no page is large.
 MOST_CYCLES = 50_000
 MOST_NAME = 255
+# Replays lie in a folder of the site.
+WAY_BACK = f'<nav style="padding: 8px 20px"><a style="color: inherit" href="../{places.INDEX}">All robots</a></nav>\n'.encode()
 # Runs scripts/replay's module from the folder of this package.
 REPLAY = "import sys; sys.path.insert(0, sys.argv.pop(1)); from replays.main import run; sys.exit(run(sys.argv[1:]))"
 LIBRARY = os.path.dirname(os.path.dirname(os.path.abspath(__file__)))
@@ -63,7 +66,12 @@ def film(it: Order) -> bytes:
         python = [sys.executable, *(["-B"] if sys.dont_write_bytecode else []), "-c", REPLAY, LIBRARY]
         ran = subprocess.run([*python, *it.options, *files], stdin=subprocess.DEVNULL, stdout=subprocess.PIPE,
                              stderr=subprocess.DEVNULL, check=False)
-        return b"" if ran.returncode else ran.stdout
+        return b"" if ran.returncode else with_way_back(ran.stdout)
+
+
+def with_way_back(page: bytes) -> bytes:
+    """The page of a match with a link to the site's first page, before all else that it shows."""
+    return page.replace(b"<main>", WAY_BACK + b"<main>", 1)
 
 
 def written(folder: str, seat: int, name: str, source: bytes) -> str:

@@ -205,7 +205,7 @@ const site = (() => {
     function seatRow(seats, it, rows) {
         const did = outcome(seats, it);
         return made("li", {}, made("span", {}, robotLink(it.file, rows.get(it.file).name)), made("span", {class: `did ${did}`}, did),
-            made("span", {class: "hurt"}, damageBar(it.damage), ` ${it.damage} %`, made("span", {class: "unseen"}, " damage")));
+            made("span", {class: "hurt"}, damageBar(it.damage), ` ${it.damage} % damage`));
     }
 
     /** Returns a text, deflated, as a link carries it. */
@@ -253,8 +253,10 @@ const site = (() => {
             return section("Matches", made("p", {}, "None of these matches was decided."));
         }
         const cards = it.notable.map(one => card(all, data, rows, it.names, one));
+        const [won, tied, lost] = it.score, played = won + tied + lost, left = played - cards.length;
+        const others = left > 0 ? made("p", {}, `These are ${count(cards.length)} of ${count(played)} matches. The table above counts how the other ${count(left)} ended, too.`) : "";
         const plays = made("p", {}, "A command line plays its match again, in a folder that has the site's folder ", made("code", {}, "sources"), ".");
-        return section("Matches", made("div", {class: "battles"}, ...cards), plays);
+        return section("Matches", others, made("div", {class: "battles"}, ...cards), plays);
     }
 
     /** Returns the robots by their files, with their rows of the table. */

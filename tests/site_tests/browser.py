@@ -112,6 +112,8 @@ def a_pair(browser: Browser, site: str) -> Results:
     cards = [*page.all("article")]
     yield "matches", [it.one("h3").text() for it in cards] == ["Closest, longest", "Shortest", "Greatest upset"]
     seats = [[part.text() for part in it.all("span") if "unseen" not in part.classes()] for it in cards[2].all("li")]
+    yield "bars say that they are damage", not any("unseen" in part.classes() for it in cards for part in it.all("span"))
+    yield "where the other matches are", "These are 3 of 10 matches. The table above counts how the other 7 ended, too." in page.text()
     yield "its seats", seats == [["..", "won", " 12 % damage"], ["hunter.r", "lost", " 100 % damage"]]
     words = cards[1].one("pre").text().split(" ")
     yield "its command line", words[:7] == ["crobots", "-f1", "-m1", "-l500000", f"-s{2**64 - 1}", "-p1", HUNTER_FILE]

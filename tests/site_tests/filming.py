@@ -91,7 +91,9 @@ def some(site: str, told: str) -> Results:
     watch = [href for href in links(page) if "replays/" in href]
     yield "a link to it", len(watch) == 1 and not dangling(site)[1]
     # what is after the last '/' is a robot's name for the page
-    yield "its page", read(os.path.join(site, "robots", watch[0])).one("title").text().startswith("Match ")
+    replay = read(os.path.join(site, "robots", watch[0]))
+    yield "its page", replay.one("title").text().startswith("Match ")
+    yield "its way back", [it.attributes["href"] for it in replay.one("nav").all("a")] == ["../index.html"]
 
 
 def kept(site: str, told: str) -> Results:
