@@ -1,5 +1,6 @@
 // The settings, the run of a battle with its report, and the match that is watched.
 import {FIRST_MATCH, areSame, checked, copyOf, isSeed} from "./battles.js";
+import {STOPPED} from "./calling.js";
 import {byId} from "./dom.js";
 import {Ending, Limits} from "./limits.js";
 import {Filming} from "./filming.js";
@@ -81,7 +82,7 @@ export class Playing {
         onSubmit("settings", () => this.run());
         onSubmit("watching", () => this.watchAsked());
         byId("run").addEventListener("click", () => this.run());
-        byId("stop").addEventListener("click", () => runner.stop());
+        byId("stop").addEventListener("click", () => this.stop());
         byId("from").addEventListener("change", event => this.screen.jumpTo(Number(event.target.value)));
         document.addEventListener("keydown", event => {
             if (event.key === "Enter" && (event.ctrlKey || event.metaKey)) {
@@ -159,8 +160,20 @@ export class Playing {
         return isFit;
     }
 
+    /** Ends what runs, also if the engine wasn't asked for it yet. */
+    stop() {
+        this.isStopped = this.isRunning;
+        this.runner.stop();
+    }
+
+    /** Calls the engine; fails if what runs was stopped. */
+    call(name, settings, robots) {
+        return this.isStopped ? Promise.reject(new Error(STOPPED)) : this.runner.call(name, settings, robots);
+    }
+
     busy(isRunning) {
         this.isRunning = isRunning;
+        this.isStopped = false;
         if (isRunning) {
             this.focused = /** @type {HTMLElement} */ (document.activeElement);
         }
@@ -186,7 +199,7 @@ export class Playing {
         const battle = this.store.run();
         tell("said", "The battle runs.");
         const begun = performance.now();
-        const call = settings => this.runner.call("run", settings, battle.robots);
+        const call = settings => this.call("run", settings, battle.robots);
         const series = new Series(battle.settings, call, played => this.showProgress(played, battle.settings.matches));
         const end = await series.play();
         byId("going").hidden = true;
@@ -287,7 +300,7 @@ export class Playing {
     async show(wish, say) {
         byId("watched").value = wish.number;
         this.inside.watch();
-        const isShown = await new Watcher(this.runner, this.screen, say).watch(wish);
+        const isShown = await new Watcher(this, this.screen, say).watch(wish);
         this.inside.watch(isShown ? wish : this.filmed);
         if (isShown) {
             this.filmed = wish;

@@ -76,7 +76,7 @@ export class Sweeping {
 
     numbersOf(source, compiled) {
         try {
-            return {found: compiled ? tunablesOf(source, constantsOf(compiled.listing, compiled.places)) : [], fault: ""};
+            return {found: compiled ? tunablesOf(source, constantsOf(source, compiled.listing, compiled.places)) : [], fault: ""};
         } catch (fault) {
             return {found: [], fault: `A mark is wrong: ${fault.message}.`};
         }

@@ -19,17 +19,6 @@ const BLANKS = /^[\t-\r ]*$/;
 const encoder = new TextEncoder();
 const decoder = new TextDecoder("utf-8", {ignoreBOM: true});
 
-/**
- * Returns where constants stand, of a listing and of the places of its instructions.
- * @returns {Place[]}
- */
-export function constantsOf(listing, places) {
-    const constants = new Set([...listing.matchAll(/^ *(\d+) CONST /gm)].map(([, address]) => address));
-    const rows = places.trimEnd().split("\n").slice(1).map(row => row.split("\t"));
-    const found = rows.filter(([address]) => constants.has(address));
-    return found.map(([, , , line, column]) => ({line: Number(line), column: Number(column)}));
-}
-
 /** A source as its bytes, a letter for each. */
 class Bytes {
     constructor(source) {
@@ -70,6 +59,18 @@ class Bytes {
             return {at: index, text: words.join(" ").replace(/[^\0-\x7f]/g, "\ufffd")};
         });
     }
+}
+
+/**
+ * Returns where the constants of a source stand, of its listing and of the places of its instructions. Some instructions push a
+ * constant that nobody wrote.
+ * @returns {Place[]}
+ */
+export function constantsOf(source, listing, places) {
+    const bytes = new Bytes(source);
+    const pushed = new Set([...listing.matchAll(/^ *(\d+) CONST /gm)].map(([, address]) => address));
+    const rows = places.trimEnd().split("\n").slice(1).map(row => row.split("\t")).filter(([address]) => pushed.has(address));
+    return rows.map(([, , , line, column]) => ({line: Number(line), column: Number(column)})).filter(place => Number.isFinite(bytes.endOf(place)));
 }
 
 /** Whether a comment is meant as a mark: it begins with 'tune' and a number. */

@@ -4,12 +4,12 @@ from __future__ import annotations
 
 import os
 import re
-import subprocess
 import tempfile
+from subprocess import DEVNULL, PIPE
 from types import TracebackType
 
 from tools.faults import PROGRAM, Fault
-from tools.programs import found
+from tools.programs import found, started
 
 SECONDS = 60
 
@@ -33,11 +33,11 @@ class Programs:
     def lines(self, name: str, *words: str) -> list[str]:
         """What a command writes, and then what it says."""
         path = self._paths.setdefault(name, os.path.abspath(found(name)))
-        ran = subprocess.run([path, *words], cwd=self._folder.name, stdin=subprocess.DEVNULL, capture_output=True, text=True,
-                             timeout=SECONDS, check=False)
-        if ran.returncode not in (0, 1):
-            raise Fault(f"{name} ended with status {ran.returncode}: {' '.join(ran.stderr.split())}", PROGRAM)
-        return [*ran.stdout.splitlines(), *ran.stderr.splitlines()]
+        with started([path, *words], DEVNULL, PIPE, PIPE, self._folder.name) as child:
+            written, said = (part.decode("utf-8", "replace") for part in child.communicate(timeout=SECONDS))
+        if child.returncode not in (0, 1):
+            raise Fault(f"{name} ended with status {child.returncode}: {' '.join(said.split())}", PROGRAM)
+        return [*written.splitlines(), *said.splitlines()]
 
     def listing(self, source: str, *words: str) -> list[str]:
         """What `crobots -c` says of a source in the file robot.r."""

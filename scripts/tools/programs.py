@@ -55,12 +55,12 @@ def lines(path: str, words: Iterable[str], judge: Judge, errors: str = "surrogat
 
 
 @contextlib.contextmanager
-def started(words: list[str], stdin: int, stdout: int, stderr: int | IO[bytes]) -> Iterator[subprocess.Popen[bytes]]:
+def started(words: list[str], stdin: int, stdout: int, stderr: int | IO[bytes], folder: str | None = None) -> Iterator[subprocess.Popen[bytes]]:
     """A program that ends when it is needed no more, and by a signal that comes while it is started, too."""
     child = None
     try:
         with watch() as heard:
-            child = subprocess.Popen(words, stdin=stdin, stdout=stdout, stderr=stderr)
+            child = subprocess.Popen(words, stdin=stdin, stdout=stdout, stderr=stderr, cwd=folder)
         heard.check()
         yield child
     finally:

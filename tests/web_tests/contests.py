@@ -273,7 +273,7 @@ def contests(crobots: str, folder: str) -> list[str]:
 
 # Marks in samples, and the words for their sweeps; a mark stands behind letters of two bytes.
 SWEEPS = (
-    ("sweeper.r", ("> 40)", "> 40 /* tune 0..400 step 100 name near */)"), ("runner.r", "hunter.r"), (20, 20_000, 1, 1)),
+    ("sweeper.r", ("> 40)", "> 40 /* tune 0..400 step 100 name near */)"), ("runner.r", "hunter.r"), (60, 20_000, 1, 1)),
     ("sweeper.r", ("angle + 20", "/* \u00e4\u00f6 */ angle + 20 /* tune 1..60 */"), ("wanderer.r", "sweeper.r", "jumpy.r"), (6, 30_000, 77, 2)),
 )
 

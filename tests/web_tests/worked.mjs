@@ -22,7 +22,7 @@ const quiet = () => {};
 /** Where constants of a source stand, by the module. */
 function constants(source, profile) {
     const [listed, places] = [engine.list({profile}, [{name: "robot", source}]), engine.places({profile}, [{name: "robot", source}])];
-    return constantsOf(listed.text, places.text);
+    return constantsOf(source, listed.text, places.text);
 }
 
 async function sweep(settings, source, opponents, each) {
