@@ -24,7 +24,7 @@ MIDDLES = """const [svg, done] = arguments, view = document.getElementById('film
     image.onload = () => { const canvas = document.createElement('canvas'); canvas.width = canvas.height = 640; const it = canvas.getContext('2d');
       it.fillStyle = '#fff'; it.fillRect(0, 0, 640, 640); it.drawImage(image, 0, 0); done([middles(field), middles(canvas)]); };
     image.src = 'data:image/svg+xml;utf8,' + encodeURIComponent(svg)"""
-CYCLES = (0, 300, 900, 1500, 2400)
+CYCLES = (0, 300, 900, 1500, 1800)
 MOST_SVG_BYTES = 1_500_000
 
 
