@@ -51,7 +51,7 @@ class Sites(Base):
     def the_version_of_the_program(self) -> list[str]:
         """It is that of the file beside the installed scripts, of the program that was installed with them alone."""
         top, scripts = self.at("installed"), os.path.join(HERE, "..", "..", "scripts")
-        for package in ("tools", "leagues", "tournaments", "sites", "replays"):
+        for package in ("tools", "leagues", "ladder", "tournaments", "sites", "replays"):
             shutil.copytree(os.path.join(scripts, package), f"{top}/share/crobots/lib/{package}")
         os.makedirs(f"{top}/bin")
         for name, path in (("crobots", self._program), ("crobots-league", LEAGUE),
