@@ -133,3 +133,4 @@ def results(page: Page, folder: str) -> Iterator[tuple[str, list[str]]]:
     yield "the field alone: keeps nothing", keeps_nothing(page)
     yield "the field alone: in a frame", in_a_frame(page, folder)
     yield "the field alone: heads and policies", heads(folder)
+    page.open()

@@ -11,9 +11,9 @@ from . import contests, module
 from .battles import Battle, Settings
 from .pages import Page, as_loaded
 
-OPPONENT = "runner.r"
+OPPONENT = "jumpy.r"
 LIMIT, SEED = 20_000, 3
-CHANGE = ("angle = angle + 20;", "angle = angle + 11;")
+CHANGE = ("angle = angle + 20;", "angle = angle + 30;")
 MARK = ("> 40)", "> 40 /* tune 0..400 step 100 name near */)")
 # how long the page may not answer while it plays, and after how long it has stopped, in milliseconds
 MOST_SILENCE, MOST_TO_STOP = 250, 1500
