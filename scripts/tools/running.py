@@ -2,6 +2,7 @@
 
 from __future__ import annotations
 
+import errno
 import importlib
 import os
 import signal
@@ -45,6 +46,8 @@ def run(name: str, does: Callable[[], int | None], usage: str = "", stopped: str
         signal.signal(signal.SIGPIPE, signal.SIG_DFL)
         os.kill(os.getpid(), signal.SIGPIPE)
     except OSError as why:
+        if why.errno == errno.ENOMEM:
+            return told(name, MemoryError(), usage, stopped)
         what = f"{why.filename}: {why.strerror}" if why.filename else f"{why.strerror}"
         return told(name, Fault(what, FILE), usage, stopped)
     return 0

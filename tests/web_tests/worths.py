@@ -204,7 +204,8 @@ def swept(page: Page, crobots: str, stages: str) -> list[str]:
         wrong += [] if rows == wanted else [f"{button}: {rows}, not {wanted}"]
     drawn = page.js("return [document.querySelectorAll('#sweep circle').length, document.querySelectorAll('#sweep circle.today').length,"
                     "document.querySelector('#sweep .band').points.length, document.querySelector('#sweep text.now').textContent]")
-    return wrong + ([] if drawn == [5, 1, 10, "today's 40"] else [f"{drawn}"])
+    # five values of the range, and today's
+    return wrong + ([] if drawn == [6, 1, 12, "today's 40"] else [f"{drawn}"])
 
 
 def cancelled(page: Page) -> list[str]:
