@@ -84,6 +84,10 @@ class Firefox:
         """Runs code in the page."""
         return self.ask("WebDriver:ExecuteScript", script=code, args=list(words))
 
+    def execute_async_script(self, code: str, *words: Any) -> Any:
+        """Runs code in the page, whose last argument takes the answer."""
+        return self.ask("WebDriver:ExecuteAsyncScript", script=code, args=list(words))
+
     def set_window_size(self, width: int, height: int) -> None:
         """Gives the window a size."""
         before, self._scale = self._scale, next(it for it in SCALES if width * it >= LEAST_WIDTH)

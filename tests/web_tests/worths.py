@@ -210,7 +210,8 @@ def swept(page: Page, crobots: str, stages: str) -> list[str]:
 
 def cancelled(page: Page) -> list[str]:
     """What is typed ends a sweep; the curve so far stays, and the numbers are those of the new text."""
-    source = contests.robot("sweeper.r").replace(*MARK)
+    # a link to the battle that is open does nothing
+    source = contests.robot("sweeper.r").replace(*MARK) + "\n"
     begin(page, source)
     page.set_matches("sweep-choice", 10_000)
     page.js("document.querySelector('#sweep-numbers button').click()")
