@@ -1,0 +1,10 @@
+pub mod Behind
+pub mod KnownLines
+pub mod Lining
+pub mod Moving
+pub mod Passing
+pub mod Replacing
+pub mod Shapes
+pub mod Stepping
+pub mod Turned
+pub mod Walking

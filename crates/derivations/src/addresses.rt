@@ -1,6 +1,10 @@
 //! The position in a source that each instruction of its program comes from.
 
-ghost use Rattle.std.specs.Prelude.{◌≡◌, ◌≤◌, ◌==◌, length, slice_get};
+ghost use Rattle.std.specs.Prelude.{◌≡◌, ◌≤◌, ◌==◌, ◌++◌, true, false, length, slice_get, IfSome};
+ghost use Rattle.grammar.specs.Grammar.{is_lexical_error};
+ghost use Rattle.tokens.specs.Tokens.{tokens};
+ghost use Rattle.derivations.specs.Lines.{AreLines};
+ghost use Rattle.derivations.specs.Walks.{Passes, lines_next, lines_of};
 
 use crate::locations::{Finder, Located};
 use crate::steps::{Automaton, StepEnd, place_of};
@@ -77,9 +81,11 @@ impl SourcePositions {
         profile: Profile,
         next: &Located,
         after: &Located,
-    ) -> bool {
+    ) -> bool
+        ensures { result ≡ true → Passes profile automaton.old self.old next.now after.now automaton.new self.new }
+    {
         let place = automaton.place();
-        for _ in 0..u64::MAX {
+        for _step in 0..u64::MAX {
             let is_kept = self.keep(automaton, profile, next);
             if !is_kept || automaton.step(next, after) != StepEnd::Stepped {
                 return false;
@@ -92,10 +98,13 @@ impl SourcePositions {
     }
 
     /// Keeps the position of each instruction that the next step makes. Answers whether there was room.
-    fn keep(&mut self, automaton: &Automaton, profile: Profile, next: &Located) -> bool {
+    fn keep(&mut self, automaton: &Automaton, profile: Profile, next: &Located) -> bool
+        ensures { result ≡ true → is_lexical_error next.now.token ≡ false
+            → lines_of self.new ≡ lines_of self.old ++ lines_next profile automaton.now next.now }
+    {
         let emission = automaton.emission(&next.token);
         let place = automaton.origin(emission.origin(), next);
-        for _ in 0..emission.instructions(profile) {
+        for _made in 0..emission.instructions(profile) {
             if self.places.try_push(place).is_err() {
                 return false;
             }
@@ -108,7 +117,9 @@ impl SourcePositions {
 /// token doesn't fit, or there are more instructions than a program has. No clause says that the list is as long as the
 /// program's code: tests do. Faults of names and levels are passed over. No memory is asked for.
 #[inline(never)]
-pub fn lines(source: &[u8], profile: Profile) -> Option<SourcePositions> {
+pub fn lines(source: &[u8], profile: Profile) -> Option<SourcePositions>
+    ensures { IfSome result (λ positions. AreLines profile (tokens source.now) (lines_of positions)) }
+{
     let mut feed = MemoryFeed::new(source, WINDOW_BYTES);
     let mut cursor = Cursor::open(&mut feed).ok()?;
     let mut finder = Finder::new(source);
@@ -117,7 +128,7 @@ pub fn lines(source: &[u8], profile: Profile) -> Option<SourcePositions> {
         places: ArrayVec::new(),
     };
     let mut next = finder.place(cursor.peek());
-    for _ in 0..MOST_SOURCE_BYTES + 2 {
+    for _token in 0..MOST_SOURCE_BYTES + 2 {
         let is_last = cursor.peek().token.is_last();
         let after = if is_last {
             next

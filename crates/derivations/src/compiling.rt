@@ -2,8 +2,11 @@
 
 ghost use Rattle.std.specs.Prelude.{◌≡◌, ◌≢◌, ℕ, IfErr, IfOk, IfSome, List, Some, length};
 ghost use Rattle.derivations.specs.Compiling.{IsCompiled, IsFirstFault};
+ghost use Rattle.derivations.specs.Lines.{AreLines};
+ghost use Rattle.derivations.specs.Walks.{lines_of};
 ghost use Rattle.parser.specs.Segment.{CountsRefusal};
 ghost use Rattle.tokens.specs.Feed.{MayRead};
+ghost use Rattle.tokens.specs.Tokens.{tokens};
 
 use crate::addresses::{SourcePositions, lines};
 use code::{Maker, Program};
@@ -45,6 +48,7 @@ pub fn compile<F: Feed>(profile: Profile, feed: &mut F) -> Result<Compiled, Pars
 /// as many as the program has: that is so for another source, and tests look that it isn't for its own.
 pub fn positions_of(program: &Program, source: &[u8]) -> Option<SourcePositions>
     ensures each { IfSome result (λ positions. length positions ≡ length program.now.instructions) }
+    ensures lines { IfSome result (λ positions. AreLines program.now.profile (tokens source.now) (lines_of positions)) }
 {
     let positions = lines(source, program.profile())?;
     if positions.len() == program.instructions().len() {

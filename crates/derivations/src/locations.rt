@@ -1,6 +1,6 @@
 //! The tokens of a source in memory, each with its line, its column and its bytes.
 
-ghost use Rattle.std.specs.Prelude.{◌≤◌, length};
+ghost use Rattle.std.specs.Prelude.{◌≡◌, ◌≤◌, length};
 
 use arrayvec::ArrayVec;
 use std::alloc::{AllocError, Global};
@@ -101,7 +101,10 @@ impl<'a> Finder<'a> {
     }
 
     /// Finds the position of the next token.
-    pub(crate) fn place(&mut self, token: &LocatedToken) -> Located {
+    pub(crate) fn place(&mut self, token: &LocatedToken) -> Located
+        ensures token { result.token ≡ token.now.token }
+        ensures line { result.line ≡ token.now.line }
+    {
         let end = token.end as usize;
         let start = self.start(token);
         self.pass_lines(start);

@@ -1,0 +1,121 @@
+-- The steps up to the one that passes a token.
+use Rattle.std.proofs.Common.{◌≡◌, ℕ, suc, ◌+◌, ◌<◌, ◌≤◌, List, [], ◌∷◌, ◌++◌, refl, sym, ap, ◌∙◌, subst, Bool, true, false, arith}
+use Rattle.std.specs.Prelude.{◌^◌, Some, drop, if◌then◌else◌}
+use Rattle.tokens.specs.declared.located_tokens.LocatedToken.{LocatedToken}
+use Rattle.grammar.specs.Grammar.{Item, is_lexical_error}
+use Rattle.grammar.specs.Profile.{Profile}
+use Rattle.derivations.proofs.Stepping.{rest_after}
+use Rattle.derivations.proofs.Walking.{StepReaches, step_reaches}
+use Rattle.derivations.specs.Lines.{passes_with}
+use Rattle.derivations.specs.Stacks.{Moves, items_of, tokens_passed}
+use Rattle.derivations.specs.Steps.{front_of, outcome_of}
+use Rattle.derivations.specs.Walks.{AreNext, PassesToken, Reaches, lines_next, lines_of, walk_at}
+use Rattle.derivations.specs.declared.addresses.SourcePosition.{SourcePosition}
+use Rattle.derivations.specs.declared.locations.Located.{Located}
+use Rattle.derivations.specs.declared.steps.Automaton.{Automaton}
+use Rattle.derivations.specs.declared.steps.StepEnd.TheVariants as step_end
+
+-- some steps were made, and the next token is still the same
+pub record Still (profile : Profile) (tokens : List LocatedToken) (n place : ℕ) (automaton : Automaton)
+    (positions : List SourcePosition) : Type 0 where
+  pub steps : ℕ
+  pub reaches : Reaches profile tokens steps automaton positions
+  pub rest : (walk_at tokens steps).state.rest ≡ (walk_at tokens n).state.rest
+  pub place : automaton.place ≡ place
+
+-- so it is wherever the automaton was at first
+abbrev pub StaysNext : Profile → Automaton → List SourcePosition → Located → Located → Automaton → List SourcePosition
+    → Type 0
+StaysNext profile first kept next after automaton positions =
+    (tokens : List LocatedToken) (n : ℕ) → Reaches profile tokens n first kept
+    → AreNext next after (walk_at tokens n).state.rest → first.place + 1 < 2 ^ 64
+    → Still profile tokens n first.place automaton positions
+
+pub begins : (profile : Profile) (first : Automaton) (kept : List SourcePosition) (next after : Located) →
+    StaysNext profile first kept next after first kept
+begins profile first kept next after tokens n r are few =
+    record { steps = n; reaches = r; rest = refl; place = refl }
+
+-- what one more step does
+pub record IsStep (profile : Profile) (next after : Located) (old new : Automaton)
+    (before positions : List SourcePosition) : Type 0 where
+  pub ends : outcome_of (front_of old.stack.items) next.token after.token ≡ step_end.Stepped
+  pub moves : Moves old new next after
+  pub kept : is_lexical_error next.token ≡ false → lines_of positions ≡ lines_of before ++ lines_next profile old next
+
+flag_rest : (stack : List Item) (rest : List LocatedToken) (b : Bool) → passes_with stack ≡ b →
+    rest_after stack rest ≡ (if b then drop 1 rest else rest)
+flag_rest stack rest b e = ap (λ (x : Bool). if x then drop 1 rest else rest) e
+
+flag_place : (stack : List Item) (b : Bool) → passes_with stack ≡ b →
+    tokens_passed (passes_with stack) ≡ tokens_passed b
+flag_place stack b e = ap tokens_passed e
+
+-- no token was passed: the place stayed
+pub stays : (profile : Profile) (first old new : Automaton) (kept before positions : List SourcePosition)
+    (next after : Located) → StaysNext profile first kept next after old before →
+    IsStep profile next after old new before positions → new.place ≤ first.place →
+    StaysNext profile first kept next after new positions
+stays profile first old new kept before positions next after each is low tokens n r are few =
+    let still : Still profile tokens n first.place old before = each tokens n r are few in
+    let to : StepReaches profile tokens still.steps old new positions =
+        step_reaches profile tokens still.steps old new before positions next after still.reaches
+        (subst (λ (l : List LocatedToken). AreNext next after l) (sym still.rest) are) is.ends is.moves is.kept in
+    by still to (passes_with (items_of old.stack.items)) refl
+  where
+    by : (still : Still profile tokens n first.place old before) →
+        StepReaches profile tokens still.steps old new positions → (b : Bool) →
+        passes_with (items_of old.stack.items) ≡ b → Still profile tokens n first.place new positions
+    by still to true e = absurd (
+        let moved : new.place ≡ old.place + tokens_passed (passes_with (items_of old.stack.items)) =
+            is.moves.place (omega (arith, still.place, few)) in
+        let one : tokens_passed (passes_with (items_of old.stack.items)) ≡ 1 =
+            flag_place (items_of old.stack.items) true e in
+        omega (arith, moved, one, still.place, low))
+    by still to false e = record {
+      steps = suc still.steps;
+      reaches = to.reaches;
+      rest = to.rest ∙ flag_rest (items_of old.stack.items) _ false e ∙ still.rest;
+      place =
+          let moved : new.place ≡ old.place + tokens_passed (passes_with (items_of old.stack.items)) =
+              is.moves.place (omega (arith, still.place, few)) in
+          let none : tokens_passed (passes_with (items_of old.stack.items)) ≡ 0 =
+              flag_place (items_of old.stack.items) false e in
+          omega (arith, moved, none, still.place);
+    }
+
+-- a token was passed
+pub passed : (profile : Profile) (first old new : Automaton) (kept before positions : List SourcePosition)
+    (next after : Located) → StaysNext profile first kept next after old before →
+    IsStep profile next after old new before positions → first.place < new.place →
+    (tokens : List LocatedToken) (n : ℕ) → Reaches profile tokens n first kept →
+    AreNext next after (walk_at tokens n).state.rest → first.place + 1 < 2 ^ 64 →
+    PassesToken profile tokens n new positions × (new.place ≡ first.place + 1)
+passed profile first old new kept before positions next after each is high tokens n r are few =
+    let still : Still profile tokens n first.place old before = each tokens n r are few in
+    let to : StepReaches profile tokens still.steps old new positions =
+        step_reaches profile tokens still.steps old new before positions next after still.reaches
+        (subst (λ (l : List LocatedToken). AreNext next after l) (sym still.rest) are) is.ends is.moves is.kept in
+    by still to (passes_with (items_of old.stack.items)) refl
+  where
+    by : (still : Still profile tokens n first.place old before) →
+        StepReaches profile tokens still.steps old new positions → (b : Bool) →
+        passes_with (items_of old.stack.items) ≡ b →
+        PassesToken profile tokens n new positions × (new.place ≡ first.place + 1)
+    by still to false e = absurd (
+        let moved : new.place ≡ old.place + tokens_passed (passes_with (items_of old.stack.items)) =
+            is.moves.place (omega (arith, still.place, few)) in
+        let none : tokens_passed (passes_with (items_of old.stack.items)) ≡ 0 =
+            flag_place (items_of old.stack.items) false e in
+        omega (arith, moved, none, still.place, high))
+    by still to true e =
+        let moved : new.place ≡ old.place + tokens_passed (passes_with (items_of old.stack.items)) =
+            is.moves.place (omega (arith, still.place, few)) in
+        let one : tokens_passed (passes_with (items_of old.stack.items)) ≡ 1 =
+            flag_place (items_of old.stack.items) true e in
+        (record {
+          steps = suc still.steps;
+          reaches = to.reaches;
+          rest = to.rest ∙ flag_rest (items_of old.stack.items) _ true e
+              ∙ ap (λ (l : List LocatedToken). drop 1 l) still.rest;
+        }, omega (arith, moved, one, still.place))
