@@ -5,8 +5,11 @@ use Rattle.grammar.specs.Grammar as table
 use Rattle.grammar.specs.Grammar.{is_lexical_error}
 use Rattle.grammar_laws.specs.Emission.{on_body}
 use Rattle.tokens.specs.declared.located_tokens.Token.{Token}
+use Rattle.derivations.proofs.Moving.{first_item}
 use Rattle.derivations.proofs.Turned.{dropped, turned, turned_none}
-use Rattle.derivations.specs.Scheme.{blank_emitted, blank_item, blank_rule, known_items}
+use Rattle.derivations.specs.Scheme.{blank_emitted, blank_item, blank_rule, known_items, origin_of}
+use Rattle.derivations.specs.Lines.{origin_at}
+use Rattle.derivations.specs.declared.emissions.Origin.TheVariants as origin
 use Rattle.derivations.specs.Stacks.{item_in, items_of}
 use Rattle.derivations.specs.Steps.{front_of}
 use Rattle.derivations.specs.Table.{item_of}
@@ -73,3 +76,40 @@ two_decide item stack next = by (is_lexical_error next)
         ≡ (if b then [] else blank_item (item ∷ stack) next)
     by true = refl
     by false = item_decides item stack next
+
+pub behind_is : (stack xs ys zs : List Pending) (a b : Option Item) → xs ≡ stack → ys ≡ others xs → zs ≡ others ys →
+    a ≡ item_front ys → b ≡ item_front zs → known_items (a ∷ b ∷ []) ≡ take 2 (drop 1 (items_of stack))
+behind_is stack xs ys zs a b e f g h i =
+    let at : ys ≡ others stack = f ∙ ap others e in
+    let then : zs ≡ others (others stack) = g ∙ ap others at in
+    ap (λ (x : Option Item). known_items (x ∷ b ∷ [])) (h ∙ ap item_front at)
+    ∙ ap (λ (x : Option Item). known_items (item_front (others stack) ∷ x ∷ [])) (i ∙ ap item_front then)
+    ∙ behind_known stack
+
+pub emission_is : (stack : List Pending) (p : Pending) (behind : List table.Item) (next : Token) →
+    front_of stack ≡ Some p → behind ≡ take 2 (drop 1 (items_of stack)) →
+    blank_emitted (item_of p.item ∷ behind) next ≡ blank_emitted (items_of stack) next
+emission_is stack p behind next e h =
+    let rest : List table.Item = map item_in (reverse (others stack)) in
+    let first : items_of stack ≡ item_of p.item ∷ rest = first_item stack p e in
+    ap (λ (l : List table.Item). blank_emitted (item_of p.item ∷ l) next)
+    (h ∙ ap (λ (l : List table.Item). take 2 (drop 1 l)) first)
+    ∙ two_decide (item_of p.item) rest next
+    ∙ sym (ap (λ (l : List table.Item). blank_emitted l next) first)
+
+pub none_emitted : (stack : List Pending) (next : Token) → front_of stack ≡ None →
+    [] ≡ blank_emitted (items_of stack) next
+none_emitted stack next e =
+    by (is_lexical_error next)
+    ∙ sym (ap (λ (l : List Pending). blank_emitted (items_of l) next) (turned_none stack e))
+  where
+    by : (b : Bool) → [] ≡ (if b then [] else blank_item [] next)
+    by true = refl
+    by false = refl
+
+pub origin_is : (stack : List Pending) (p : Pending) → front_of stack ≡ Some p →
+    origin_of (item_of p.item) ≡ origin_at (items_of stack)
+origin_is stack p e = sym (ap origin_at (first_item stack p e))
+
+pub none_origin : (stack : List Pending) → front_of stack ≡ None → origin.Next ≡ origin_at (items_of stack)
+none_origin stack e = sym (ap (λ (l : List Pending). origin_at (items_of l)) (turned_none stack e))

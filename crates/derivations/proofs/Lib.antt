@@ -1,4 +1,5 @@
 pub mod Behind
+pub mod Keeping
 pub mod KnownLines
 pub mod Lining
 pub mod Moving

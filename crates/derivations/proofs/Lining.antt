@@ -9,18 +9,14 @@ use Rattle.tokens.specs.declared.located_tokens.Token.{Token}
 use Rattle.tokens.specs.declared.located_tokens.Token.TheVariants as token
 use Rattle.grammar.specs.Compiled.{last_line}
 use Rattle.grammar.specs.Derivation.{next_token, token_after_next, line_at}
-use Rattle.grammar.specs.Grammar.{is_lexical_error}
+use Rattle.grammar.specs.Grammar.{is_lexical_error, Part, Source}
 use Rattle.grammar.specs.Profile.{Profile}
-use Rattle.derivations.specs.Lines.{AreLines, line_after_next, lines_within, walk_start}
-use Rattle.derivations.specs.Walks.{AreNext, Passes, PassesToken, Reaches, lines_of, walk_at}
+use Rattle.derivations.specs.Lines.{AreLines, line_after_next, lines_within, mark, walk_start}
+use Rattle.derivations.specs.Stacks.{items_of, marks_of}
+use Rattle.derivations.specs.Walks.{AreNext, IsLocated, Passes, PassesToken, Reaches, lines_of, walk_at}
 use Rattle.derivations.specs.declared.addresses.SourcePosition.{SourcePosition}
 use Rattle.derivations.specs.declared.locations.Located.{Located}
 use Rattle.derivations.specs.declared.steps.Automaton.{Automaton}
-
--- it is the token, on its line
-pub record IsLocated (located : Located) (t : LocatedToken) : Type 0 where
-  pub token_is : located.token ≡ t.token
-  pub line_is : located.line ≡ t.line
 
 -- i tokens were passed, and the cursor is at the next one
 pub record Proceeds (profile : Profile) (ts : List LocatedToken) (i : ℕ) (cursor : Cursor) (to_come : List ℕ)
@@ -31,6 +27,20 @@ pub record Proceeds (profile : Profile) (ts : List LocatedToken) (i : ℕ) (curs
   pub left : (walk_at ts steps).state.rest ≡ drop i ts
   pub located : IsLocated next cursor.next
   pub place : automaton.place ≡ i
+
+-- no token was passed yet
+pub opens : (profile : Profile) (bytes : List ℕ) (cursor : Cursor) (to_come : List ℕ) (next : Located)
+    (automaton : Automaton) → shown cursor (Some to_come) ≡ option_map tokens (Some bytes) → IsLocated next cursor.next →
+    items_of automaton.stack.items ≡ Part Source ∷ [] → marks_of automaton.stack.items ≡ mark 0 0 ∷ [] →
+    automaton.place ≡ 0 → automaton.passed.line ≡ 0 → Proceeds profile (tokens bytes) 0 cursor to_come next automaton []
+opens profile bytes cursor to_come next automaton e at items marks place passed = record {
+  steps = 0;
+  reaches = record { at = record { items = items; marks = marks; passed = passed }; lines = refl };
+  shows = e;
+  left = refl;
+  located = at;
+  place = place;
+}
 
 last_is_end : (t : Token) → is_last t ≡ true → is_lexical_error t ≡ false → t ≡ token.End
 last_is_end token.End e h = refl
@@ -57,19 +67,19 @@ more_left t others rest e h =
 
 one_next : (t : LocatedToken) (next : Located) → IsLocated next t → is_last t.token ≡ true → AreNext next next (t ∷ [])
 one_next t next at e = record {
-  next = sym at.token_is;
-  after = λ sound. sym (last_is_end next.token (ap is_last at.token_is ∙ e) sound);
-  line = sym at.line_is;
-  line_after = sym at.line_is;
+  next_is = sym at.token_is;
+  after_is = λ sound. sym (last_is_end next.token (ap is_last at.token_is ∙ e) sound);
+  line_is = sym at.line_is;
+  line_after_is = sym at.line_is;
 }
 
 two_next : (t u : LocatedToken) (others : List LocatedToken) (next after : Located) → IsLocated next t →
     IsLocated after u → AreNext next after (t ∷ u ∷ others)
 two_next t u others next after at behind = record {
-  next = sym at.token_is;
-  after = λ sound. sym behind.token_is;
-  line = sym at.line_is;
-  line_after = sym behind.line_is;
+  next_is = sym at.token_is;
+  after_is = λ sound. sym behind.token_is;
+  line_is = sym at.line_is;
+  line_after_is = sym behind.line_is;
 }
 
 -- the last token is next

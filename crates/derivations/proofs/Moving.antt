@@ -1,16 +1,17 @@
 -- What the automaton does with its stack is a step's.
-use Rattle.std.proofs.Common.{◌≡◌, ℕ, ◌+◌, ◌<◌, List, [], ◌∷◌, ◌++◌, refl, sym, ap, ◌∙◌, Bool, true, false, length, take, drop, arith}
+use Rattle.std.proofs.Common.{◌≡◌, ℕ, ◌+◌, ◌<◌, List, [], ◌∷◌, ◌++◌, refl, sym, ap, ◌∙◌, subst, Bool, true, false, length, take, drop, arith}
 use Rattle.std.specs.Prelude.{◌-◌, ◌^◌, map, reverse, Option, Some, None, unwrap_or, if◌then◌else◌}
 use Rattle.grammar.specs.Grammar as table
 use Rattle.tokens.specs.declared.located_tokens.Token.{Token}
-use Rattle.derivations.proofs.Turned.{dropped, turned}
-use Rattle.derivations.specs.Lines.{Mark, chosen_items, marks_after, passed_after, passes, passes_with}
+use Rattle.derivations.proofs.Turned.{dropped, turned, turned_none}
+use Rattle.derivations.specs.Lines.{Mark, mark, front_mark, chosen_items, marks_after, passed_after, passes, passes_with}
 use Rattle.derivations.specs.Stacks.{IsMove, Moves, item_in, items_after, items_of, mark_in, mark_of, marks_of, tokens_passed}
 use Rattle.derivations.specs.Steps.{front_of}
 use Rattle.derivations.specs.Table.{item_of}
 use Rattle.derivations.specs.declared.addresses.SourcePosition.{SourcePosition}
 use Rattle.derivations.specs.declared.locations.Located.{Located}
 use Rattle.derivations.specs.declared.steps.Automaton.{Automaton}
+use Rattle.derivations.specs.declared.steps.Move.{Move}
 use Rattle.derivations.specs.declared.steps.Move.TheVariants as move
 use Rattle.derivations.specs.declared.steps.Pending.{Pending}
 
@@ -59,7 +60,7 @@ passed_line : (b : Bool) (tokens here passed line : ℕ) → tokens ≡ tokens_p
 passed_line true tokens here passed line e some none = some (omega (arith, e))
 passed_line false tokens here passed line e some none = none e
 
-pub replaced_moves : (old new : Automaton) (next after : Located) (p : Pending) (production : List table.Item) →
+replaced_moves : (old new : Automaton) (next after : Located) (p : Pending) (production : List table.Item) →
     front_of old.stack.items ≡ Some p → IsMove (item_of p.item) next.token after.token (move.Replace production) →
     items_of new.stack.items ≡ production ++ drop 1 (items_of old.stack.items) →
     marks_of new.stack.items
@@ -112,3 +113,52 @@ passed_moves old new next after p tokens front is popped place some none =
     by : (b : Bool) → tokens ≡ tokens_passed b → old.place + 1 < 2 ^ 64 → new.place ≡ old.place + tokens_passed b
     by true e few = place (omega (arith, e, few)) ∙ ap (λ (k : ℕ). old.place + k) e
     by false e few = place (omega (arith, e, few)) ∙ ap (λ (k : ℕ). old.place + k) e
+
+-- the same, by way of an automaton whose levels were counted
+pub replaces : (old mid new : Automaton) (next after : Located) (here behind : SourcePosition) (p : Pending)
+    (production : List table.Item) (does : Move) → does ≡ move.Replace production →
+    front_of old.stack.items ≡ Some p → IsMove (item_of p.item) next.token after.token does →
+    mid.stack.items ≡ old.stack.items → mid.passed ≡ old.passed → mid.place ≡ old.place →
+    here.line ≡ next.line → behind.line ≡ after.line →
+    items_of new.stack.items ≡ production ++ drop 1 (items_of mid.stack.items) →
+    marks_of new.stack.items ≡ map (λ (item : table.Item). mark here.line behind.line) production
+        ++ drop 1 (marks_of mid.stack.items) →
+    new.passed ≡ mid.passed → new.place ≡ mid.place → Moves old new next after
+replaces old mid new next after here behind p production does e front is stack passed place at at_behind items marks passed' place' =
+    replaced_moves old new next after p production front
+    (subst (λ (m : Move). IsMove (item_of p.item) next.token after.token m) e is)
+    (items ∙ ap (λ (l : List Pending). production ++ drop 1 (items_of l)) stack)
+    (marks ∙ ap (λ (l : List Pending). map (λ (item : table.Item). mark here.line behind.line) production
+        ++ drop 1 (marks_of l)) stack
+        ∙ ap (λ (k : ℕ). map (λ (item : table.Item). mark k behind.line) production
+        ++ drop 1 (marks_of old.stack.items)) at
+        ∙ ap (λ (k : ℕ). map (λ (item : table.Item). mark next.line k) production
+        ++ drop 1 (marks_of old.stack.items)) at_behind)
+    (passed' ∙ passed) (place' ∙ place)
+
+pub passes_on : (old closed noted new : Automaton) (next after : Located) (p : Pending) (tokens : ℕ) (does : Move) →
+    does ≡ move.Pass tokens → front_of old.stack.items ≡ Some p →
+    IsMove (item_of p.item) next.token after.token does →
+    closed.stack.items ≡ old.stack.items → closed.passed ≡ old.passed → closed.place ≡ old.place →
+    noted.stack.items ≡ closed.stack.items → noted.place ≡ closed.place →
+    (0 < tokens → noted.passed.line ≡ next.line) → (tokens ≡ 0 → noted.passed.line ≡ closed.passed.line) →
+    new.stack.items ≡ take (length noted.stack.items - 1) noted.stack.items →
+    (noted.place + tokens < 2 ^ 64 → new.place ≡ noted.place + tokens) → new.passed ≡ noted.passed →
+    Moves old new next after
+passes_on old closed noted new next after p tokens does e front is stack passed place stack' place' some none popped put passed'' =
+    let same : noted.stack.items ≡ old.stack.items = stack' ∙ stack in
+    let at : noted.place ≡ old.place = place' ∙ place in
+    passed_moves old new next after p tokens front
+    (subst (λ (m : Move). IsMove (item_of p.item) next.token after.token m) e is)
+    (popped ∙ ap (λ (l : List Pending). take (length l - 1) l) same)
+    (λ few. put (omega (arith, few, at)) ∙ ap (λ (k : ℕ). k + tokens) at)
+    (λ more. ap (λ (x : SourcePosition). x.line) passed'' ∙ some more)
+    (λ no. ap (λ (x : SourcePosition). x.line) passed'' ∙ none no ∙ ap (λ (x : SourcePosition). x.line) passed)
+
+-- the mark of the item in front
+pub front_is : (stack : List Pending) (p : Pending) → front_of stack ≡ Some p →
+    front_mark (marks_of stack) ≡ mark_in p
+front_is stack p e = ap front_mark (first_mark stack p e)
+
+pub none_is : (stack : List Pending) → front_of stack ≡ None → front_mark (marks_of stack) ≡ mark 0 0
+none_is stack e = ap (λ (l : List Pending). front_mark (marks_of l)) (turned_none stack e)

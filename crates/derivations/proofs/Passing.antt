@@ -1,6 +1,6 @@
 -- The steps up to the one that passes a token.
 use Rattle.std.proofs.Common.{◌≡◌, ℕ, suc, ◌+◌, ◌<◌, ◌≤◌, List, [], ◌∷◌, ◌++◌, refl, sym, ap, ◌∙◌, subst, Bool, true, false, arith}
-use Rattle.std.specs.Prelude.{◌^◌, Some, drop, if◌then◌else◌}
+use Rattle.std.specs.Prelude.{◌^◌, ◌≢◌, Some, drop, if◌then◌else◌}
 use Rattle.tokens.specs.declared.located_tokens.LocatedToken.{LocatedToken}
 use Rattle.grammar.specs.Grammar.{Item, is_lexical_error}
 use Rattle.grammar.specs.Profile.{Profile}
@@ -13,6 +13,7 @@ use Rattle.derivations.specs.Walks.{AreNext, PassesToken, Reaches, lines_next, l
 use Rattle.derivations.specs.declared.addresses.SourcePosition.{SourcePosition}
 use Rattle.derivations.specs.declared.locations.Located.{Located}
 use Rattle.derivations.specs.declared.steps.Automaton.{Automaton}
+use Rattle.derivations.specs.declared.steps.StepEnd.{StepEnd}
 use Rattle.derivations.specs.declared.steps.StepEnd.TheVariants as step_end
 
 -- some steps were made, and the next token is still the same
@@ -21,7 +22,7 @@ pub record Still (profile : Profile) (tokens : List LocatedToken) (n place : ℕ
   pub steps : ℕ
   pub reaches : Reaches profile tokens steps automaton positions
   pub rest : (walk_at tokens steps).state.rest ≡ (walk_at tokens n).state.rest
-  pub place : automaton.place ≡ place
+  pub same_place : automaton.place ≡ place
 
 -- so it is wherever the automaton was at first
 abbrev pub StaysNext : Profile → Automaton → List SourcePosition → Located → Located → Automaton → List SourcePosition
@@ -34,7 +35,7 @@ StaysNext profile first kept next after automaton positions =
 pub begins : (profile : Profile) (first : Automaton) (kept : List SourcePosition) (next after : Located) →
     StaysNext profile first kept next after first kept
 begins profile first kept next after tokens n r are few =
-    record { steps = n; reaches = r; rest = refl; place = refl }
+    record { steps = n; reaches = r; rest = refl; same_place = refl }
 
 -- what one more step does
 pub record IsStep (profile : Profile) (next after : Located) (old new : Automaton)
@@ -42,6 +43,21 @@ pub record IsStep (profile : Profile) (next after : Located) (old new : Automato
   pub ends : outcome_of (front_of old.stack.items) next.token after.token ≡ step_end.Stepped
   pub moves : Moves old new next after
   pub kept : is_lexical_error next.token ≡ false → lines_of positions ≡ lines_of before ++ lines_next profile old next
+
+ended : (end outcome : StepEnd) → end ≡ step_end.Stepped → (end ≢ step_end.Full → end ≡ outcome) →
+    outcome ≡ step_end.Stepped
+ended end outcome e f =
+    let other : step_end.Stepped ≢ step_end.Full = λ h. cc in
+    sym (f (λ h. other (sym e ∙ h))) ∙ e
+
+pub is_step : (profile : Profile) (next after : Located) (old new : Automaton) (before positions : List SourcePosition)
+    (end : StepEnd) → end ≡ step_end.Stepped →
+    (end ≢ step_end.Full → end ≡ outcome_of (front_of old.stack.items) next.token after.token) →
+    (end ≡ step_end.Stepped → Moves old new next after) →
+    (is_lexical_error next.token ≡ false → lines_of positions ≡ lines_of before ++ lines_next profile old next) →
+    IsStep profile next after old new before positions
+is_step profile next after old new before positions end e ends moves kept =
+    record { ends = ended end _ e ends; moves = moves e; kept = kept }
 
 flag_rest : (stack : List Item) (rest : List LocatedToken) (b : Bool) → passes_with stack ≡ b →
     rest_after stack rest ≡ (if b then drop 1 rest else rest)
@@ -68,20 +84,20 @@ stays profile first old new kept before positions next after each is low tokens 
         passes_with (items_of old.stack.items) ≡ b → Still profile tokens n first.place new positions
     by still to true e = absurd (
         let moved : new.place ≡ old.place + tokens_passed (passes_with (items_of old.stack.items)) =
-            is.moves.place (omega (arith, still.place, few)) in
+            is.moves.place (omega (arith, still.same_place, few)) in
         let one : tokens_passed (passes_with (items_of old.stack.items)) ≡ 1 =
             flag_place (items_of old.stack.items) true e in
-        omega (arith, moved, one, still.place, low))
+        omega (arith, moved, one, still.same_place, low))
     by still to false e = record {
       steps = suc still.steps;
       reaches = to.reaches;
       rest = to.rest ∙ flag_rest (items_of old.stack.items) _ false e ∙ still.rest;
-      place =
+      same_place =
           let moved : new.place ≡ old.place + tokens_passed (passes_with (items_of old.stack.items)) =
-              is.moves.place (omega (arith, still.place, few)) in
+              is.moves.place (omega (arith, still.same_place, few)) in
           let none : tokens_passed (passes_with (items_of old.stack.items)) ≡ 0 =
               flag_place (items_of old.stack.items) false e in
-          omega (arith, moved, none, still.place);
+          omega (arith, moved, none, still.same_place);
     }
 
 -- a token was passed
@@ -104,13 +120,13 @@ passed profile first old new kept before positions next after each is high token
         PassesToken profile tokens n new positions × (new.place ≡ first.place + 1)
     by still to false e = absurd (
         let moved : new.place ≡ old.place + tokens_passed (passes_with (items_of old.stack.items)) =
-            is.moves.place (omega (arith, still.place, few)) in
+            is.moves.place (omega (arith, still.same_place, few)) in
         let none : tokens_passed (passes_with (items_of old.stack.items)) ≡ 0 =
             flag_place (items_of old.stack.items) false e in
-        omega (arith, moved, none, still.place, high))
+        omega (arith, moved, none, still.same_place, high))
     by still to true e =
         let moved : new.place ≡ old.place + tokens_passed (passes_with (items_of old.stack.items)) =
-            is.moves.place (omega (arith, still.place, few)) in
+            is.moves.place (omega (arith, still.same_place, few)) in
         let one : tokens_passed (passes_with (items_of old.stack.items)) ≡ 1 =
             flag_place (items_of old.stack.items) true e in
         (record {
@@ -118,4 +134,4 @@ passed profile first old new kept before positions next after each is high token
           reaches = to.reaches;
           rest = to.rest ∙ flag_rest (items_of old.stack.items) _ true e
               ∙ ap (λ (l : List LocatedToken). drop 1 l) still.rest;
-        }, omega (arith, moved, one, still.place))
+        }, omega (arith, moved, one, still.same_place))

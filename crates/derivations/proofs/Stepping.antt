@@ -71,13 +71,13 @@ pub record Goes (s : State) : Type 0 where
 
 record GoesTo (s : State) (o : Option State) (stack : List Item) (rest : List LocatedToken) : Type 0 where
   goes : is_some o ≡ true
-  stack : (unwrap_or o s).stack ≡ stack
-  rest : (unwrap_or o s).rest ≡ rest
+  stack_is : (unwrap_or o s).stack ≡ stack
+  rest_is : (unwrap_or o s).rest ≡ rest
 
 led : (s : State) (o : Option State) (stack : List Item) (rest : List LocatedToken) → Leads o stack rest →
     GoesTo s o stack rest
 led s None stack rest h = absurd h
-led s (Some t) stack rest h = record { goes = refl; stack = h.0; rest = h.1 }
+led s (Some t) stack rest h = record { goes = refl; stack_is = h.0; rest_is = h.1 }
 
 guarded : (s : State) (fault : Bool) (o : Option State) (stack : List Item) (rest : List LocatedToken) →
     fault ≡ false → Leads o stack rest → GoesTo s (if fault then None else o) stack rest
@@ -102,4 +102,4 @@ goes s item stack e sound h =
         (rest_after s.stack s.rest) =
         guarded s (is_lexical_error (next_token s.rest)) (stack_step s.stack s) _ _ sound
         (stack_leads s.stack item stack s.rest s.values s.scope s.functions e h) in
-    record { goes = to.goes; stack = to.stack; rest = to.rest }
+    record { goes = to.goes; stack = to.stack_is; rest = to.rest_is }

@@ -94,9 +94,9 @@ goes_at old w next after at are f =
     let e : w.state.stack ≡ item_of f.pending.item ∷ stack =
         sym at.items ∙ ap (λ (l : List Pending). map item_in l) (turned old.stack.items f.pending f.front) in
     goes w.state (item_of f.pending.item) stack e
-    (subst (λ (t : Token). is_lexical_error t ≡ false) (sym are.next) f.fits.sound)
-    (subst (λ (t : Token). has_step (item_of f.pending.item) t (token_after_next w.state.rest) ≡ true) (sym are.next)
-    (subst (λ (t : Token). has_step (item_of f.pending.item) next.token t ≡ true) (sym (are.after f.fits.sound)) f.fits.has))
+    (subst (λ (t : Token). is_lexical_error t ≡ false) (sym are.next_is) f.fits.sound)
+    (subst (λ (t : Token). has_step (item_of f.pending.item) t (token_after_next w.state.rest) ≡ true) (sym are.next_is)
+    (subst (λ (t : Token). has_step (item_of f.pending.item) next.token t ≡ true) (sym (are.after_is f.fits.sound)) f.fits.has))
 
 items_same : (xs ys : List Item) (a b c d : Token) → xs ≡ ys → a ≡ b → c ≡ d → items_after xs a c ≡ items_after ys b d
 items_same xs ys a b c d e f g =
@@ -112,7 +112,7 @@ marks_same xs ys a b c d m k ms ks e f g h i =
 
 mark_same : (next after : Located) (rest : List LocatedToken) → AreNext next after rest →
     mark_of next after ≡ mark_at rest
-mark_same next after rest are = cc (are.line, are.line_after)
+mark_same next after rest are = cc (are.line_is, are.line_after_is)
 
 passed_same : (xs ys : List Item) (a b c d : ℕ) → xs ≡ ys → a ≡ b → c ≡ d → passed_after xs a c ≡ passed_after ys b d
 passed_same xs ys a b c d e f g =
@@ -122,10 +122,10 @@ passed_same xs ys a b c d e f g =
 at_next : (old new : Automaton) (w : Walk) (next after : Located) → IsAt old w → AreNext next after w.state.rest →
     is_lexical_error next.token ≡ false → Goes w.state → Moves old new next after → IsAt new (walk_on w)
 at_next old new w next after at are sound g m = record {
-  items = m.items ∙ items_same _ _ _ _ _ _ at.items (sym are.next) (sym (are.after sound)) ∙ sym g.stack;
-  marks = m.marks ∙ marks_same _ _ _ _ _ _ _ _ _ _ at.items (sym are.next) (sym (are.after sound))
+  items = m.items ∙ items_same _ _ _ _ _ _ at.items (sym are.next_is) (sym (are.after_is sound)) ∙ sym g.stack;
+  marks = m.marks ∙ marks_same _ _ _ _ _ _ _ _ _ _ at.items (sym are.next_is) (sym (are.after_is sound))
       (mark_same next after w.state.rest are) at.marks;
-  passed = m.passed ∙ passed_same _ _ _ _ _ _ at.items (sym are.line) at.passed;
+  passed = m.passed ∙ passed_same _ _ _ _ _ _ at.items (sym are.line_is) at.passed;
 }
 
 -- the automaton's next lines are the walk's
@@ -141,8 +141,8 @@ lines_same p old w next after at are same =
     ∙ ap (λ (l : ℕ). replicate (code_length p (blank_emitted w.state.stack next.token))
     (line_from (origin_at w.state.stack) (front_mark w.marks) l next.line)) at.passed
     ∙ ap (λ (l : ℕ). replicate (code_length p (blank_emitted w.state.stack next.token))
-    (line_from (origin_at w.state.stack) (front_mark w.marks) w.passed l)) (sym are.line)
-    ∙ ap (λ (t : Token). replicate (code_length p (blank_emitted w.state.stack t)) (emission_line w)) (sym are.next)
+    (line_from (origin_at w.state.stack) (front_mark w.marks) w.passed l)) (sym are.line_is)
+    ∙ ap (λ (t : Token). replicate (code_length p (blank_emitted w.state.stack t)) (emission_line w)) (sym are.next_is)
     ∙ ap (λ (k : ℕ). replicate k (emission_line w)) (sym same)
 
 pub record StepReaches (profile : Profile) (tokens : List LocatedToken) (n : ℕ) (old new : Automaton)

@@ -1,7 +1,9 @@
 -- The translation scheme as the code has it: it knows no numbers of names and no constants, and has 0 for each.
-use Rattle.std.specs.Prelude.{ℕ, pos, Bool, true, false, List, [], ◌∷◌, Option, Some, None, option_map, if◌then◌else◌}
+use Rattle.std.specs.Prelude.{ℕ, pos, Bool, true, false, List, [], ◌∷◌, Option, Some, None, map, option_map, if◌then◌else◌}
 use Rattle.tokens.specs.declared.located_tokens.Token.{Token}
 use Rattle.grammar.specs.declared.actions.Action.{Action}
+use Rattle.grammar.specs.declared.actions.Action.TheVariants as action
+use Rattle.grammar.specs.declared.operators.StoreOp.TheVariants as store_op
 use Rattle.grammar.specs.declared.resolved_names.Callee.TheVariants as callee
 use Rattle.grammar.specs.declared.resolved_names.Var.TheVariants as var
 use Rattle.grammar.specs.Derivation.{PartialTree, AnExpr, AVariable, ACall, name_of_token, constant_value}
@@ -9,7 +11,7 @@ use Rattle.grammar.specs.Grammar as table
 use Rattle.grammar.specs.Grammar.{is_lexical_error}
 use Rattle.grammar.specs.Scope.{no_names}
 use Rattle.grammar.specs.Tree as tree
-use Rattle.grammar_laws.specs.Emission.{on_choice, on_name, on_constant, on_rule}
+use Rattle.grammar_laws.specs.Emission.{on_choice, on_name, on_body, on_constant, on_rule}
 use Rattle.derivations.specs.Table.{item_of}
 use Rattle.derivations.specs.declared.emissions.Origin.{Origin}
 use Rattle.derivations.specs.declared.emissions.Origin.TheVariants as origin
@@ -27,9 +29,20 @@ blank_trees (table.PostfixIncrement o) = blank_variable ∷ []
 blank_trees table.Invoke = ACall (callee.Function 0) tree.NoMore ∷ []
 blank_trees rule = []
 
+-- the action with 0 for each number of a name and each constant, and a store by any operator
+abbrev pub blank : Action → Action
+blank (action.PushConstant value) = action.PushConstant (pos 0)
+blank (action.FetchVariable v) = action.FetchVariable (var.Local 0)
+blank (action.StoreVariable v o) = action.StoreVariable (var.Local 0) store_op.Set
+blank (action.EndCall f) = action.EndCall (callee.Function 0)
+blank (action.BeginFunction number parameters) = action.BeginFunction 0 0
+blank (action.EndFunction variables) = action.EndFunction 0
+blank act = act
+
 -- as a tree is made
 abbrev pub blank_rule : table.SemanticAction → List table.Item → List Action
-blank_rule rule stack = on_rule rule stack (blank_trees rule) 0
+blank_rule table.Empty stack = on_body stack
+blank_rule rule stack = map blank (on_rule rule [] (blank_trees rule) 0)
 
 -- other than that of a binary operator or a body
 abbrev pub is_on_rule : table.SemanticAction → Bool

@@ -22,12 +22,17 @@ pub record IsAt (automaton : Automaton) (w : Walk) : Type 0 where
   pub marks : marks_of automaton.stack.items ≡ w.marks
   pub passed : automaton.passed.line ≡ w.passed
 
+-- it is the token, on its line
+pub record IsLocated (located : Located) (t : LocatedToken) : Type 0 where
+  pub token_is : located.token ≡ t.token
+  pub line_is : located.line ≡ t.line
+
 -- these are the next token and the one after it
 pub record AreNext (next after : Located) (rest : List LocatedToken) : Type 0 where
-  pub next : next_token rest ≡ next.token
-  pub after : is_lexical_error next.token ≡ false → token_after_next rest ≡ after.token
-  pub line : line_at rest ≡ next.line
-  pub line_after : line_after_next rest ≡ after.line
+  pub next_is : next_token rest ≡ next.token
+  pub after_is : is_lexical_error next.token ≡ false → token_after_next rest ≡ after.token
+  pub line_is : line_at rest ≡ next.line
+  pub line_after_is : line_after_next rest ≡ after.line
 
 abbrev pub walk_at : List LocatedToken → ℕ → Walk
 walk_at tokens n = walked n (walk_start tokens)

@@ -1,10 +1,10 @@
 //! The position in a source that each instruction of its program comes from.
 
-ghost use Rattle.std.specs.Prelude.{◌≡◌, ◌≤◌, ◌==◌, ◌++◌, true, false, length, slice_get, IfSome};
+ghost use Rattle.std.specs.Prelude.{◌≡◌, ◌≤◌, ◌==◌, ◌++◌, ◌∷◌, [], true, false, length, slice_get, IfSome};
 ghost use Rattle.grammar.specs.Grammar.{is_lexical_error};
-ghost use Rattle.tokens.specs.Tokens.{tokens};
+ghost use Rattle.tokens.specs.Tokens.{is_last, tokens};
 ghost use Rattle.derivations.specs.Lines.{AreLines};
-ghost use Rattle.derivations.specs.Walks.{Passes, lines_next, lines_of};
+ghost use Rattle.derivations.specs.Walks.{IsLocated, Passes, lines_next, lines_of};
 
 use crate::locations::{Finder, Located};
 use crate::steps::{Automaton, StepEnd, place_of};
@@ -86,10 +86,12 @@ impl SourcePositions {
     {
         let place = automaton.place();
         for _step in 0..u64::MAX {
-            let is_kept = self.keep(automaton, profile, next);
-            if !is_kept || automaton.step(next, after) != StepEnd::Stepped {
+            if !self.keep(automaton, profile, next) {
                 return false;
             }
+            let StepEnd::Stepped = automaton.step(next, after) else {
+                return false;
+            };
             if automaton.place() > place {
                 return true;
             }
@@ -105,11 +107,18 @@ impl SourcePositions {
         let emission = automaton.emission(&next.token);
         let place = automaton.origin(emission.origin(), next);
         for _made in 0..emission.instructions(profile) {
-            if self.places.try_push(place).is_err() {
+            if !self.push(place) {
                 return false;
             }
         }
         true
+    }
+
+    /// Keeps the position of one more instruction. Answers whether there was room.
+    fn push(&mut self, place: SourcePosition) -> bool
+        ensures { result ≡ true → self.new ≡ self.old ++ place ∷ [] }
+    {
+        self.places.try_push(place).is_ok()
     }
 }
 
@@ -121,7 +130,9 @@ pub fn lines(source: &[u8], profile: Profile) -> Option<SourcePositions>
     ensures { IfSome result (λ positions. AreLines profile (tokens source.now) (lines_of positions)) }
 {
     let mut feed = MemoryFeed::new(source, WINDOW_BYTES);
-    let mut cursor = Cursor::open(&mut feed).ok()?;
+    let Ok(mut cursor) = Cursor::open(&mut feed) else {
+        return None;
+    };
     let mut finder = Finder::new(source);
     let mut automaton = Automaton::start();
     let mut found = SourcePositions {
@@ -130,21 +141,34 @@ pub fn lines(source: &[u8], profile: Profile) -> Option<SourcePositions>
     let mut next = finder.place(cursor.peek());
     for _token in 0..MOST_SOURCE_BYTES + 2 {
         let is_last = cursor.peek().token.is_last();
-        let after = if is_last {
-            next
-        } else {
-            finder.place(cursor.after())
-        };
+        let after = token_after(&cursor, &mut finder, &next);
         if !found.pass(&mut automaton, profile, &next, &after) {
             return None;
         }
         if is_last {
             // the final NOP comes from the end
-            found.places.try_push(place_of(&next)).ok()?;
-            return Some(found);
+            return if found.push(place_of(&next)) {
+                Some(found)
+            } else {
+                None
+            };
         }
-        cursor.advance(&mut feed).ok()?;
+        let Ok(()) = cursor.advance(&mut feed) else {
+            return None;
+        };
         next = after;
     }
     None
+}
+
+/// Returns the token after the next one: the next one itself, if it is the last.
+fn token_after(cursor: &Cursor, finder: &mut Finder<'_>, next: &Located) -> Located
+    ensures last { is_last cursor.now.next.token ≡ true → result ≡ next.now }
+    ensures other { is_last cursor.now.next.token ≡ false → IsLocated result cursor.now.after }
+{
+    if cursor.peek().token.is_last() {
+        *next
+    } else {
+        finder.place(cursor.after())
+    }
 }

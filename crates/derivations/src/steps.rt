@@ -1,6 +1,6 @@
 //! The leftmost derivation of a source, step by step.
 
-ghost use Rattle.std.specs.Prelude.{◌≡◌, ◌≢◌, ◌+◌, ◌-◌, ◌++◌, ◌∷◌, [], ◌<◌, ◌≤◌, ◌^◌, ℕ, drop, option_map, length, map, take, false, if◌then◌else◌};
+ghost use Rattle.std.specs.Prelude.{◌≡◌, ◌≢◌, ◌+◌, ◌-◌, ◌++◌, ◌∷◌, [], ◌<◌, ◌≤◌, ◌^◌, ℕ, drop, option_map, length, map, slice_get, take, false, true, if◌then◌else◌};
 ghost use Rattle.grammar.specs.Grammar as table;
 ghost use Rattle.grammar.specs.Grammar.{is_lexical_error};
 ghost use Rattle.derivations.specs.Lines.{Mark, chosen_items, front_mark, line_from, mark, marks_after, origin_at, passed_after, passes_with};
@@ -116,21 +116,49 @@ impl Automaton {
         match decided(pending.item, &next.token, &after.token) {
             Move::Misfit => StepEnd::Misfit,
             Move::Replace(production) => {
-                if let Item::Part(symbol) = pending.item {
-                    let opens = enters(symbol, &next.token, &after.token);
-                    self.levels = self.levels.saturating_add(usize::from(opens));
-                }
+                self.open(pending.item, next, after);
                 self.replace(&production, place_of(next), place_of(after))
             }
             Move::Pass(tokens) => {
-                if pending.item == Item::Close {
-                    self.levels = self.levels.saturating_sub(1);
-                }
-                if tokens > 0 {
-                    self.passed = place_of(next);
-                }
+                self.close(pending.item);
+                self.note(tokens, next);
                 self.pass(tokens)
             }
+        }
+    }
+
+    /// Counts the level that the production of an item opens, if it does.
+    fn open(&mut self, item: Item, next: &Located, after: &Located)
+        ensures stack { self.new.stack.items ≡ self.old.stack.items }
+        ensures place { self.new.place ≡ self.old.place }
+        ensures passed { self.new.passed ≡ self.old.passed }
+    {
+        if let Item::Part(symbol) = item {
+            let opens = enters(symbol, &next.token, &after.token);
+            self.levels = self.levels.saturating_add(usize::from(opens));
+        }
+    }
+
+    /// Counts the level that an item closes, if it does.
+    fn close(&mut self, item: Item)
+        ensures stack { self.new.stack.items ≡ self.old.stack.items }
+        ensures place { self.new.place ≡ self.old.place }
+        ensures passed { self.new.passed ≡ self.old.passed }
+    {
+        if item == Item::Close {
+            self.levels = self.levels.saturating_sub(1);
+        }
+    }
+
+    /// Notes where the token is that is passed, if one is.
+    fn note(&mut self, tokens: usize, next: &Located)
+        ensures stack { self.new.stack.items ≡ self.old.stack.items }
+        ensures place { self.new.place ≡ self.old.place }
+        ensures some { 0 < tokens → self.new.passed.line ≡ next.now.line }
+        ensures none { tokens ≡ 0 → self.new.passed.line ≡ self.old.passed.line }
+    {
+        if tokens > 0 {
+            self.passed = place_of(next);
         }
     }
 
@@ -161,21 +189,41 @@ impl Automaton {
         ensures place { self.new.place ≡ self.old.place }
         ensures passed { self.new.passed ≡ self.old.passed }
     {
-        let _ = self.stack.pop();
+        self.take_front();
         let items = production.items();
-        let count = items.len();
-        for i in 0..count {
+        for i in 0..items.len() {
+            let Some(item) = from_end(items, i) else {
+                return StepEnd::Full;
+            };
             let pending = Pending {
-                item: items[count - 1 - i],
+                item,
                 chosen_at: self.place,
                 chosen,
                 after_chosen,
             };
-            if self.stack.try_push(pending).is_err() {
+            if !self.push(pending) {
                 return StepEnd::Full;
             }
         }
         StepEnd::Stepped
+    }
+
+    /// Takes the item in front away.
+    fn take_front(&mut self)
+        ensures stack { self.new.stack.items ≡ take (length self.old.stack.items - 1) self.old.stack.items }
+        ensures place { self.new.place ≡ self.old.place }
+        ensures passed { self.new.passed ≡ self.old.passed }
+    {
+        let _ = self.stack.pop();
+    }
+
+    /// Puts an item in front. Answers whether there was room.
+    fn push(&mut self, pending: Pending) -> bool
+        ensures stack { result ≡ true → self.new.stack.items ≡ self.old.stack.items ++ pending ∷ [] }
+        ensures place { self.new.place ≡ self.old.place }
+        ensures passed { self.new.passed ≡ self.old.passed }
+    {
+        self.stack.try_push(pending).is_ok()
     }
 
     /// Returns what the next step emits, by the translation scheme.
@@ -203,14 +251,41 @@ impl Automaton {
         ensures { result.line ≡ line_from origin (front_mark (marks_of self.now.stack.items)) self.now.passed.line
             next.now.line }
     {
-        let front = self.front().unwrap_or_default();
         match origin {
-            Origin::Chosen => front.chosen,
-            Origin::AfterChosen => front.after_chosen,
+            Origin::Chosen => self.chosen(),
+            Origin::AfterChosen => self.after_chosen(),
             Origin::Passed => self.passed,
             Origin::Next => place_of(next),
         }
     }
+
+    /// Returns the position of the token at which the production of the item in front was chosen.
+    fn chosen(&self) -> SourcePosition
+        ensures { result.line ≡ (front_mark (marks_of self.now.stack.items)).chosen }
+    {
+        match self.front() {
+            Some(pending) => pending.chosen,
+            None => SourcePosition { line: 0, column: 0 },
+        }
+    }
+
+    /// Returns the position of the token after that one.
+    fn after_chosen(&self) -> SourcePosition
+        ensures { result.line ≡ (front_mark (marks_of self.now.stack.items)).after_chosen }
+    {
+        match self.front() {
+            Some(pending) => pending.after_chosen,
+            None => SourcePosition { line: 0, column: 0 },
+        }
+    }
+}
+
+/// Returns the item of this index from the end.
+fn from_end(items: &[Item], i: usize) -> Option<Item>
+    requires { i < length items.now }
+    ensures { result ≡ slice_get items.now (length items.now - (i + 1)) }
+{
+    items.get(items.len() - (i + 1)).copied()
 }
 
 /// Returns a stack without its last item, the one in front.
