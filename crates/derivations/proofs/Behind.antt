@@ -81,9 +81,9 @@ pub behind_is : (stack xs ys zs : List Pending) (a b : Option Item) → xs ≡ s
     a ≡ item_front ys → b ≡ item_front zs → known_items (a ∷ b ∷ []) ≡ take 2 (drop 1 (items_of stack))
 behind_is stack xs ys zs a b e f g h i =
     let at : ys ≡ others stack = f ∙ ap others e in
-    let then : zs ≡ others (others stack) = g ∙ ap others at in
+    let after : zs ≡ others (others stack) = g ∙ ap others at in
     ap (λ (x : Option Item). known_items (x ∷ b ∷ [])) (h ∙ ap item_front at)
-    ∙ ap (λ (x : Option Item). known_items (item_front (others stack) ∷ x ∷ [])) (i ∙ ap item_front then)
+    ∙ ap (λ (x : Option Item). known_items (item_front (others stack) ∷ x ∷ [])) (i ∙ ap item_front after)
     ∙ behind_known stack
 
 pub emission_is : (stack : List Pending) (p : Pending) (behind : List table.Item) (next : Token) →

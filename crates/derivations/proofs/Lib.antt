@@ -1,4 +1,5 @@
 pub mod Behind
+pub mod Counting
 pub mod Keeping
 pub mod KnownLines
 pub mod Lining

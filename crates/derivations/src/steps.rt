@@ -116,11 +116,11 @@ impl Automaton {
         match decided(pending.item, &next.token, &after.token) {
             Move::Misfit => StepEnd::Misfit,
             Move::Replace(production) => {
-                self.open(pending.item, next, after);
+                self.enter(pending.item, next, after);
                 self.replace(&production, place_of(next), place_of(after))
             }
             Move::Pass(tokens) => {
-                self.close(pending.item);
+                self.leave(pending.item);
                 self.note(tokens, next);
                 self.pass(tokens)
             }
@@ -128,7 +128,7 @@ impl Automaton {
     }
 
     /// Counts the level that the production of an item opens, if it does.
-    fn open(&mut self, item: Item, next: &Located, after: &Located)
+    fn enter(&mut self, item: Item, next: &Located, after: &Located)
         ensures stack { self.new.stack.items ≡ self.old.stack.items }
         ensures place { self.new.place ≡ self.old.place }
         ensures passed { self.new.passed ≡ self.old.passed }
@@ -140,7 +140,7 @@ impl Automaton {
     }
 
     /// Counts the level that an item closes, if it does.
-    fn close(&mut self, item: Item)
+    fn leave(&mut self, item: Item)
         ensures stack { self.new.stack.items ≡ self.old.stack.items }
         ensures place { self.new.place ≡ self.old.place }
         ensures passed { self.new.passed ≡ self.old.passed }

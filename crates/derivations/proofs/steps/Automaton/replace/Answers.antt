@@ -7,10 +7,10 @@ pub loop-i-preserved : goal.loop-i-preserved
 loop-i-preserved c = record {
   items = items_grow c.items-items.result.now c.loop-i.i c.loop-i.self.stack.items
       c.push.new.self.stack.items c.take_front.new.self.stack.items _ c.loop-i-test.true (sym c.from_end.ensures ∙ c.in-Some.is)
-      (c.push.ensures.stack c.if-push.true) c.loop-i.invariant.items;
+      (c.push.ensures.stack c.if-not-push.false) c.loop-i.invariant.items;
   marks = marks_grow c.items-items.result.now c.loop-i.i c.loop-i.self.stack.items
       c.push.new.self.stack.items c.take_front.new.self.stack.items _ c.loop-i-test.true (sym c.from_end.ensures ∙ c.in-Some.is)
-      (c.push.ensures.stack c.if-push.true) c.loop-i.invariant.marks;
+      (c.push.ensures.stack c.if-not-push.false) c.loop-i.invariant.marks;
   place = c.push.ensures.place ∙ c.loop-i.invariant.place;
   passed = c.push.ensures.passed ∙ c.loop-i.invariant.passed;
 }
