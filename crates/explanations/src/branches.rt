@@ -2,10 +2,11 @@
 
 use crate::heads::behind_brackets;
 use crate::indices::token_at;
+use crate::meanings::Meaning;
 use crate::variables::set_by;
 use crate::warnings::{Subject, Warnings};
 use derivations::{Located, Node, NodeKind, SourceTree};
-use grammar::{Callee, StoreOp, Var};
+use grammar::{Callee, Op, StoreOp, Var};
 use tokens::{Keyword, Punctuator, Token};
 
 /// Warns of the `if` or `while` of a node's index.
@@ -29,6 +30,22 @@ pub fn warn_of_branch(out: &mut Warnings, subject: &Subject<'_>, index: usize, n
     {
         out.tell(node.token, words);
     }
+    if node.kind == NodeKind::While && is_missed(subject, last, condition) {
+        out.tell(
+            condition.token,
+            "perhaps this is never met exactly: write `<` or `>`",
+        );
+    }
+}
+
+/// Reports whether the condition of an index waits for an exact coordinate or damage.
+fn is_missed(subject: &Subject<'_>, index: usize, condition: &Node) -> bool {
+    let value = subject.constants.get(index.saturating_sub(1));
+    let meaning = subject.meanings.get(condition.second.saturating_sub(1));
+    condition.kind == NodeKind::Binary(Op::NotEqual)
+        && matches!(meaning, Meaning::Coordinate | Meaning::Damage)
+        && value.is_some()
+        && value != Some(0)
 }
 
 /// Warns of the body that begins at the token of an index: of a `;` alone, and of a statement after it that looks as if

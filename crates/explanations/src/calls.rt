@@ -1,6 +1,8 @@
 //! Warnings about calls: their arguments, what they answer, and those on the right of `&&` and `||`.
 
 use crate::indices::is_name;
+use crate::meanings::Meaning;
+use crate::steps::leaves_gaps;
 use crate::warnings::{Said, Subject, Warnings};
 use derivations::{Body, Located, Node, NodeKind, SourceTree};
 use grammar::{Callee, Intrinsic, Op};
@@ -14,8 +16,14 @@ const MOST_SPEED: i32 = 100;
 /// The greatest resolution of a scan, in degrees.
 const MOST_RESOLUTION: i32 = 10;
 
+/// A number that is great enough to be one of 100,000ths.
+const LEAST_PARTS: i32 = 7000;
+
 /// The degrees of a whole circle.
 const CIRCLE: i32 = 360;
+
+/// The degrees of half of a quarter of it: multiples are usual degrees.
+const QUARTER: i32 = 45;
 
 /// Warns of the call of a node's index, which has this many arguments.
 pub fn warn_of_call(
@@ -33,6 +41,7 @@ pub fn warn_of_call(
         out.warn(node.token, Said::Arguments(wanted, arguments));
     } else if let Callee::Intrinsic(intrinsic) = callee {
         warn_of_pair(out, subject, index, node, intrinsic);
+        warn_of_look(out, subject, index, node, intrinsic);
     }
     if !subject.profile.short_circuit()
         && let Some(words) = on_right_side(tree, index)
@@ -150,7 +159,123 @@ fn warn_of_pair(
         && second > most
     {
         out.tell(node.token, beyond);
+    } else {
+        warn_of_meanings(out, subject, index, node, intrinsic);
     }
+}
+
+/// Warns of the arguments of a call that takes a degree and another value, by what they mean.
+fn warn_of_meanings(
+    out: &mut Warnings,
+    subject: &Subject<'_>,
+    index: usize,
+    node: &Node,
+    intrinsic: Intrinsic,
+) {
+    let last = index.saturating_sub(1);
+    let first = subject.tree.outermost(node.first, index);
+    if let Some(words) = on_degree(subject.meanings.get(first))
+        && let Some(argument) = subject.tree.get(first)
+    {
+        out.tell(argument.token, words);
+    }
+    if let Some(words) = on_other(intrinsic, subject.meanings.get(last))
+        && let Some(argument) = subject.tree.get(last)
+    {
+        out.tell(argument.token, words);
+    }
+}
+
+/// Returns what is said of a value that is no degree where one is wanted.
+fn on_degree(meaning: Meaning) -> Option<&'static str> {
+    match meaning {
+        Meaning::Range => Some("this is a range, as `scan` answers it, and no degree"),
+        Meaning::Speed => Some("this is a speed, and no degree"),
+        Meaning::Damage => Some("this is a damage, and no degree"),
+        Meaning::Coordinate => Some("this is a coordinate, and no degree"),
+        Meaning::Distance => Some("this comes from a coordinate, and is no degree"),
+        // no other value surely is another one than a degree
+        _ => None,
+    }
+}
+
+/// Returns what is said of a value that surely isn't meant as the other argument of a call.
+fn on_other(intrinsic: Intrinsic, meaning: Meaning) -> Option<&'static str> {
+    match (intrinsic, meaning) {
+        (Intrinsic::Cannon, Meaning::Speed) => Some("this is a speed, and no range"),
+        (Intrinsic::Cannon, Meaning::Damage) => Some("this is a damage, and no range"),
+        (Intrinsic::Drive, Meaning::Coordinate) => Some("this is a coordinate, and no speed"),
+        (Intrinsic::Drive, Meaning::Distance) => {
+            Some("this comes from a coordinate, and is no speed")
+        }
+        (Intrinsic::Scan, Meaning::Range) => Some("this is a range, and no resolution"),
+        (Intrinsic::Scan, Meaning::Speed) => Some("this is a speed, and no resolution"),
+        (Intrinsic::Scan, Meaning::Damage) => Some("this is a damage, and no resolution"),
+        (Intrinsic::Scan, Meaning::Coordinate | Meaning::Distance) => {
+            Some("this comes from a coordinate, and is no resolution")
+        }
+        _ => None,
+    }
+}
+
+/// Warns of gaps between the looks of a scan, and of a quotient that `atan` takes.
+fn warn_of_look(
+    out: &mut Warnings,
+    subject: &Subject<'_>,
+    index: usize,
+    node: &Node,
+    intrinsic: Intrinsic,
+) {
+    let (tree, constants) = (subject.tree, subject.constants);
+    if intrinsic == Intrinsic::Scan && leaves_gaps(tree, constants, index, node, MOST_RESOLUTION) {
+        out.tell(
+            node.token,
+            "there are gaps between these looks: the degree goes on by more than twice the resolution",
+        );
+    }
+    if intrinsic == Intrinsic::Atan && is_bare_quotient(subject, index) {
+        out.tell(
+            node.token,
+            "`atan` takes 100,000ths: write `atan(100000 * y / x)`",
+        );
+    }
+}
+
+/// Reports whether the argument of a call of an index is a quotient of which nothing is multiplied, and which has no great
+/// number.
+fn is_bare_quotient(subject: &Subject<'_>, index: usize) -> bool {
+    let Some((node, None)) = subject.valued(index.saturating_sub(1)) else {
+        return false;
+    };
+    if node.kind != NodeKind::Binary(Op::Divide) {
+        return false;
+    }
+    for below in node.first..node.second {
+        let Some((part, value)) = subject.valued(below) else {
+            return false;
+        };
+        let is_great = match value {
+            Some(number) => number > LEAST_PARTS,
+            None => false,
+        };
+        if part.kind == NodeKind::Binary(Op::Multiply) || is_great {
+            return false;
+        }
+    }
+    is_place(subject, node.first, node.second)
+}
+
+/// Reports whether some of the nodes from one index to another one comes from a coordinate.
+fn is_place(subject: &Subject<'_>, first: usize, end: usize) -> bool {
+    for index in first..end {
+        if matches!(
+            subject.meanings.get(index),
+            Meaning::Coordinate | Meaning::Distance
+        ) {
+            return true;
+        }
+    }
+    false
 }
 
 /// Reports whether two arguments fit better the other way round, by the greatest second one.
@@ -159,6 +284,9 @@ fn may_be_swapped(most: i32, first: Option<i32>, second: Option<i32>) -> bool {
         (Some(first), Some(second)) if most >= CIRCLE => {
             first >= CIRCLE && first <= most && second < CIRCLE
         }
+        // a speed or a resolution that is too great: the first is a usual degree, and the second one isn't
+        (Some(first), Some(second))
+            if first % QUARTER == 0 && (second % QUARTER != 0 || second >= CIRCLE) => { false }
         (Some(first), Some(second)) => first <= most && second > most,
         _ => false,
     }

@@ -69,6 +69,33 @@ pub fn nested(source: &[u8], at: usize) -> Option<u32> {
     None
 }
 
+/// Returns the line on which a comment begins before a position that has lines of code in it, and behind them the beginning
+/// of another one: it probably wasn't meant to go so far.
+pub fn swallowing(source: &[u8], at: usize) -> Option<u32> {
+    let mut comment = Comment::first(source, 1)?;
+    for _ in 0..source.len() {
+        if at < source.len().saturating_sub(comment.behind.len()) {
+            return None;
+        }
+        if has_code(comment.inside) {
+            return Some(comment.line);
+        }
+        comment = comment.next()?;
+    }
+    None
+}
+
+/// Reports whether a text has a line end, behind it a `{` or a `;`, and behind that the beginning of a comment.
+fn has_code(text: &[u8]) -> bool {
+    let Some(lines) = after(text, b"\n") else {
+        return false;
+    };
+    match after(lines, b"{").or(after(lines, b";")) {
+        Some(behind) => after(behind, b"/*").is_some(),
+        None => false,
+    }
+}
+
 /// Reports whether a `*/` follows a comment without a `/*` between, and a position is before the end of that `*/`.
 fn is_before_end(source: &[u8], comment: &Comment<'_>, at: usize) -> bool {
     let Some(rest) = after(comment.behind, b"*/") else {

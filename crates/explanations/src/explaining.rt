@@ -4,9 +4,11 @@ ghost use Rattle.std.specs.Prelude.{◌≡◌, Err};
 ghost use Rattle.grammar.specs.Compiled.{compiled};
 ghost use Rattle.explanations.specs.Faults.{IsOn, first_line};
 
-use crate::carets::add_marked;
-use crate::comments::nested;
-use crate::hints::{Hint, hint_on};
+use crate::carets::{add_marked, add_shown};
+use crate::comments::{nested, swallowing};
+use crate::foreign::foreign_at;
+use crate::hints::{Hint, hint_on, on_prototypes};
+use crate::letters::name_around;
 use crate::misnamed::add_misnamed;
 use crate::notes::Note;
 use crate::reserved::{on_character, on_word};
@@ -94,6 +96,23 @@ fn add_reason(note: &mut Note, found: &Found<'_>, search: &Search<'_>) {
         | Code::TooManyFunctions
         | Code::TooMuchCode => add_limit(note, found),
     }
+    if ends_lines_by_return(found.source) {
+        note.add(
+            "  hint: the lines end in CR alone, and count as one: save the file with LF at their ends\n",
+        );
+    }
+}
+
+/// Reports whether the first line of a source ends in CR alone.
+fn ends_lines_by_return(source: &[u8]) -> bool {
+    for (index, byte) in source.iter().enumerate() {
+        match byte {
+            b'\n' => return false,
+            b'\r' => return source.get(index.saturating_add(1)) != Some(&b'\n'),
+            _ => {}
+        }
+    }
+    false
 }
 
 /// Returns a note of the first line on a diagnostic.
@@ -120,10 +139,23 @@ fn add_misfit(note: &mut Note, found: &Found<'_>, search: &Search<'_>) {
         search.derivation(),
         fits.as_slice(),
     );
-    if let Some(hint) = hint_for(found, &scene) {
+    if let Some((begin, end)) = name_of(found) {
+        note.add("  hint: a name has letters of ASCII, digits and `_` alone, and `");
+        add_shown(note, found.source.get(begin..end).unwrap_or(&[]));
+        note.add("` has others\n");
+    } else if let Some(hint) = hint_for(found, &scene) {
         note.add("  hint: ");
-        hint.add(note);
+        hint.add(note, found.tokens);
         note.push('\n');
+    }
+}
+
+/// Returns where the name begins and ends that has the character of a fault.
+fn name_of(found: &Found<'_>) -> Option<(usize, usize)> {
+    if found.code == Code::BadCharacter {
+        name_around(found.source, found.met.start)
+    } else {
+        None
     }
 }
 
@@ -133,8 +165,14 @@ fn hint_for(found: &Found<'_>, scene: &Scene<'_>) -> Option<Hint> {
     if let Some(line) = nested(found.source, found.met.start) {
         return Some(Hint::Nested(line));
     }
+    if let Some(line) = swallowing(found.source, found.met.start) {
+        return Some(Hint::Swallowing(line));
+    }
+    if let Some(foreign) = foreign_at(scene) {
+        return Some(Hint::Foreign(foreign));
+    }
     match found.code {
-        Code::ReservedWord => Some(Hint::Text(on_word(found.source, &found.met)?)),
+        Code::ReservedWord => on_prototypes(scene).or(on_word(found)),
         Code::BadCharacter => Some(Hint::Text(on_character(found)?)),
         // of any other fault that has a hint here, the token doesn't fit
         _ => hint_on(scene),

@@ -1,6 +1,8 @@
 //! Heads of functions, and calls at which a head may have been meant.
 
-use crate::indices::{follows, token_at};
+use crate::indices::{follows, is_called, name_at, token_at};
+use crate::notes::Note;
+use crate::told::text_of;
 use derivations::Located;
 use tokens::{Keyword, Punctuator, Token};
 
@@ -105,6 +107,70 @@ pub fn is_behind_block(tokens: &[Located], index: usize) -> bool {
         }
     }
     false
+}
+
+/// Adds the head of the first function that is named from an index on in its line, with the names of its parameters alone.
+pub fn add_head(note: &mut Note, tokens: &[Located], index: usize) {
+    for (number, located) in line_from(tokens, index).iter().enumerate() {
+        let at = index.saturating_add(number);
+        if let Token::Name(name) = located.token
+            && is_called(tokens, at)
+        {
+            note.add(": write `");
+            note.add(text_of(&name));
+            note.push('(');
+            add_parameters(note, tokens, at);
+            return note.add(") {`");
+        }
+    }
+}
+
+/// Adds the names of the parameters of a function, by the index of its name: those that a `,` or a `)` stands behind.
+fn add_parameters(note: &mut Note, tokens: &[Located], name: usize) {
+    let behind = behind_brackets(tokens, name).unwrap_or(name);
+    let mut is_first = true;
+    for at in name.saturating_add(2)..behind {
+        let ends = matches!(
+            token_at(tokens, at.saturating_add(1)),
+            Token::Punctuator(Punctuator::Comma | Punctuator::CloseRound)
+        );
+        if let Some(parameter) = name_at(tokens, at)
+            && ends
+        {
+            if !is_first {
+                note.add(", ");
+            }
+            note.add(text_of(&parameter));
+            is_first = false;
+        }
+    }
+}
+
+/// Adds the declaration of the first name from an index on in its line, and how it is set.
+pub fn add_declaration(note: &mut Note, tokens: &[Located], index: usize) {
+    for located in line_from(tokens, index) {
+        if let Token::Name(name) = located.token {
+            note.add(": write `int ");
+            note.add(text_of(&name));
+            note.add(";`, and `");
+            note.add(text_of(&name));
+            return note.add(" = ..;` among the statements");
+        }
+    }
+}
+
+/// Returns the tokens of a line from an index on.
+fn line_from(tokens: &[Located], index: usize) -> &[Located] {
+    let rest = from(tokens, index);
+    let Some(first) = rest.first() else {
+        return rest;
+    };
+    for (number, located) in rest.iter().enumerate() {
+        if located.line != first.line {
+            return rest.get(..number).unwrap_or(rest);
+        }
+    }
+    rest
 }
 
 /// Returns the tokens from an index on.

@@ -1,11 +1,14 @@
 //! Hints on tokens that don't fit: what beginners mean by them.
 
+use crate::foreign::Foreign;
 use crate::functions::{on_heads, on_inner_functions, on_outer_calls, on_the_outside};
-use crate::lookalikes::{Lookalike, meant_by};
+use crate::heads::{add_declaration, add_head, behind_brackets};
+use crate::layout::{Disagreement, first_disagreement};
+use crate::lookalikes::meant_by;
 use crate::notes::Note;
 use crate::scenes::Scene;
 use crate::told::spelling_of;
-use derivations::{Item, Role};
+use derivations::{Item, Located, Role};
 use grammar::{intrinsic_named, operator_from, store_operator};
 use tokens::{Keyword, MOST_CONSTANT_VALUE, Name, Punctuator, Token};
 
@@ -18,31 +21,49 @@ pub enum Hint {
     LacksSemicolon(u32),
     /// The block that begins on a line isn't closed.
     Unclosed(u32),
+    /// This text, and where braces and indentation disagree first.
+    Layout(&'static str, Disagreement),
     /// The comment that begins on a line ended earlier than was meant.
     Nested(u32),
+    /// The comment that begins on a line goes further than was meant.
+    Swallowing(u32),
     /// A hexadecimal number, with its value if it isn't too large.
     Hexadecimal(Option<u32>),
     /// What is perhaps meant.
     Meant(&'static str),
+    /// A construct of another language.
+    Foreign(Foreign),
+    /// This text, and the head of the first function that is named from the token of an index on in its line.
+    Head(&'static str, usize),
+    /// This text, and the declaration of the first name from the token of an index on in its line.
+    Declaration(&'static str, usize),
 }
 
 impl Hint {
-    /// Adds the hint in words.
-    pub fn add(self, note: &mut Note) {
+    /// Adds the hint in words; the tokens are the source's.
+    pub fn add(self, note: &mut Note, tokens: &[Located]) {
         match self {
             Hint::Text(words) => note.add(words),
             Hint::LacksSemicolon(line) => {
                 note.count("line ", u64::from(line), " may lack a `;` at its end");
             }
-            Hint::Unclosed(line) => note.count(
-                "the block that begins on line ",
-                u64::from(line),
-                " isn't closed: a `}` is missing",
-            ),
+            Hint::Unclosed(line) => {
+                add_unclosed(note, line);
+                note.add(": a `}` is missing");
+            }
+            Hint::Layout(words, disagreement) => {
+                note.add(words);
+                add_disagreement(note, disagreement);
+            }
             Hint::Nested(line) => note.count(
                 "comments don't nest: the one that begins on line ",
                 u64::from(line),
                 " ends at its first `*/`",
+            ),
+            Hint::Swallowing(line) => note.count(
+                "the comment that begins on line ",
+                u64::from(line),
+                " goes on up to the end of another one: its `*/` is missing",
             ),
             Hint::Hexadecimal(value) => {
                 note.add("numbers are decimal: hexadecimal ones aren't known");
@@ -54,6 +75,49 @@ impl Hint {
                 note.add("perhaps ");
                 note.add(word);
             }
+            Hint::Foreign(foreign) => foreign.add(note, tokens),
+            Hint::Head(words, index) => {
+                note.add(words);
+                add_head(note, tokens, index);
+            }
+            Hint::Declaration(words, index) => {
+                note.add(words);
+                add_declaration(note, tokens, index);
+            }
+        }
+    }
+}
+
+/// Adds that the block that begins on a line isn't closed.
+fn add_unclosed(note: &mut Note, line: u32) {
+    note.count(
+        "the block that begins on line ",
+        u64::from(line),
+        " isn't closed",
+    );
+}
+
+/// Adds where braces and indentation disagree.
+fn add_disagreement(note: &mut Note, disagreement: Disagreement) {
+    match disagreement {
+        Disagreement::Unclosed(begin, line) => {
+            add_unclosed(note, begin);
+            note.count(
+                ": by the indentation a `}` is missing before line ",
+                u64::from(line),
+                "",
+            );
+        }
+        Disagreement::Early(line) => {
+            note.count(
+                "by the indentation the `}` on line ",
+                u64::from(line),
+                " is one too many",
+            );
+        }
+        Disagreement::Unopened(head, line) => {
+            note.count("line ", u64::from(head), " may lack a `{` at its end, or ");
+            note.count("the `}` on line ", u64::from(line), " is one too many");
         }
     }
 }
@@ -61,17 +125,20 @@ impl Hint {
 /// Returns the hint on a token that doesn't fit, if there is one: the first of these that apply.
 pub fn hint_on(scene: &Scene<'_>) -> Option<Hint> {
     on_comments(scene)
+        .or(on_prototypes(scene))
         .or(on_numbers(scene))
         .or(on_inner_functions(scene))
         .or(on_outer_calls(scene))
         .or(on_declarations(scene))
         .or(on_declared_names(scene))
         .or(on_operators(scene))
+        .or(on_values(scene))
         .or(on_names(scene))
         .or(on_calls(scene))
         .or(on_heads(scene))
         .or(on_the_outside(scene))
         .or(on_conditions(scene))
+        .or(on_commas(scene))
         .or(on_operands(scene))
         .or(on_brackets(scene))
         .or(on_ends(scene))
@@ -89,6 +156,19 @@ fn on_comments(scene: &Scene<'_>) -> Option<Hint> {
         return Some(Hint::Text("`//` begins no comment here: write `/* .. */` around it"));
     }
     None
+}
+
+/// Returns the hint on a declaration of a function, which has no block.
+pub fn on_prototypes(scene: &Scene<'_>) -> Option<Hint> {
+    if !scene.is_outside() || !matches!(scene.met(), Token::Keyword(_)) {
+        return None;
+    }
+    let name = scene.head()?;
+    let behind = behind_brackets(scene.tokens, name)?;
+    let is_ended = scene.token(behind) == Token::Punctuator(Punctuator::Semicolon);
+    is_ended.then_some(Hint::Text(
+        "a function that is defined further down needs no declaration: leave the line out",
+    ))
 }
 
 /// Returns the hint on letters that follow a number.
@@ -126,17 +206,17 @@ fn hexadecimal(digits: &[u8]) -> Option<u32> {
 /// Returns the hint on declarations: with values, of parameters in their list, and after statements.
 fn on_declarations(scene: &Scene<'_>) -> Option<Hint> {
     if scene.is_mark(Punctuator::Equals) && declares(scene) {
-        return Some(Hint::Text(
-            "a declaration gives no value: write `int a;` here, and `a = ..;` among the statements",
+        return Some(Hint::Declaration(
+            "a declaration gives no value",
+            scene.index.saturating_sub(1),
         ));
     }
     if !scene.is_word(Keyword::Type) {
         return None;
     }
     if scene.is_outside() && is_in_list(scene) {
-        return Some(Hint::Text(
-            "a list of parameters has names alone: write `f(a, b)`, and `int a, b;` behind it if you like",
-        ));
+        let head = scene.head().unwrap_or(scene.index);
+        return Some(Hint::Head("a list of parameters has names alone", head));
     }
     if scene.kinds.statement {
         return Some(Hint::Text(
@@ -209,6 +289,11 @@ fn on_operators(scene: &Scene<'_>) -> Option<Hint> {
         }
     }
     if scene.is_mark(Punctuator::Equals) {
+        if begins_arrow(scene) {
+            return Some(Hint::Text(
+                "`=>` makes no function: one stands outside of the others, as `turn(degree) { .. }`",
+            ));
+        }
         match scene.token(scene.index.saturating_add(1)) {
             Token::Punctuator(Punctuator::Greater) => return Some(Hint::Meant("`>=` is meant")),
             Token::Punctuator(Punctuator::Less) => return Some(Hint::Meant("`<=` is meant")),
@@ -224,6 +309,48 @@ fn on_operators(scene: &Scene<'_>) -> Option<Hint> {
     None
 }
 
+/// Returns the hint on pointers, addresses and types of values.
+fn on_values(scene: &Scene<'_>) -> Option<Hint> {
+    let follows_type = scene.follows(&Token::Keyword(Keyword::Type));
+    if scene.is_mark(Punctuator::Star) && (follows_type || scene.kinds.statement) {
+        return Some(Hint::Text("there are no pointers: a name stands alone"));
+    }
+    if scene.is_mark(Punctuator::And) && scene.kinds.expression {
+        return Some(Hint::Text(
+            "there are no addresses: a function gives its answer back by `return`",
+        ));
+    }
+    if scene.is_word(Keyword::Type)
+        && scene.follows_mark(Punctuator::OpenRound)
+        && !scene.is_outside()
+    {
+        return Some(Hint::Text(
+            "all values are whole numbers: leave the type and its brackets out",
+        ));
+    }
+    None
+}
+
+/// Returns the hint on a `,` between statements, and between variables that are set at once.
+fn on_commas(scene: &Scene<'_>) -> Option<Hint> {
+    if !scene.is_mark(Punctuator::Comma) || !scene.wants(Punctuator::Semicolon) {
+        return None;
+    }
+    let is_first = scene.chosen_at() == scene.index.saturating_sub(1);
+    Some(Hint::Text(if is_first {
+        "variables are set one at a time: `a = 1; b = 2;`"
+    } else {
+        "a `,` joins no statements: write `;`"
+    }))
+}
+
+/// Reports whether the arrow of a function begins at the token that doesn't fit.
+fn begins_arrow(scene: &Scene<'_>) -> bool {
+    let next = scene.index.saturating_add(1);
+    scene.token(next) == Token::Punctuator(Punctuator::Greater)
+        && scene.token(next.saturating_add(1)) == Token::Punctuator(Punctuator::OpenCurly)
+}
+
 /// Returns the hint on a name that is written for a word: the one before, the one met, or that of the statement. A name
 /// that occurs several times is no misspelled word.
 fn on_names(scene: &Scene<'_>) -> Option<Hint> {
@@ -235,10 +362,7 @@ fn on_names(scene: &Scene<'_>) -> Option<Hint> {
     for index in names {
         if let Some(name) = scene.name(index) {
             match meant_by(name.as_bytes()) {
-                Some(Lookalike::Word(word)) if scene.is_lone(&name) => {
-                    return Some(Hint::Meant(word));
-                }
-                Some(Lookalike::Foreign(text)) => return Some(Hint::Text(text)),
+                Some(word) if scene.is_lone(&name) => return Some(Hint::Meant(word)),
                 _ => {}
             }
         }
@@ -267,12 +391,32 @@ fn on_conditions(scene: &Scene<'_>) -> Option<Hint> {
     if follows_word {
         return Some(Hint::Text("the condition of an `if` or a `while` stands in brackets"));
     }
+    let is_tested = scene.token(scene.chosen_at().saturating_sub(1))
+        == Token::Keyword(Keyword::Else);
+    if is_tested && scene.wants(Punctuator::Semicolon) && begins_brackets(scene) {
+        return Some(Hint::Text("an `else` has no condition: write `else if (..)`"));
+    }
+    if scene.is_word(Keyword::Else) && ends_block(scene) {
+        return Some(Hint::Text("no `;` stands between a `}` and its `else`"));
+    }
     if scene.is_word(Keyword::Else) && scene.kinds.statement {
         return Some(Hint::Text(
             "an `else` follows the one statement of its `if`: put several into braces, and no `;` behind the condition",
         ));
     }
     None
+}
+
+/// Reports whether the statement begins with brackets, and something stands behind them.
+fn begins_brackets(scene: &Scene<'_>) -> bool {
+    let open = scene.chosen_at();
+    behind_brackets(scene.tokens, open.saturating_sub(1)) == Some(scene.index)
+}
+
+/// Reports whether a `}` and a `;` are right before the token that doesn't fit.
+fn ends_block(scene: &Scene<'_>) -> bool {
+    let before = scene.token(scene.index.saturating_sub(2));
+    scene.follows_mark(Punctuator::Semicolon) && before == Token::Punctuator(Punctuator::CloseCurly)
 }
 
 /// Returns the hint on an operator without a right side.
@@ -314,6 +458,19 @@ fn parts_arguments(scene: &Scene<'_>) -> bool {
     scene.is_mark(Punctuator::Semicolon) && scene.fits_mark(Punctuator::Comma) && is_value && ends
 }
 
+/// Returns the hint on braces: by the indentation, or else another one.
+pub fn by_layout(
+    tokens: &[Located],
+    is_unclosed: bool,
+    words: &'static str,
+    otherwise: Hint,
+) -> Hint {
+    match first_disagreement(tokens, is_unclosed) {
+        Some(found) => Hint::Layout(words, found),
+        None => otherwise,
+    }
+}
+
 /// Returns the hint on statements and blocks that aren't ended.
 fn on_ends(scene: &Scene<'_>) -> Option<Hint> {
     let before = scene.before()?;
@@ -325,7 +482,8 @@ fn on_ends(scene: &Scene<'_>) -> Option<Hint> {
     }
     if scene.met() == Token::End {
         let open = scene.pending_at(Item::Exactly(Punctuator::CloseCurly))?;
-        return Some(Hint::Unclosed(scene.line(open)));
+        let unclosed = Hint::Unclosed(scene.line(open));
+        return Some(by_layout(scene.tokens, true, "", unclosed));
     }
     if scene.fits_mark(Punctuator::OpenCurly) && !scene.kinds.statement {
         return Some(Hint::Text("a `{` may be missing before it"));

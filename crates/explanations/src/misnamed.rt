@@ -2,11 +2,12 @@
 
 use crate::comments::{nested, swallowed};
 use crate::explaining::{Found, add_met};
-use crate::functions::STRAY_CALL;
+use crate::foreign::foreign_name;
+use crate::functions::on_stray_call;
 use crate::heads::{is_behind_block, is_call};
 use crate::hints::Hint;
 use crate::indices::name_at;
-use crate::lookalikes::{Lookalike, meant_by};
+use crate::lookalikes::meant_by;
 use crate::notes::Note;
 use crate::spelling::{is_near, is_same_but_for_case};
 use crate::told::text_of;
@@ -38,7 +39,7 @@ pub fn add_misnamed(note: &mut Note, found: &Found<'_>, defined: &[usize]) {
     let name = name_at(found.tokens, found.index).unwrap_or(Name::new());
     note.add("  hint: ");
     match on_stray_code(found) {
-        Some(hint) => hint.add(note),
+        Some(hint) => hint.add(note, found.tokens),
         None => add_reason(note, found, defined, &name),
     }
     note.push('\n');
@@ -72,11 +73,11 @@ fn on_stray_code(found: &Found<'_>) -> Option<Hint> {
     if !is_call(found.tokens, name) {
         return None;
     }
-    Some(Hint::Text(if is_behind_block(found.tokens, name) {
-        STRAY_CALL
+    Some(if is_behind_block(found.tokens, name) {
+        on_stray_call(found.tokens)
     } else {
-        "a call stands inside of a function"
-    }))
+        Hint::Text("a call stands inside of a function")
+    })
 }
 
 /// Returns the index of the name of the function whose head has the fault.
@@ -141,10 +142,11 @@ fn add_meant(note: &mut Note, found: &Found<'_>, defined: &[usize], name: &Name)
     } else if let Some(function) = near_function(found.tokens, defined, name.as_bytes()) {
         add_perhaps(note, text_of(&function));
     } else {
-        match meant_by(name.as_bytes()) {
-            Some(Lookalike::Word(word)) => Hint::Meant(word).add(note),
-            Some(Lookalike::Foreign(words)) => note.add(words),
-            None => add_unknown(note, found, name),
+        let foreign = foreign_name(found.source, found.tokens, found.index);
+        match (foreign, meant_by(name.as_bytes())) {
+            (Some(foreign), _) => foreign.add(note, found.tokens),
+            (None, Some(word)) => Hint::Meant(word).add(note, found.tokens),
+            (None, None) => add_unknown(note, found, name),
         }
     }
 }
@@ -186,9 +188,16 @@ fn add_unknown(note: &mut Note, found: &Found<'_>, name: &Name) {
         );
     } else if is_variable(found.tokens, name) {
         note.add("it is a variable: leave the brackets out, or call the function that is meant");
+    } else if is_turning(name) {
+        note.add("a robot turns as it drives: the call is `drive(degree, speed)`");
     } else {
         note.add("neither the file nor the robot has a function of this name");
     }
+}
+
+/// Reports whether a name says that the robot is to turn.
+fn is_turning(name: &Name) -> bool {
+    name.has_bytes(b"turn") || name.has_bytes(b"rotate") || name.has_bytes(b"forward")
 }
 
 /// Reports whether a name is somewhere without a bracket after it.

@@ -1,10 +1,11 @@
 //! Hints on words and characters that this language doesn't have.
 
 use crate::explaining::Found;
-use crate::indices::before;
+use crate::hints::Hint;
+use crate::indices::{before, follows};
+use crate::letters::is_dash;
 use crate::told::{character_at, spelling_of};
-use derivations::Located;
-use tokens::{Keyword, Token};
+use tokens::{Keyword, Punctuator, Token};
 
 /// The refused words, each with a hint.
 static WORDS: [(&str, &str); 20] = [
@@ -67,11 +68,15 @@ static WORDS: [(&str, &str); 20] = [
 ];
 
 /// Returns the hint on a refused word.
-pub fn on_word(source: &[u8], located: &Located) -> Option<&'static str> {
-    let spelling = spelling_of(source, located);
+pub fn on_word(found: &Found<'_>) -> Option<Hint> {
+    let spelling = spelling_of(found.source, &found.met);
+    let close = Token::Punctuator(Punctuator::CloseRound);
+    if spelling == "do" && follows(found.tokens, found.index, &close) {
+        return Some(Hint::Text("no `do` stands behind a condition"));
+    }
     for (word, hint) in &WORDS {
         if *word == spelling {
-            return Some(*hint);
+            return Some(Hint::Text(*hint));
         }
     }
     None
@@ -84,20 +89,15 @@ pub fn on_character(found: &Found<'_>) -> Option<&'static str> {
         b'"' | b'\'' => Some(
             "there is no text and there are no characters: all values are whole numbers",
         ),
-        b'#' => Some(
-            "there is no `#define` and no `#include`: write the number, or use a variable",
-        ),
         b'[' if follows_test(found) => Some(
             "the condition of an `if` or a `while` stands in brackets: write `(` and `)`",
         ),
         b'[' | b']' => Some("there are no arrays: use several variables"),
         b'?' => Some("there is no `?:`: write `if (..) a = ..; else a = ..;`"),
-        b':' if source.get(met.end) == Some(&b'=') => {
-            Some("an assignment is written with `=` alone")
-        }
-        b':' => Some(
-            "there are no labels, and no `:` behind a condition or a head: a block stands in `{` and `}`",
+        b':' if follows_name(found) => Some(
+            "there are no labels: what is repeated for ever stands in `while (1) { .. }`",
         ),
+        b':' => Some("no `:` stands behind a condition or a head: a block stands in `{` and `}`"),
         b'.' if touches_number(found) => {
             Some("there are no fractions: all values are whole numbers")
         }
@@ -114,6 +114,7 @@ fn on_foreign_byte(source: &[u8], at: usize) -> &'static str {
     match character_at(source, at) {
         _ if is_wide => "the file seems to be UTF-16: save it as UTF-8, without a byte order mark",
         Some('\u{feff}') => "the file begins with a byte order mark: save it as UTF-8 without one",
+        Some(character) if is_dash(character) => "write `-`, and not the dash of a text",
         Some('\u{a0}') => "this is no usual space, but one that doesn't break: type it anew",
         _ => {
             "outside comments only ASCII is read: retype what was copied from a text, as curly quotes or a long dash"
@@ -125,6 +126,14 @@ fn on_foreign_byte(source: &[u8], at: usize) -> &'static str {
 fn follows_test(found: &Found<'_>) -> bool {
     match before(found.tokens, found.index) {
         Some(before) => matches!(before.token, Token::Keyword(Keyword::If | Keyword::While)),
+        None => false,
+    }
+}
+
+/// Reports whether a name is right before a fault's token.
+fn follows_name(found: &Found<'_>) -> bool {
+    match before(found.tokens, found.index) {
+        Some(before) => matches!(before.token, Token::Name(_)),
         None => false,
     }
 }

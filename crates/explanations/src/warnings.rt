@@ -5,7 +5,8 @@ use crate::calls::warn_of_call;
 use crate::constants::Constants;
 use crate::declarations::Declarations;
 use crate::flow::{warn_of_main, warn_of_recursion};
-use crate::indices::name_at;
+use crate::indices::{name_at, token_at};
+use crate::meanings::Meanings;
 use crate::notes::Note;
 use crate::reach::Reach;
 use crate::searches::fault_token;
@@ -16,6 +17,7 @@ use crate::variables::warn_of_variables;
 use arrayvec::ArrayVec;
 use derivations::{Located, Node, NodeKind, SourceTree};
 use grammar::{Diagnostic, Profile};
+use tokens::{Keyword, Punctuator, Token};
 
 /// The most warnings of a source: those that are found after this many are left out.
 const MOST_WARNINGS: usize = 1000;
@@ -31,6 +33,8 @@ pub struct Subject<'a> {
     pub tree: &'a SourceTree,
     /// The values of the tree's nodes.
     pub constants: &'a Constants,
+    /// What the tree's nodes mean.
+    pub meanings: &'a Meanings,
     /// What of the tree is never reached.
     pub reach: &'a Reach,
     /// Its declared variables.
@@ -192,6 +196,20 @@ impl Warnings {
         }
     }
 
+    /// Warns of each `else` whose branch is a `;` alone.
+    fn warn_of_empty_branches(&mut self, tokens: &[Located]) {
+        for (index, located) in tokens.iter().enumerate() {
+            let next = index.saturating_add(1);
+            let is_ended = token_at(tokens, next) == Token::Punctuator(Punctuator::Semicolon);
+            if located.token == Token::Keyword(Keyword::Else) && is_ended {
+                self.tell(
+                    next,
+                    "the `else` ends with this `;`: what follows it is always done",
+                );
+            }
+        }
+    }
+
     /// Warns of the node of an index.
     fn warn_of_node(&mut self, subject: &Subject<'_>, index: usize, node: &Node) {
         match node.kind {
@@ -199,7 +217,7 @@ impl Warnings {
                 warn_of_call(self, subject, index, node, callee, arguments);
             }
             NodeKind::Binary(op) => warn_of_operator(self, subject, index, node, op),
-            NodeKind::Store(..) => warn_of_store(self, subject, node),
+            NodeKind::Store(var, op) => warn_of_store(self, subject, index, node, var, op),
             NodeKind::Evaluate => warn_of_statement(self, subject, index, node),
             _ => {}
         }
@@ -239,6 +257,7 @@ fn warnings_up_to(tokens: &[Located], profile: Profile, end: usize) -> Warnings 
         profile,
         tree: &tree,
         constants: &constants,
+        meanings: &Meanings::of(&tree, &constants),
         reach: &Reach::of(&tree, &constants),
         declarations: &Declarations::of(tokens, profile),
     };
@@ -248,6 +267,7 @@ fn warnings_up_to(tokens: &[Located], profile: Profile, end: usize) -> Warnings 
     };
     warn_of_variables(&mut warnings, &subject);
     warnings.warn_of_nodes(&subject);
+    warnings.warn_of_empty_branches(tokens);
     warn_of_recursion(&mut warnings, &subject);
     warn_of_main(&mut warnings, &subject);
     let list = warnings.list.as_mut_slice();
