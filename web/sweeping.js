@@ -42,7 +42,7 @@ export class Sweeping {
         this.far = new Far(byId("sweep-far"), () => bench.stop());
         /**
          * What is swept, or was.
-         * @type {{key: string, source: string} | null}
+         * @type {{key: string, source: string, isOld: boolean} | null}
          */
         this.swept = null;
         store.onChange(() => this.follow());
@@ -52,15 +52,17 @@ export class Sweeping {
     follow() {
         const {key, source} = this.store.robot;
         this.choice.offer();
-        if (this.swept && (this.swept.key !== key || this.swept.source !== source)) {
-            const isOther = this.swept.key !== key;
-            this.swept = null;
-            const told = this.far.isRunning ? "The sweep was stopped: the source has changed." : "This sweep is of an older text.";
-            this.far.end(this.far.run, () => this.bench.stop());
-            this.tell(isOther ? "" : told);
-            if (isOther) {
-                byId("sweep").replaceChildren();
-            }
+        const {swept} = this;
+        if (!swept || swept.key === key && (swept.isOld || swept.source === source)) {
+            return;
+        }
+        const isOther = swept.key !== key;
+        const told = this.far.isRunning ? "The sweep was stopped: the source has changed." : "This sweep is of an older text.";
+        this.swept = isOther ? null : {...swept, isOld: true};
+        this.far.end(this.far.run, () => this.bench.stop());
+        this.tell(isOther ? "" : told);
+        if (isOther) {
+            byId("sweep").replaceChildren();
         }
     }
 
@@ -97,7 +99,7 @@ export class Sweeping {
             return;
         }
         const run = this.bench.begin();
-        this.swept = {key: this.store.robot.key, source};
+        this.swept = {key: this.store.robot.key, source, isOld: false};
         byId("sweep").replaceChildren();
         this.tell(`The values of ${number.name} are playing.`);
         this.far.begin(run, matchesOf(number, opponents, each));
