@@ -17,7 +17,7 @@ from .pages import Page, served
 
 BROWSERS = "/usr/lib/*/webkit2gtk-4.*/MiniBrowser"
 DRIVER, DISPLAY = "WebKitWebDriver", "Xvfb"
-SCREEN = "1920x1100x24"
+SCREEN = "2048x1400x24"
 # the bar above the page takes so little width that a window can be as narrow as a phone
 STYLE = "window * { min-width: 0; min-height: 0; padding: 0; margin: 0; border-width: 0; font-size: 1px; }\n"
 # WebKit lays out a line of a megabyte of brackets for a minute; what the engine says of such sources is no matter of WebKit
