@@ -109,9 +109,22 @@ def stands(word: str, said: str) -> bool:
     return re.search(re.escape(word) + (r"(?!\d)" if word[-1:].isdigit() else ""), said) is not None
 
 
+def is_quoted(word: str, said: str) -> bool:
+    """Whether a word between backquotes is the whole or a part of what stands between backquotes."""
+    own = word.strip("`")
+    ends = (r"(?<!\w)" if re.match(r"\w", own) else "", r"(?!\w)" if re.search(r"\w$", own) else "")
+    quoted = [part for line in said.split("\n") for part in line.split("`")[1::2]]
+    return any(re.search(ends[0] + re.escape(own) + ends[1], part) for part in quoted)
+
+
+def is_said(word: str, said: str) -> bool:
+    """Whether a word stands in what is said; one between backquotes may be a part of what is quoted there."""
+    return stands(word, said) or len(word) > 2 and word[0] == word[-1] == "`" and is_quoted(word, said)
+
+
 def wrong_step(step: Step, said: str) -> list[str]:
     """What is wrong with what is said at a step."""
-    return [f"lacks {word!r}" for word in step.says if not stands(word, said)] + \
+    return [f"lacks {word!r}" for word in step.says if not is_said(word, said)] + \
         [f"has {word!r}" for word in step.never if stands(word, said)]
 
 

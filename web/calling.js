@@ -4,6 +4,12 @@
 export const STOPPED = "stopped";
 const DIED = "The engine ended. It was started anew, so you can try once more.";
 
+/** A call as a text, whatever the order in which its settings were written. */
+function textOf(...words) {
+    const plain = it => typeof it === "bigint" ? `${it}n` : it?.constructor === Object ? Object.fromEntries(Object.entries(it).sort()) : it;
+    return JSON.stringify(words, (_, it) => plain(it));
+}
+
 /** What calls the engine in its worker, which has this address and takes this module. */
 export class Caller {
     constructor(address, module) {
@@ -11,6 +17,11 @@ export class Caller {
         this.module = module;
         this.number = 0;
         this.waiting = new Map();
+        /**
+         * A call that was asked for ahead, as text, and its answer.
+         * @type {{asked: string, answer: Promise<any>} | null}
+         */
+        this.early = null;
         this.start();
     }
 
@@ -36,8 +47,21 @@ export class Caller {
         }
     }
 
+    /** Asks for a call that is likely to come: the first that asks for just this takes the answer. */
+    askAhead(...words) {
+        const answer = this.call(...words);
+        // who takes it is told
+        answer.catch(() => {});
+        this.early = {asked: textOf(...words), answer};
+    }
+
     /** Asks for a call of the engine; answers what the worker answers. */
     call(call, settings, robots) {
+        const {early} = this;
+        if (early && early.asked === textOf(call, settings, robots)) {
+            this.early = null;
+            return early.answer;
+        }
         if (!this.worker) {
             this.start();
         }
@@ -56,7 +80,7 @@ export class Caller {
     /** Ends the worker; what waits for an answer fails for this reason. */
     end(why) {
         this.worker.terminate();
-        this.worker = null;
+        this.worker = this.early = null;
         const failing = [...this.waiting.values()];
         this.waiting.clear();
         failing.forEach(({fail}) => fail(new Error(why)));

@@ -10,23 +10,32 @@ const MOST_SECONDS = 45;
 // so many cycles before the first difference the films begin
 const CYCLES_BEFORE = 300;
 const LEAST_HEIGHT = 150;
-// what is around the parts of the dialog, and the head of a film, in pixels
-const AROUND = 60;
-const HEAD = 28;
+// how much of the window's height the dialog may have, as the style says, and its borders, in pixels
+const PART = 0.98;
+const BORDERS = 2;
 const STACKED = matchMedia("(orientation: portrait)");
 
 const shown = cycle => Math.floor(cycle).toLocaleString("en");
 
 /** A film that is led by the buttons below it. */
 class Half extends Screen {
+    /** What all else in the dialog leaves, for each of two frames if they stand one above the other. */
     get room() {
-        const others = [...byId("duo").children].filter(({id}) => id !== "duo-films").reduce((sum, it) => sum + it.offsetHeight, 0);
-        return Math.max(LEAST_HEIGHT, (window.innerHeight - AROUND - others) / (STACKED.matches ? 2 : 1) - HEAD);
+        const frames = ["duo-old", "duo-fresh"].map(id => byId(id).offsetHeight);
+        const taken = STACKED.matches ? frames[0] + frames[1] : Math.max(...frames);
+        const left = window.innerHeight * PART - BORDERS - (byId("duo").scrollHeight - taken);
+        return Math.max(LEAST_HEIGHT, left / (STACKED.matches ? 2 : 1));
     }
 
     fit() {
         this.inside?.documentElement.classList.add("led");
         super.fit();
+        const over = this.frame.offsetHeight - this.room;
+        if (this.player && over > 0) {
+            // names and bars below the field take more room in some letters
+            this.inside.documentElement.style.setProperty("--height", `${this.room - over}px`);
+            this.resize();
+        }
     }
 
     /** Shows a cycle, or the film's end. */

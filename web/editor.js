@@ -20,18 +20,21 @@ const script = name => load("script", "append", {src: `codemirror/${name}`});
 // before the page's own style, which says more
 const style = name => load("link", "prepend", {rel: "stylesheet", href: `codemirror/${name}`});
 
+/** The text field, in which nothing could be written before. */
+const freed = field => Object.assign(field, {readOnly: false, value: ""});
+
 /** Makes the editor of a text field; with CodeMirror if all of it is there. */
 export async function makeEditor(field, hasCodeMirror) {
     if (!hasCodeMirror) {
-        return new PlainEditor(field);
+        return new PlainEditor(freed(field));
     }
     try {
         await Promise.all([script("codemirror.js"), ...STYLES.map(style)]);
         await Promise.all(ADDONS.map(script));
         defineLanguage(window.CodeMirror);
-        return new ColouredEditor(field);
+        return new ColouredEditor(freed(field));
     } catch {
-        return new PlainEditor(field);
+        return new PlainEditor(freed(field));
     }
 }
 

@@ -1,6 +1,6 @@
 // The page: what it is built with, and what happens at its buttons.
 import {ask, buttonOf} from "./asking.js";
-import {FIRST_WINNER, checked, copyOf} from "./battles.js";
+import {FIRST_MATCH, FIRST_WINNER, checked, copyOf, firstBattle} from "./battles.js";
 import {Caller} from "./calling.js";
 import {byId} from "./dom.js";
 import {makeEditor} from "./editor.js";
@@ -10,17 +10,21 @@ import {Finder} from "./finding.js";
 import {helpWriting} from "./helping.js";
 import {Histories} from "./histories.js";
 import {Keeping} from "./keeping.js";
-import {battleOf, linkedMoment} from "./links.js";
+import {battleOf, isBattle, linkedMoment} from "./links.js";
 import {Places} from "./places.js";
 import {Playing, tell} from "./playing.js";
+import {later} from "./replays.js";
 import {DatabaseShelf, Keeper, LocalShelf} from "./shelves.js";
 import {NEW_SOURCE, Store} from "./store.js";
+import {callOf, wishOf} from "./watching.js";
 import {Workbench} from "./workbench.js";
 import {Worths} from "./worths.js";
 
 // how much room versions take at most: in a database, and where there is only the storage of texts
 const MOST_BYTES = 24 * 1024 * 1024;
 const MOST_LOCAL_BYTES = 6 * 1024 * 1024;
+// for so long the editor waits for the match that is shown
+const MILLISECONDS_FIRST = 1500;
 
 let count = 0;
 
@@ -49,6 +53,12 @@ async function keeperOf() {
     return new Keeper({local: new LocalShelf(granted("localStorage")), database, tab: newKey()});
 }
 
+/** Whether who comes is likely to see the first match: no link is followed, and nothing is kept that is found at once. */
+function isLikelyFirst() {
+    const storage = granted("localStorage");
+    return !isBattle(location.hash) && !Object.keys(storage ?? {}).some(it => it.startsWith("crobots"));
+}
+
 /** Returns the samples as choices, those of a level together, the easiest first. */
 function levels(samples) {
     const numbers = [...new Set(samples.map(({level}) => level))];
@@ -60,22 +70,31 @@ function levels(samples) {
 }
 
 class Page {
-    constructor({compiler, runner, newCaller}, data, editor, keeper) {
+    /** What the page has first: its battle, and the match that is watched. */
+    constructor(runner, data, keeper) {
         this.data = data;
+        this.keeper = keeper;
         const known = [...data.robots, ...data.steps].map(({source}) => source);
         const most = keeper.database ? MOST_BYTES : MOST_LOCAL_BYTES;
         this.store = new Store({keeper, known, newKey, now: Date.now, most});
-        this.workbench = new Workbench(this.store, editor, compiler);
-        this.editor = editor;
-        this.places = new Places({write: () => editor.focus(), watch: () => this.playing.focus()});
-        this.playing = new Playing(this.store, runner, this.places, () => this.workbench.compileAll());
+        this.places = new Places({write: () => this.focusEditor(), watch: () => this.playing.focus()});
+        this.playing = new Playing(this.store, runner, this.places, () => this.workbench?.compileAll());
         this.keeping = new Keeping(this.store, keeper, moment => this.playing.watchMoment(moment));
-        this.histories = new Histories(this.store, text => this.keeping.noted.say(text), async () => this.store.take(await keeper.load()),
+        this.listen();
+    }
+
+    /** Adds the editor, and all that robots are written with. */
+    furnish(editor, newCaller) {
+        const {data, store} = this;
+        this.editor = editor;
+        this.workbench = new Workbench(store, editor, newCaller());
+        this.histories = new Histories(store, text => this.keeping.noted.say(text), async () => store.take(await this.keeper.load()),
             robot => this.worths.weigh(robot));
         this.worths = new Worths(this.workbench, data.robots, newCaller);
         this.finder = new Finder(editor);
-        this.listen();
+        helpWriting(editor, data.functions);
         this.showSteps();
+        store.changed();
     }
 
     listen() {
@@ -97,6 +116,11 @@ class Page {
         return {name, source};
     }
 
+    /** The focus goes to the editor, or to the field that will be it, which hands it on. */
+    focusEditor() {
+        (this.editor ?? byId("source")).focus();
+    }
+
     /** Makes a link to the moment that the film shows. */
     shareMoment() {
         const {filmed, screen} = this.playing;
@@ -113,7 +137,7 @@ class Page {
         this.store.beginNew(checked({robots: [{name: "robot1.r", source: NEW_SOURCE}, {name, source}]}));
         this.keeping.noted.say(`Here is your robot, and ${name} is against it. Change it, and press Run.`);
         this.places.go("write");
-        this.editor.focus();
+        this.focusEditor();
     }
 
     async remove() {
@@ -174,24 +198,21 @@ export async function make(module) {
     const data = globalThis.CROBOTS;
     byId("main").hidden = false;
     const address = workerOf(data);
-    // the module is compiled in its workers meanwhile
+    // the module is compiled in its worker meanwhile
     const newCaller = () => new Caller(address, module);
-    const [compiler, runner] = [newCaller(), newCaller()];
-    const [battle, editor, keeper] = await Promise.all([battleOf(location.hash), makeEditor(byId("source"), data.editor), keeperOf()]);
+    const runner = newCaller();
+    if (isLikelyFirst()) {
+        runner.askAhead(...callOf(wishOf(firstBattle(data.robots, null), {number: FIRST_MATCH, cycle: 0})));
+    }
+    const [battle, keeper] = await Promise.all([battleOf(location.hash), keeperOf()]);
     const kept = await keeper.load();
-    const page = new Page({compiler, runner, newCaller}, data, editor, keeper);
-    helpWriting(editor, data.functions);
-    const moment = battle && linkedMoment(location.hash, battle);
+    const page = new Page(runner, data, keeper);
     page.store.take(kept);
     const isFirst = page.keeping.begin(battle, data.robots);
-    try {
-        await page.playing.begin();
-    } catch (fault) {
-        throw new Error(`The page's engine doesn't start: ${fault.message}. Unpack or copy all files of the page once more.`);
-    }
-    if (battle) {
-        await page.playing.present(moment ?? {number: battle.settings.first, cycle: 0});
-    } else if (isFirst) {
-        await page.playing.presentFirst();
-    }
+    const shown = page.playing.begin(battle && (linkedMoment(location.hash, battle) ?? {number: battle.settings.first, cycle: 0}), isFirst);
+    byId("source").value = page.store.robot.source;
+    // what is seen first comes first
+    await Promise.race([shown, later(MILLISECONDS_FIRST)]);
+    page.furnish(await makeEditor(byId("source"), data.editor), newCaller);
+    await shown;
 }

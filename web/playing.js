@@ -97,12 +97,21 @@ export class Playing {
         return this.store.battle;
     }
 
-    /** Begins: the engine answers, and the tab's last report is there again. */
-    async begin() {
-        await this.runner.call("ready");
+    /** Begins: the engine answers, the tab's last report is there again, and a match plays: that of a moment, or the first one. */
+    async begin(moment, isFirst) {
+        try {
+            await this.runner.call("ready");
+        } catch (fault) {
+            throw new Error(`The page's engine doesn't start: ${fault.message}. Unpack or copy all files of the page once more.`);
+        }
         const kept = keptReport();
         if (kept) {
             this.showReport(kept.battle, kept.text);
+        }
+        if (moment) {
+            await this.present(moment);
+        } else if (isFirst) {
+            await this.presentFirst();
         }
     }
 
@@ -241,9 +250,13 @@ export class Playing {
     /** Plays the match of a moment of its own accord, until something is asked for; what has the focus keeps it. */
     async present(moment, say = tellWatched) {
         this.places.go("watch");
+        this.screen.prepare();
         this.presented = this.show(wishOf(copyOf(this.battle), moment), (text, isFault) => this.isRunning || say(text, isFault));
         const isShown = await this.presented;
         this.presented = null;
+        if (!isShown) {
+            this.screen.leave();
+        }
         if (!isShown && !this.isRunning) {
             this.places.go("write");
         }

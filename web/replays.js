@@ -7,7 +7,8 @@ const LEAST_PART = 0.5;
 const BELOW = 12;
 // below a field that is alone there is a line of text
 const BELOW_ALONE = 44;
-const LOW = 400;
+// with less height the controls stand beside the field, if there is so much width
+const LOW = 380;
 const LEAST_WIDTH_OF_LOW = 520;
 // a frame that doesn't load in this time is made anew, and at last given up
 const MILLISECONDS_TO_LOAD = 4000;
@@ -20,7 +21,8 @@ function listed(names) {
     return [names.slice(0, -1).join(", "), names.at(-1)].filter(it => it).join(" and ");
 }
 
-const later = milliseconds => new Promise(done => setTimeout(done, milliseconds));
+/** Waits so long. */
+export const later = milliseconds => new Promise(done => setTimeout(done, milliseconds));
 
 /** The frame in which a film is shown, as high as what it shows; that fits into the window, beside what stands above it. */
 export class Screen {
@@ -35,6 +37,13 @@ export class Screen {
          * @type {(() => void) | null}
          */
         this.onShow = null;
+        // the frame in which the page that plays is loaded or was loaded last
+        this.loading = null;
+        /**
+         * The page that plays, where it was loaded before there was a film.
+         * @type {Promise<void> | null}
+         */
+        this.prepared = null;
         window.addEventListener("resize", () => this.fit());
     }
 
@@ -54,8 +63,11 @@ export class Screen {
             frame.srcdoc = globalThis.CROBOTS.player;
             frame.hidden = false;
             this.frame.replaceWith(frame);
-            this.frame = frame;
+            this.frame = this.loading = frame;
             for (const begun = performance.now(); performance.now() - begun < MILLISECONDS_TO_LOAD;) {
+                if (this.loading !== frame) {
+                    return;
+                }
                 if (frame.contentWindow?.showFilm && frame.contentDocument.readyState === "complete") {
                     return;
                 }
@@ -65,9 +77,29 @@ export class Screen {
         throw new Error(LOST);
     }
 
+    /** Loads the page that plays, for the next film. */
+    prepare() {
+        this.prepared = this.load();
+        this.prepared.catch(() => {
+            // who shows a film is told
+        });
+    }
+
+    /** There is no film for the page that was loaded. */
+    leave() {
+        this.prepared = this.loading = null;
+        this.frame.hidden = !this.frame.contentWindow?.player;
+    }
+
     /** Shows a film of the match with this number, from a place on. */
     async show(film, number, place) {
-        await this.load();
+        const {prepared} = this;
+        this.prepared = null;
+        await (prepared ?? this.load());
+        if (!this.frame.contentWindow?.showFilm) {
+            // another film has come before this one
+            return;
+        }
         this.frame.contentWindow.showFilm(film, `Match ${number}: ${listed(film.robots.map(({name}) => name))}`, place);
         this.onShow?.();
         this.fit();

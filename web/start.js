@@ -71,9 +71,11 @@ async function start() {
         lack(`${needs} This browser lacks ${lacks.join(", ")}.`);
         return;
     }
-    await checkFile("data", globalThis.CROBOTS);
-    await checkFile("page", globalThis.CROBOTS_PAGE);
-    const module = await checkedModule();
+    // what is wrong with a file is said first
+    const checked = checkedModule();
+    checked.catch(() => {});
+    await Promise.all([checkFile("data", globalThis.CROBOTS), checkFile("page", globalThis.CROBOTS_PAGE)]);
+    const module = await checked;
     // the page needs it too
     globalThis.CROBOTS_HASH = hashOf;
     document.getElementById("lacking").hidden = true;

@@ -34,6 +34,11 @@ export function wishOf(battle, {number, cycle, robot = 0}) {
     return new Wish(battle, number, Math.max(0, cycle - CYCLES_BEFORE), {isPlaying: !CALM.matches, robot});
 }
 
+/** The call of the engine by which a wish begins to be shown. */
+export function callOf({settings, number, from, robots}) {
+    return ["windows", {...settings, first: number, from, windows: FIRST_WINDOWS}, robots];
+}
+
 export class Watcher {
     /** `runner` calls the engine, `screen` shows films, `say` shows how it goes. */
     constructor(runner, screen, say) {
@@ -42,9 +47,9 @@ export class Watcher {
         this.say = say;
     }
 
-    async ask(wish, call, more) {
+    async ask(call, settings, robots) {
         try {
-            return await this.runner.call(call, {...wish.settings, first: wish.number, ...more}, wish.robots);
+            return await this.runner.call(call, settings, robots);
         } catch (fault) {
             return {ending: null, film: null, faults: fault.message};
         }
@@ -64,7 +69,7 @@ export class Watcher {
     }
 
     async show(wish) {
-        const windows = await this.ask(wish, "windows", {from: wish.from, windows: FIRST_WINDOWS});
+        const windows = await this.ask(...callOf(wish));
         const isAll = windows.ending === Ending.DONE && wish.from === 0;
         const isPart = windows.ending === Ending.DONE || windows.ending === Ending.GOES_ON;
         return isPart && !isAll ? this.showBoth(wish, windows) : this.showWhole(wish, windows);
@@ -73,7 +78,8 @@ export class Watcher {
     /** Shows some windows of a match if the film of all of it takes long, and then all of it. */
     async showBoth(wish, windows) {
         // a film that is cut off before the cycle that is asked for isn't read if these windows have it
-        const film = this.ask(wish, "film", windows.film === null ? {} : {beyond: wish.cycle});
+        const beyond = windows.film === null ? {} : {beyond: wish.cycle};
+        const film = this.ask("film", {...wish.settings, first: wish.number, ...beyond}, wish.robots);
         const isSlow = await Promise.race([film.then(() => false), new Promise(done => setTimeout(done, SHOW_AFTER, true))]);
         // a match that ended before has nothing in these windows
         const isShown = isSlow && windows.film !== null;

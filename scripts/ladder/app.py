@@ -2,6 +2,7 @@
 
 from __future__ import annotations
 
+import json
 import logging
 import os
 from typing import Callable
@@ -13,20 +14,20 @@ from leagues.store import Store
 from tools.faults import Fault
 from werkzeug.exceptions import HTTPException
 
-from . import accounts, films, handing, organisers, pages, reasons, walls
+from . import accounts, films, handing, organisers, pages, reasons, trials, walls, workbench
 from .accounts import SESSION_SECONDS, Who
 from .frames import SCRIPT, STYLES, Site
 from .handing import FAULTY, MANY, TAKEN, Answer
 from .live import read
-from .requests import (COOKIE, FILM_POLICY, SOURCE_POLICY, address, answered, attempts, configured, html, is_from_here, organiser, site, store, wants_page,
-                       who, writer)
+from .requests import (COOKIE, FILM_POLICY, SOURCE_POLICY, address, answered, attempts, configured, html, is_from_here, organiser, origin, site, store,
+                       wants_page, who, writer)
 from .terms import terms
 
 HERE = os.path.dirname(os.path.abspath(__file__))
 # A form has its other fields beside the source, and a source may have letters that a form codes with three.
 FORM_MAX = 1 << 18
 FORM_PARTS = 20
-TYPES = {"css": "text/css", "js": "text/javascript"}
+TYPES = {"css": "text/css", "js": "text/javascript", "html": "text/html"}
 
 
 def made(it: Site) -> Flask:
@@ -66,10 +67,43 @@ def table() -> Response:
 def shared(name: str) -> Response:
     """A style or the script."""
     folder = os.path.join(HERE, "..", "sites") if name == STYLES[0] else HERE
-    with open(os.path.join(folder, name), encoding="utf-8") as file:
-        answer = Response(file.read(), mimetype=TYPES[name.rpartition(".")[2]])
+    answer = of_type(name, workbench.text_of(os.path.join(folder, name)))
     answer.headers["Cache-Control"] = "max-age=300"
     return answer
+
+
+def of_type(name: str, text: str) -> Response:
+    """A file's text, of the type that its name says."""
+    return Response(text, mimetype=TYPES.get(name.rpartition(".")[2], "text/plain"))
+
+
+def workbench_page() -> Response:
+    return workbench_file(workbench.INDEX)
+
+
+def workbench_file(name: str) -> Response:
+    """A file of the page that plays. Its first page has the script of Send, and may reach that alone."""
+    text = workbench.file(site().workbench, name)
+    if text is None:
+        abort(404)
+    is_first = name == workbench.INDEX
+    answer = of_type(name, workbench.added(text, trials.opponents(store())) if is_first else text)
+    answer.headers["Content-Security-Policy"] = workbench.policy(text, f"{origin()}{site().to('send')}" if is_first else "")
+    answer.headers["Cache-Control"] = "no-cache"
+    answer.add_etag()
+    answer.make_conditional(request)
+    return answer
+
+
+def send() -> Response:
+    """A robot of the workbench, as the bytes of its source: what became of it, as data. Against a robot it is a trial."""
+    by, source_ = writer(), request.get_data(cache=False)
+    name, against = request.args.get("robot", ""), request.args.get("against", "")
+    if against:
+        it = trials.tried(store(), by, name, source_, against, site().programs, address())
+    else:
+        it = handing.hand_in(store(), by, name, source_, site().programs, address())
+    return Response(json.dumps({"taken": it.is_taken, "words": it.words}), it.status, mimetype="application/json")
 
 
 def robot_id(name: str) -> str:
@@ -222,7 +256,7 @@ def replay(seating: int, number: int) -> Response:
     made_ = films.page(store(), seating, number) if max(seating, number) < 1 << 62 else None
     if made_ is None:
         abort(404)
-    answer = Response(made_ + (films.PLAYING if "play" in request.args else b""), mimetype="text/html")
+    answer = Response(films.shown(made_, site().to(""), "play" in request.args), mimetype="text/html")
     answer.headers["Content-Security-Policy"] = FILM_POLICY
     return answer
 
@@ -242,8 +276,7 @@ def invite() -> Response:
         it = accounts.invite(store(), request.form.get("name", ""), request.form.get("team", ""), by.name, address())
     except Fault as why:
         return answered(Answer(FAULTY, str(why)), by)
-    outside = site().outside or f"{request.scheme}://{request.host}"
-    return answered(Answer(TAKEN, f"The link of {it.name}, which is shown only now:\n\n{outside}{site().to('join')}#{it.token}"), by)
+    return answered(Answer(TAKEN, f"The link of {it.name}, which is shown only now:\n\n{origin()}{site().to('join')}#{it.token}"), by)
 
 
 def withdraw_link() -> Response:
@@ -272,6 +305,8 @@ GET, POST, PUT = "GET", "POST", "PUT"
 ROUTES: tuple[tuple[str, Does, str], ...] = (
     ("/", index, GET), ("/tag", tag, GET), ("/table", table, GET), ("/wall", wall, GET),
     (f"/{STYLES[0]}", lambda: shared(STYLES[0]), GET), (f"/{STYLES[1]}", lambda: shared(STYLES[1]), GET), (f"/{SCRIPT}", lambda: shared(SCRIPT), GET),
+    ("/workbench/", workbench_page, GET), ("/workbench/<path:name>", workbench_file, GET), (f"/{workbench.SCRIPT}", lambda: shared(workbench.SCRIPT), GET),
+    ("/send", send, POST),
     ("/join", join_page, GET), ("/join", join, POST), ("/leave", leave, POST), ("/sign-up", sign_up, POST),
     ("/mine", mine, GET), ("/robots", by_form, POST), ("/check", check, POST), ("/robots/<name>", robot, GET), ("/robots/<name>", by_file, PUT),
     ("/robots/<name>/versions/<int:number>", version, GET), ("/robots/<name>/back", back, POST), ("/robots/<name>/withdraw", withdraw, POST),

@@ -52,6 +52,7 @@ def heading(site: Site, who: Who | None) -> Markup:
     links = [("", "Table"), ("wall", "Wall")]
     links += [("organiser", "Organiser"), ("checklist", "Checklist")] if who and who.is_organiser else []
     links += [("mine", "My robots")] if who else [("join", "Join")]
+    links += [("workbench/", "Workbench")] if site.workbench else []
     found = [tag("a", said, href=site.to(where)) for where, said in links]
     home = tag("a", tag("bdi", named(site.title)), href=site.to(""), class_="home")
     out = [form(site, "leave", tag("button", joined("Leave (", tag("bdi", named(who.name)), ")")))] if who else []

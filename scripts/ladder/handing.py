@@ -15,6 +15,7 @@ from leagues.entries import ADD, CHANGE, WITHDRAW, Entry
 from leagues.store import Store
 from tools.faults import Fault
 
+from . import seeds
 from .accounts import Who, authors, owners
 from .attempts import Attempts
 from .audits import HERE, note
@@ -120,9 +121,11 @@ def allowed(store: Store, who: Who, robot: str) -> None:
 
 
 def refuse_season(store: Store) -> None:
-    """Refuses everything while no season goes on."""
+    """Refuses everything while no season goes on, or the final does."""
     if (it := seasons.season(store)).ended:
         raise Refused(SHUT, f"the season {it.name} ended on {it.ended}, and the next one hasn't begun")
+    if seeds.is_final(store, it):
+        raise Refused(SHUT, "the final is being played, and nothing is taken any more")
 
 
 def refuse_full(store: Store, by: Terms) -> None:
@@ -146,9 +149,14 @@ def refuse_owner(store: Store, who: Who, robot: str, by: Terms) -> None:
 
 def refuse_often(store: Store, who: Who, by: Terms) -> None:
     """Refuses one version more than an author may hand in within an hour."""
-    row = store.one("SELECT count(*) FROM ladder_audit WHERE who = ? AND what = ? AND at > ?", who.name, HAND_IN, time.time() - HOUR)
-    if not who.is_organiser and row[0] >= by.versions:
-        raise Refused(MANY, f"you handed in {row[0]} versions within an hour, and at most {by.versions} are taken")
+    many = done_of_late(store, who, HAND_IN)
+    if not who.is_organiser and many >= by.versions:
+        raise Refused(MANY, f"you handed in {many} versions within an hour, and at most {by.versions} are taken")
+
+
+def done_of_late(store: Store, who: Who, what: str) -> int:
+    """How often somebody did something within the last hour."""
+    return int(store.one("SELECT count(*) FROM ladder_audit WHERE who = ? AND what = ? AND at > ?", who.name, what, time.time() - HOUR)[0])
 
 
 def same(store: Store, who: Who, robot: str, source: bytes) -> Answer | None:

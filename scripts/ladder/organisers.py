@@ -29,7 +29,8 @@ WON, OF = 4, 5
 # The rungs of docs/exercises.md: the samples of each level, as robots/README.md has them.
 RUNGS = (("wanderer", "runner", "pilot"), ("leader", "centre", "jumpy"), ("sniper", "hunter", "sweeper", "wallhugger"), ("shuttle", "boxer"),
          ("jouster",))
-COLUMNS = ("author", "group", "robot", "versions", "last hand-in", "rungs", "rank")
+COLUMNS = ("author", "group", "robot", "versions", "last hand-in", "late", "rungs", "rank")
+LATE = "late"
 
 
 class Line(NamedTuple):
@@ -40,6 +41,7 @@ class Line(NamedTuple):
     robot: str
     versions: int
     last: str
+    late: bool
     rungs: tuple[bool, ...]
     rank: str
 
@@ -76,16 +78,22 @@ def at(seconds: float) -> str:
     return datetime.datetime.fromtimestamp(seconds).isoformat(" ", "seconds")
 
 
-def lines(store: Store, league: str) -> list[Line]:
+def live_ranks(league: str) -> dict[str, str]:
+    """The rank of each robot in the live table."""
+    return {it.robot: str(it.rank) for it in read(league).rows if it.played}
+
+
+def lines(store: Store, ranks: Mapping[str, str]) -> list[Line]:
     """The robots of all authors, in the order of authors."""
-    ranks = {it.robot: str(it.rank) for it in read(league).rows if it.played}
+    closes = terms(store).closes
     whose, climbed, now = owners(store), climbed_by(store), playing(entries(store))
     found = []
     for it in authors(store):
         robots = sorted(robot for robot, number in whose.items() if number == it.number)
         for robot in robots or [""]:
             had = versions(store, robot) if robot else []
-            found.append(Line(it.name, it.team, robot, len(had), had[-1].day if had else "", climbed.get(robot, ()),
+            day = had[-1].day if had else ""
+            found.append(Line(it.name, it.team, robot, len(had), day, bool(closes) and day > closes, climbed.get(robot, ()),
                               ranks.get(robot, "") if robot in now else "left" if robot else ""))
     return found
 
@@ -121,8 +129,8 @@ def beats(schedule: Schedule, results: Results, ended: Mapping[int, Mapping[str,
 
 def checklist(site: Site, store: Store, who: Who) -> str:
     """The teacher's page."""
-    rows = [[tag("bdi", it.author), tag("bdi", it.team), name_of(it.robot) if it.robot else "", str(it.versions), it.last, marks(it.rungs), it.rank]
-            for it in lines(store, site.folder)]
+    rows = [[tag("bdi", it.author), tag("bdi", it.team), name_of(it.robot) if it.robot else "", str(it.versions), f"{it.last} {LATE}" if it.late else it.last,
+             marks(it.rungs), it.rank] for it in lines(store, live_ranks(site.folder))]
     columns = [("Author", NAME), ("Group", TEXT), ("Robot", TEXT), ("Versions", NUMBER), ("Last hand-in", TEXT), ("Rungs", TEXT), ("Rank", NUMBER)]
     said = sentence(f"A rung is climbed by {WON} of {OF} matches against each robot of that level, from either seat.", kind="note")
     return page(site, who, "Checklist", tag("h1", "Checklist"), section(
@@ -135,10 +143,14 @@ def marks(rungs: tuple[bool, ...]) -> str:
 
 
 def checklist_csv(store: Store, league: str) -> str:
-    """The checklist as comma-separated values. What a spreadsheet would take for a formula has a blank before it."""
-    rows = [[it.author, it.team, it.robot, str(it.versions), it.last, " ".join(str(at) for at, yes in enumerate(it.rungs, 1) if yes), it.rank]
-            for it in lines(store, league)]
-    return comma_separated([[*COLUMNS], *([safe(cell) for cell in row] for row in rows)])
+    """The checklist as comma-separated values."""
+    return comma_separated([[*COLUMNS], *(cells(it) for it in lines(store, live_ranks(league)))])
+
+
+def cells(it: Line) -> list[str]:
+    """The cells of a line. What a spreadsheet would take for a formula has a blank before it."""
+    rungs = " ".join(str(at) for at, yes in enumerate(it.rungs, 1) if yes)
+    return [safe(cell) for cell in (it.author, it.team, it.robot, str(it.versions), it.last, LATE if it.late else "", rungs, it.rank)]
 
 
 def safe(cell: str) -> str:

@@ -14,6 +14,7 @@ from sites.frames import section, sentence
 from sites.markup import Markup, block, joined, name_of, tag
 from sites.tables import NAME, NUMBER, TEXT, command_line, table
 
+from . import seeds
 from .accounts import Who, owners
 from .frames import Site, entry, form, hidden, page
 from .handing import Answer, author_names, is_theirs, versions
@@ -71,7 +72,8 @@ def row_of(site: Site, it: Row, shown: Mapping[str, str], by: Mapping[str, str])
 
 def index(site: Site, store: Store, who: Who | None) -> str:
     """The page of the table."""
-    return page(site, who, "", tag("h1", name_of(site.title)), section("Table", tag("div", standing(site, store, read(site.folder)), id="table")),
+    drawn = [sentence(it, kind="note")] if (it := seeds.said(store)) else []
+    return page(site, who, "", tag("h1", name_of(site.title)), section("Table", tag("div", standing(site, store, read(site.folder)), id="table"), *drawn),
                 tag("div", id="own", data_own=" ".join(own(store, who))))
 
 

@@ -146,10 +146,12 @@ class LadderPlayer:
         return many + self._keep(board, batch)
 
     def _keep(self, board: Board, batch: list[Record]) -> int:
-        """Keeps what was played, in one transaction, and counts it."""
-        rules = board.schedule.field.rules
+        """Keeps what was played, in one transaction, and counts it; nothing once the season has ended, whose table is made then."""
+        season, rules = board.schedule.field.season, board.schedule.field.rules
         if batch:
             with self._store.change():
+                if seasons.has_ended(self._store, season):
+                    return 0
                 for it in batch:
                     keep(self._store, rules, seated([robot.sha256 for robot in it.robots], it.series.seed), it.series.first, it.results, today())
         for it in batch:

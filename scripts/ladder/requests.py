@@ -72,11 +72,14 @@ def who() -> Who | None:
     return found
 
 
+def origin() -> str:
+    """The origin of this server's own pages."""
+    return site().outside or f"{request.scheme}://{request.host}"
+
+
 def is_from_here() -> bool:
     """Whether a request is of a page of this very server: its origin has to be the host that was asked, with scheme and port."""
-    origin = request.headers.get("Origin", "")
-    wanted = site().outside or f"{request.scheme}://{request.host}"
-    return hmac.compare_digest(origin.encode(), wanted.encode())
+    return hmac.compare_digest(request.headers.get("Origin", "").encode(), origin().encode())
 
 
 def writer() -> Who:

@@ -21,11 +21,13 @@ CREATE TABLE IF NOT EXISTS ladder_audit (number INTEGER PRIMARY KEY, at REAL NOT
 CREATE TABLE IF NOT EXISTS ladder_key (key BLOB NOT NULL);
 -- the terms of a hand-in: the last row counts
 CREATE TABLE IF NOT EXISTS ladder_terms (number INTEGER PRIMARY KEY, text TEXT NOT NULL);
+-- the seeds of finals: whether one was announced, and which season is its final
+CREATE TABLE IF NOT EXISTS ladder_final (number INTEGER PRIMARY KEY, seed TEXT NOT NULL, announced INTEGER NOT NULL, season INTEGER REFERENCES season);
 -- where a robot was at the end of each day
 CREATE TABLE IF NOT EXISTS ladder_rank (robot TEXT NOT NULL REFERENCES robot, day TEXT NOT NULL, rank INTEGER NOT NULL,
     PRIMARY KEY (robot, day)) WITHOUT ROWID;
 """
-TABLES = ("ladder_author", "ladder_token", "ladder_owner", "ladder_audit", "ladder_key", "ladder_terms", "ladder_rank")
+TABLES = ("ladder_author", "ladder_token", "ladder_owner", "ladder_audit", "ladder_key", "ladder_terms", "ladder_final", "ladder_rank")
 
 
 def ready(store: Store) -> None:

@@ -25,7 +25,7 @@ from tools.programs import found
 from tools.signals import Stopped, heeded
 from tournaments.programs import program
 
-from . import accounts, players, schema
+from . import accounts, players, schema, workbench
 from .frames import Site
 from .judging import Programs
 
@@ -34,6 +34,8 @@ DEBIAN = "/usr/lib/python3/dist-packages"
 NEEDED = {"flask": "python3-flask", "waitress": "python3-waitress"}
 THREADS, BODY, HEAD, CONNECTIONS, IDLE = 8, 1 << 18, 1 << 14, 1000, 30
 LOCAL = "127.0.0.1"
+# An address that is nobody's: the way to it begins at this machine's own one.
+NOWHERE = ("192.0.2.1", 9)
 PAUSE = 1.0
 
 
@@ -46,7 +48,7 @@ def serve(given: argparse.Namespace) -> None:
         token = accounts.organiser(store)
     with listening(given) as heard:
         port = heard.getsockname()[1]
-        outside = site.outside or f"http://{given.address or LOCAL}:{port}"
+        outside = site.outside or f"http://{given.address or (outward() if given.public else LOCAL)}:{port}"
         show([f"The ladder is at {outside}{site.to('')}\n", *([f"The organiser joins at {outside}{site.to('join')}#{token}\n"] if token else [])])
         clean()
         # it is read once, and not by each child anew
@@ -72,7 +74,7 @@ def site_of(given: argparse.Namespace) -> Site:
     folder = os.path.abspath(given.league)
     parts = urlsplit(given.url or "")
     return Site(folder, given.title or os.path.basename(folder), Programs(program(given.crobots).path, there("crobots-why"), there("crobots-trace")),
-                parts.path.rstrip("/"), f"{parts.scheme}://{parts.netloc}" if given.url else "")
+                parts.path.rstrip("/"), f"{parts.scheme}://{parts.netloc}" if given.url else "", workbench.folder(given.workbench))
 
 
 def there(name: str) -> str:
@@ -90,6 +92,14 @@ def listening(given: argparse.Namespace) -> socket.socket:
         return socket.create_server((host, given.port), backlog=512)
     except OSError as why:
         raise Fault(f"cannot listen at {host}:{given.port}: {why.strerror}", FILE) from why
+
+
+def outward() -> str:
+    """The address of this machine in its network, for which nothing is sent; that of the machine alone if it has no network."""
+    with contextlib.suppress(OSError), socket.socket(socket.AF_INET, socket.SOCK_DGRAM) as it:
+        it.connect(NOWHERE)
+        return str(it.getsockname()[0])
+    return LOCAL
 
 
 def clean() -> None:

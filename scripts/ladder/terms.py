@@ -24,6 +24,8 @@ class Terms:
     opens: str = ""
     closes: str = ""
     grace: int = 0
+    # how many trials against robots of others an author may have within an hour
+    trials: int = 0
     # how many authors may sign up without an invitation
     sign_up: int = 0
     # whether pages say the names of authors, and who may read sources

@@ -13,6 +13,7 @@ MODULES = {
     "play": "sessions", "take": "taking", "season": "turning", "status": "showing", "table": "showing",
     "publish": "publishing", "verify": "verifying", "drop": "dropping", "correct": "correcting", "history": "history",
     "take-in": "handing", "serve": "ladder.serving", "invite": "ladder.inviting", "terms": "ladder.inviting", "send": "ladder.sending",
+    "final": "ladder.finals",
 }
 
 

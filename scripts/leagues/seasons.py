@@ -107,6 +107,17 @@ def running(store: Store) -> Season:
     return it
 
 
+def has_ended(store: Store, it: Season) -> bool:
+    """Reports whether a season has ended, also since it was read."""
+    return any(one.number == it.number and one.ended for one in seasons(store))
+
+
+def refuse_ended(store: Store, it: Season) -> None:
+    """Refuses to keep matches of a season that ended while they were played: its table is that of those that were kept before."""
+    if has_ended(store, it):
+        raise Fault(f"the season {it.name} ended while it was being played; what wasn't kept before doesn't count")
+
+
 def field(store: Store, it: Season) -> Field:
     """The robots of a season, as they are now or were at its end."""
     happened = entries(store, it.last_entry)

@@ -24,10 +24,9 @@ from .farm import planned
 from .locks import alone
 from .missing import missing, nearest
 from .results import Results, keep, seated
-from .rules import Rules
 from .schedules import Schedule
 from .scores import points, scores
-from .seasons import Season, field, running
+from .seasons import Season, field, refuse_ended, running
 from .sources import laid
 from .store import Store, opened
 
@@ -106,10 +105,10 @@ def play_all(store: Store, given: argparse.Namespace, found: Program) -> None:
                 if not given.quiet:
                     say(given.script, f"{matches} matches were played, and none is missing")
                 return
-            matches += play_round(store, given, found, season.rules, now)
+            matches += play_round(store, given, found, season, now)
 
 
-def play_round(store: Store, given: argparse.Namespace, found: Program, by: Rules, now: Wanted) -> int:
+def play_round(store: Store, given: argparse.Namespace, found: Program, season: Season, now: Wanted) -> int:
     """Plays what is wanted now; answers how many matches that were."""
     progress = Progress(len(now.records), given.quiet, given.script)
     with watch() as stop:
@@ -121,7 +120,7 @@ def play_round(store: Store, given: argparse.Namespace, found: Program, by: Rule
         try:
             with closing(Player(found, given.jobs, now.folder).play(now.records, glance)) as ended:
                 for record in ended:
-                    keep_record(store, by, record, given_day(given))
+                    keep_record(store, season, record, given_day(given))
                     progress.count(record.series.matches)
         except Stopped as why:
             progress.clear()
@@ -130,8 +129,9 @@ def play_round(store: Store, given: argparse.Namespace, found: Program, by: Rule
     return progress.matches
 
 
-def keep_record(store: Store, by: Rules, record: Record, day: str) -> tuple[int, int]:
+def keep_record(store: Store, season: Season, record: Record, day: str) -> tuple[int, int]:
     """Keeps what a series came to; answers how many matches are new, and how many were there."""
     where = seated([robot.sha256 for robot in record.robots], record.series.seed)
     with store.change():
-        return keep(store, by, where, record.series.first, record.results, day)
+        refuse_ended(store, season)
+        return keep(store, season.rules, where, record.series.first, record.results, day)

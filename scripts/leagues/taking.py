@@ -29,7 +29,7 @@ from .entries import AUTHOR_MAX
 from .keys import copies_of, possible
 from .results import keep, seated
 from .rules import Rules
-from .seasons import Season, running
+from .seasons import Season, refuse_ended, running
 from .sessions import checked as checked_program
 from .sources import laid
 from .store import Store
@@ -69,7 +69,7 @@ class Taker:
 
     def __init__(self, store: Store, season: Season, day: str, again: Replays | None) -> None:
         self._store, self._day, self._again = store, day, again
-        self._rules = season.rules
+        self._season, self._rules = season, season.rules
         self._copies = copies_of(store)
         self._judges = judges_of(store, season)
 
@@ -104,6 +104,7 @@ class Taker:
     def _keep(self, lines: Sequence[Line], worker: str, place: str, taken: Taken) -> None:
         """Keeps records, with their worker if anything is new."""
         with self._store.change():
+            refuse_ended(self._store, self._season)
             by, is_new = worker_of(self._store, worker)
             before = taken.new
             for number, record in lines:

@@ -42,13 +42,17 @@ def listed(them: list[Season]) -> str:
 
 
 def end(store: Store, given: argparse.Namespace) -> None:
+    """Ends the season that goes on, on a day that is given."""
+    ended(store, given_day(given), given.unfinished)
+
+
+def ended(store: Store, day: str, unfinished: bool) -> None:
     """Ends the season that goes on, with its table."""
     season = seasons.running(store)
     schedule, results = Schedule(seasons.field(store, season)), Results(store, season.rules)
     left = sum(it.matches for it in missing(schedule, results))
-    if left and not given.unfinished:
+    if left and not unfinished:
         raise Fault(f"{left} matches are missing; `play` plays them, and --unfinished ends the season without them")
-    day = given_day(given)
     seasons.end(store, season, day, left)
     publications.publish(store, season, day, standings(schedule, results), left, final=True)
 

@@ -285,6 +285,8 @@ class Words:
         it.add_argument("--port", metavar="PORT", type=within(0, 65_535), default=8080, help="the port; 0 for any (default 8080)")
         it.add_argument("--url", metavar="URL", type=outside, help="the address by which readers reach it, as https://host/path, if a proxy is before it")
         it.add_argument("--title", metavar="TEXT", help="the title of its pages (default: the league's folder)")
+        it.add_argument("--workbench", metavar="DIR",
+                        help="the folder of the page that plays in a browser (default: the one built or installed with this script, if there is one)")
         of_jobs(it)
         of_program(it)
         it = self._command("invite", "makes links by which authors join the open ladder")
@@ -294,10 +296,22 @@ class Words:
         it.add_argument("--withdraw", action="store_true", help="withdraw the link of this author")
         it.add_argument("--url", metavar="URL", type=outside, default="http://127.0.0.1:8080", help="the ladder's address, with which the links begin (default http://127.0.0.1:8080)")
         self._terms(self._command("terms", "says the terms of the open ladder, and changes those that are given"))
+        self._final(self._command("final", "plays a last season on a fresh seed, and prints each author's rungs and ranks"))
         it = self._command("send", "hands a robot in to an open ladder")
         it.add_argument("--id", metavar="ID", help="the robot's id (default: the file's name without .r)")
         it.add_argument("url", metavar="URL", help="the author's link")
         it.add_argument("robot", metavar="ROBOT", help="the source file")
+
+    def _final(self, it: Parser) -> None:
+        """The final of an open ladder."""
+        it.add_argument("--announce", action="store_true", help="draw the seed, show its hash, and play nothing yet")
+        it.add_argument("--name", metavar="NAME", type=text, default="final", help="the name of its season (default final)")
+        it.add_argument("--early", action="store_true", help="begin it though robots are still handed in")
+        it.add_argument("--unfinished", action="store_true", help="end the season before it though matches are missing")
+        it.add_argument("--csv", action="store_true", help="print it as comma-separated values")
+        it.add_argument("-m", dest="matches", metavar="MATCHES", type=within(1, MATCHES_MAX), help="matches of each group (default: as before)")
+        of_playing(it)
+        it.set_defaults(piece=None, day=None, future=False)
 
     def _terms(self, it: Parser) -> None:
         """The terms of a hand-in."""
@@ -305,6 +319,7 @@ class Words:
                 ("robots", 1000, "most robots of an author (default 3)"),
                 ("versions", 10_000, "most versions that an author hands in within an hour (default 20)"),
                 ("size", 65_536, "most bytes of a source (default 65536)"), ("grace", 366, "days of grace after the last day (default 0)"),
+                ("trials", 10_000, "how many trials against robots of others an author may have within an hour (default 0)"),
                 ("sign-up", 100_000, "how many authors there may be until nobody can sign up any more (default 0)"),
                 ("floor", 1_000_000, "megabytes of the disk that stay free (default 100)")):
             it.add_argument(f"--{name}", metavar="N", type=within(0, most), help=about)

@@ -18,12 +18,11 @@ from tools.signals import stopping
 
 from . import plans, programs, robots, words
 from .intervals import Mean, mean
-from .main import tell_rounded
 from .playing import Player
 from .records import Record, Series
 from .robots import Robot
 from .seats import keys, seatings
-from .sessions import session
+from .sessions import session, tell_rounded
 from .settings import Settings
 from .tables import RESULTS, aligned, comma_separated
 from .versions import CHALLENGER, NEW, OLD, Place, Versions

@@ -6,7 +6,7 @@ import argparse
 from decimal import Decimal
 
 from tools.faults import Fault
-from tools.output import say, show, written_over
+from tools.output import show, written_over
 from tools.signals import stopping
 
 from . import plans, programs, robots, words
@@ -15,8 +15,8 @@ from .merging import Merger, against, records
 from .playing import Player
 from .programs import Program
 from .results import Results, check_files
-from .seats import keys, rounded
-from .sessions import session
+from .seats import keys
+from .sessions import session, tell_rounded
 from .settings import SIZE_NAMES, Settings
 
 
@@ -98,14 +98,6 @@ def planned(given: argparse.Namespace, program: Program, folder: str) -> plans.P
         most = min(most, plans.one_write(settings, among))
     tell_rounded(given, settings.sizes)
     return plans.Plan(settings, among, most)
-
-
-def tell_rounded(given: argparse.Namespace, sizes: tuple[int, ...]) -> None:
-    """Says which matches of a group are more than were asked for."""
-    more = {size: rounded(given.matches, size) for size in sizes if given.matches % size}
-    if more:
-        said = ", ".join(f"{many} of {SIZE_NAMES[size]}" for size, many in more.items())
-        say(given.script, f"-m{given.matches} is rounded up to {said}: each seating is played equally often")
 
 
 def tournament(name: str, arguments: list[str]) -> None:

@@ -3,8 +3,9 @@
 from __future__ import annotations
 
 import math
-from operator import mul
-from typing import Sequence
+from functools import partial
+from operator import itemgetter, mul
+from typing import Callable, Iterable, Sequence
 
 Vector = Sequence[float]
 Matrix = list[list[float]]
@@ -14,6 +15,19 @@ def product(one: Vector, other: Vector) -> float:
     """The sum of what two vectors' numbers come to, multiplied, as far as the shorter one goes."""
     found: float = sum(map(mul, one, other))
     return found
+
+
+def forms(matrix: Iterable[Vector]) -> list[Callable[[Vector], float]]:
+    """The products of each row of a matrix with a vector. Of a row that has mostly zeros these are left out."""
+    return [*map(form, matrix)]
+
+
+def form(row: Vector) -> Callable[[Vector], float]:
+    places = [at for at, it in enumerate(row) if it]
+    if not 1 < len(places) <= len(row) // 2:
+        return partial(product, row)
+    numbers, chosen = [row[at] for at in places], itemgetter(*places)
+    return lambda vector: product(numbers, chosen(vector))
 
 
 def factored(matrix: Sequence[Vector]) -> Matrix:

@@ -85,6 +85,10 @@ class Rows:
         """How many others it has met."""
         return round(sum(self.met[robot]))
 
+    def sparse(self) -> float:
+        """The part of all pairs that haven't met."""
+        return 1 - sum(map(self.opponents, range(self.many))) / (self.many * (self.many - 1))
+
     def size(self, robot: int) -> int:
         """The most robots of a match in which it was."""
         return max([2, *(len(it.group) for it in self.spreads[robot])])

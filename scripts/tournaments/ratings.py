@@ -2,8 +2,9 @@
 
 The interval holds the rating that endless play against these same robots would give. It comes from formulas: how sure each share
 is shows in how its matches differ, and the fit says how a robot's strength moves with each share. What a robot's own matches do is a
-sum, whose skewness moves the interval (Johnson), and whose variance is known as well as its matches are many (Student). A tenth of an
-upset that it may have had, but didn't, widens it. What others' matches do adds by squares."""
+sum, whose skewness moves the interval (Johnson; in sparse fields on the short side Hall), and whose variance is known as well as its
+matches are many (Student). A tenth of an upset that it may have had, but didn't, widens it: one of any of its pairs, and in a sparse field
+rather one of those that would move it most. What others' matches do adds by squares."""
 
 from __future__ import annotations
 
@@ -14,7 +15,7 @@ from typing import Iterator, NamedTuple, Sequence
 
 from .evidence import Evidence
 from .intervals import NORMAL, quantile, together
-from .matrices import Matrix, Vector, product
+from .matrices import Matrix, Vector, forms, product
 from .parts import Rows, parts, rows
 from .strengths import REAL, TIES, Fit, chances, fitted
 
@@ -56,7 +57,8 @@ def ratings(those: Evidence, anchor: int | None = None) -> list[Rating]:
 class Own(NamedTuple):
     """What a robot's own matches do to its strength, if chance were a straight line of strengths: the variance and the third moment
     of what was seen, and what unseen upsets add to both, on the side on which they are thought of; `among_all` is the part that its
-    matches have in the variance by all matches, and `freedom` says how well the variance is known."""
+    matches have in the variance by all matches, `freedom` says how well the variance is known, and `sparse` is the part of all pairs that
+    haven't met."""
 
     seen: float
     third: float
@@ -64,14 +66,29 @@ class Own(NamedTuple):
     more: float
     among_all: float
     freedom: float
+    sparse: float
 
     def moved(self, side: int) -> float:
         """How far they may have moved it on a side."""
-        variance = self.seen + self.unseen
-        if not variance:
+        deviation = math.sqrt(self.seen + self.unseen)
+        if not deviation:
             return 0.0
-        skewness = (self.third + side * self.more) / variance
-        return max(0.0, REAL * (quantile(self.freedom) * math.sqrt(variance) + side * SKEWED * skewness))
+        skewness = (side * self.third + self.more) / deviation**3
+        return max(0.0, REAL * deviation * (quantile(self.freedom) + further(skewness, self.sparse)))
+
+
+def further(skewness: float, sparse: float) -> float:
+    """How much further than without it an end is, in standard deviations, by the skewness towards it; `sparse` is the part of all pairs
+    that haven't met.
+
+    On the side on which chance reaches less far it is nearer: in proportion, but less in a sparse field, where the one upset that was seen
+    may be one of few."""
+    straight = SKEWED * skewness
+    if straight >= 0:
+        return straight
+    inside = -skewness * max(0.0, NORMAL + skewness / 6)
+    root = 3 * math.expm1(math.log1p(inside) / 3) / -skewness - NORMAL
+    return straight + sparse * (root - straight)
 
 
 class Part:
@@ -80,10 +97,9 @@ class Part:
     def __init__(self, those: Rows) -> None:
         self._rows = those
         self._fit: Fit = fitted(those.met, those.scores())
+        self._sparse = those.sparse()
         self._variances = doubted(those)
-        covariances = covariance(those, self._variances)
-        # of each robot's weights the products with all covariances
-        self._with_all = [[product(row, weights) for row in covariances] for weights in self._fit.inverse]
+        self._covariances = forms(covariance(those, self._variances))
 
     def ratings(self, anchor: int | None) -> list[Rating]:
         """All ratings, or how far they are above that of the anchor."""
@@ -93,9 +109,13 @@ class Part:
     def _rating(self, robot: int) -> Rating:
         weights, value = self._fit.inverse[robot], self._fit.strengths[robot]
         own = self._own(weights, robot)
-        others = NORMAL * REAL * math.sqrt(max(0.0, product(weights, self._with_all[robot]) - own.among_all))
+        others = NORMAL * REAL * math.sqrt(max(0.0, product(weights, self._with_all(robot)) - own.among_all))
         low, high = (value + side * math.hypot(self._bent(robot, side * own.moved(side)), others) for side in (-1, 1))
         return Rating(SCALE * value, SCALE * low, SCALE * high)
+
+    def _with_all(self, robot: int) -> list[float]:
+        """The products of a robot's weights with all covariances."""
+        return [of_row(self._fit.inverse[robot]) for of_row in self._covariances]
 
     def _own(self, weights: Vector, robot: int) -> Own:
         """What a robot's own matches do.
@@ -111,8 +131,14 @@ class Part:
         freedom = together([(of_pairs, those.freedom[robot]), *((it, one.freedom) for (it, _), one in zip(spreads, those.spreads[robot]))])
         third = product([*map(mul, squares, far)], those.thirds[robot]) + sum(it for _, it in spreads)
         upsets = [those.size(robot) / 2 * abs(it) * each for it, each in zip(far, those.each[robot])]
-        unseen = [UNSEEN / those.opponents(robot) * it * it for it in upsets]
-        return Own(of_pairs + more, third, sum(unseen), product(unseen, upsets), product(squares, self._variances[robot]) + more, freedom)
+        unseen = [UNSEEN * it * it * part for it, part in zip(upsets, self._parts(robot, upsets))]
+        among_all = product(squares, self._variances[robot]) + more
+        return Own(of_pairs + more, third, sum(unseen), product(unseen, upsets), among_all, freedom, self._sparse)
+
+    def _parts(self, robot: int, upsets: Vector) -> Iterator[float]:
+        """The parts that a robot's pairs have of its unseen upsets: where all have met, all alike, else rather by their squares."""
+        whole, alike = product(upsets, upsets), (1 - self._sparse) / self._rows.opponents(robot)
+        return (alike + self._sparse * it * it / whole for it in upsets)
 
     def _bent(self, robot: int, moved: float) -> float:
         """How far a robot's strength moves if its score does as it would for this way on a straight line.
@@ -126,9 +152,9 @@ class Part:
 
     def _above(self, those: Sequence[Rating], anchor: int) -> Iterator[Rating]:
         """How far ratings are above that of the anchor. Squares add up; what both have in common counts where that is wider."""
-        base = those[anchor]
+        base, with_all = those[anchor], self._with_all(anchor)
         for robot, it in enumerate(those):
-            common = min(0.0, product(self._fit.inverse[robot], self._with_all[anchor]))
+            common = min(0.0, product(self._fit.inverse[robot], with_all))
             both = 2 * (SCALE * REAL * NORMAL) ** 2 * common
             value = it.value - base.value
             low = math.sqrt((it.value - it.low) ** 2 + (base.high - base.value) ** 2 - both)

@@ -15,6 +15,8 @@ from .plans import Plan
 from .playing import Player
 from .progress import Progress
 from .records import Record
+from .seats import rounded
+from .settings import SIZE_NAMES
 
 Adds = Callable[[Record], None]
 
@@ -60,3 +62,11 @@ def play(player: Player, left: Iterator[Record], kept: Journal, add: Adds, progr
             kept.add(record)
             add(record)
             progress.count(record.series.matches)
+
+
+def tell_rounded(given: argparse.Namespace, sizes: tuple[int, ...]) -> None:
+    """Says which matches of a group are more than were asked for."""
+    more = {size: rounded(given.matches, size) for size in sizes if given.matches % size}
+    if more:
+        said = ", ".join(f"{many} of {SIZE_NAMES[size]}" for size, many in more.items())
+        say(given.script, f"-m{given.matches} is rounded up to {said}: each seating is played equally often")

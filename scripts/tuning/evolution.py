@@ -13,8 +13,8 @@ from typing import Sequence
 
 Point = tuple[float, ...]
 
-# The first step, as a part of a number's range.
-FIRST_STEP = 0.3
+# The first step, as a part of a number's range: it begins where races led.
+FIRST_STEP = 0.15
 # No step is smaller.
 LEAST_STEP = 0.02
 

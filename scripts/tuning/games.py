@@ -18,7 +18,7 @@ from tournaments.progress import Progress
 from tournaments.records import Record, Series
 from tournaments.robots import Robot, laid
 from tournaments.seats import keys, seatings
-from tournaments.sessions import missing, play
+from tournaments.sessions import play
 from tournaments.settings import Settings
 
 from .marks import Number, changed
@@ -88,10 +88,12 @@ class Games:
         def add(record: Record) -> None:
             self.scores.add(record, hashes)
 
-        player = Player(self.program, self.given.jobs, self.folder)
-        series = [record for there, record in plan.resumed(self.kept) if not there]
-        self.progress.series = self.progress.done + len(series)
-        play(player, missing(plan, self.kept, add), self.kept, add, self.progress)
+        parts = [*plan.resumed(self.kept)]
+        for record in (record for there, record in parts if there):
+            add(record)
+        missing = [record for there, record in parts if not there]
+        self.progress.series = self.progress.done + len(missing)
+        play(Player(self.program, self.given.jobs, self.folder), iter(missing), self.kept, add, self.progress)
 
     def plan(self, several: Sequence[tuple[int, ...]], starts: Starts, stretch: Stretch, among: Sequence[Opponent]) -> Plan:
         """All series of these matches."""

@@ -12,10 +12,9 @@ from tools.output import replaced, say, show
 from tools.signals import Stopped, stopping
 from tournaments import plans, programs, robots
 from tournaments.journals import Journal, journal
-from tournaments.main import tell_rounded
 from tournaments.progress import Progress
 from tournaments.seats import rounded
-from tournaments.sessions import done
+from tournaments.sessions import done, tell_rounded
 from tournaments.settings import Settings
 from tournaments.versions import CHALLENGER
 
@@ -24,6 +23,7 @@ from .games import Games, Starts, Stretch, readable
 from .marks import Number, changed, numbers, tokens
 from .opponents import Opponent, opponents
 from .scoring import Scores
+from .searching import Search
 
 # How many numbers a sweep may have.
 SWEPT = 2
@@ -46,7 +46,7 @@ def chosen(given: argparse.Namespace, found: list[Number]) -> list[Number]:
 def prepared(given: argparse.Namespace, folder: str, kept: Journal, program: programs.Program, field: Sequence[str]) -> Games:
     """All that is needed to play: the robot, its numbers, its opponents. All compile."""
     robot, = robots.copied([given.robot], folder)
-    others = [it for it in opponents(field, given.league, given.weight, folder) if it.robot.sha256 != robot.sha256]
+    others = [it for it in opponents(field, given.league, given.weight, folder, given.level) if it.robot.sha256 != robot.sha256]
     robots.compiled(program, given.profile, [robot, *compilable(others)], folder)
     place = os.path.join(folder, robot.sha256)
     with open(place, "rb") as file:
@@ -71,12 +71,14 @@ def compilable(found: Sequence[Opponent]) -> list[robots.Robot]:
     return [it.robot for it in found]
 
 
-def judges(given: argparse.Namespace, folder: str, program: programs.Program) -> list[Opponent] | None:
-    """The robots of --judge, if there are any. They compile."""
+def judges(games: Games) -> Sequence[Opponent]:
+    """The robots of --judge without the robot itself, or those of the search if there are none. They compile."""
+    given = games.given
     if not given.judge:
-        return None
-    found = opponents(given.judge, None, [], folder)
-    robots.compiled(program, given.profile, compilable(found), folder)
+        return games.opponents
+    itself = games.variant(games.today).sha256
+    found = [it for it in opponents(given.judge, None, [], games.folder) if it.robot.sha256 != itself]
+    robots.compiled(games.program, given.profile, compilable(found), games.folder)
     return found
 
 
@@ -99,19 +101,26 @@ def plan(games: Games, program: programs.Program) -> None:
     show(plans.lines(plans.Plan(it.settings, files, most, it.only), program.path))
 
 
-def tune(games: Games, others: Sequence[Opponent] | None) -> None:
+def is_known(games: Games, judging_ones: Sequence[Opponent]) -> bool:
+    """Whether the judgement meets nobody that the search hasn't met, and the search nobody else."""
+    met, those = ({it.robot.sha256 for it in them} for them in (games.opponents, judging_ones))
+    return those <= met and not games.given.against_itself
+
+
+def tune(games: Games, judging_ones: Sequence[Opponent]) -> None:
     """Searches, judges what was found, and writes it if it is surely better."""
     given = games.given
-    if others is None and not given.against_itself:
+    if is_known(games, judging_ones):
         say(given.script, "the tuned robot is judged against the robots that it was tuned against; --judge names others")
-    values = judging.Search(games).run()
-    if others is not None:
-        games.opponents = others
+    values = Search(games).run()
+    games.opponents = judging_ones
+    if not given.has_matches:
+        given.matches = max(given.matches, judging.matches_of_budget(given.budget, len(games.opponents)))
     it = judging.judge(games, values, rounded(given.matches, 2) // 2)
     games.progress.clear()
     if given.output and it.is_better:
-        write(given.output, changed(games.source, games.numbers, it.values))
-    shown = [tables.of_tuning(games, it, given.form), *(judging.said(games, it, len(games.opponents)) if given.form == "table" else ())]
+        write(given.output, changed(games.source, games.numbers, it.tuned.values))
+    shown = [tables.of_tuning(games, it, given.form), *(judging.said(games, it) if given.form == "table" else ())]
     if given.output and given.form == "table":
         shown.append(f"{given.output} is written\n" if it.is_better else f"{given.output} isn't written\n")
     show(shown)
@@ -148,7 +157,7 @@ def script(name: str, arguments: Iterable[str]) -> None:
             if given.sweep:
                 sweep(games)
             else:
-                tune(games, judges(given, folder, program))
+                tune(games, judges(games))
         except Stopped as why:
             raise Stopped(why.number, f"stopped: {done(games.progress)}{kept_there}") from why
         finally:

@@ -1,17 +1,15 @@
-"""Whom a robot is tuned against: files, folders, and the best robots of a league, each with a weight."""
+"""Whom a robot is tuned against: files, folders, samples of a level, and the best robots of a league, each with a weight."""
 
 from __future__ import annotations
 
+import importlib
 import os
 from dataclasses import dataclass
 from fractions import Fraction
-from typing import Iterable, Sequence
+from typing import Callable, Iterable, Sequence
 
-from leagues.entries import source
-from leagues.seasons import season
-from leagues.showing import rated
-from leagues.store import opened
 from tools.faults import Fault, unreadable
+from tools.samples import of_level
 from tournaments import robots
 from tournaments.robots import Robot
 
@@ -35,14 +33,24 @@ class League:
     best: int = BEST
 
 
-def opponents(paths: Sequence[str], league: League | None, weights: Sequence[tuple[str, Fraction]], folder: str) -> list[Opponent]:
+@dataclass(frozen=True)
+class Level:
+    """A level of the sample robots, and what each of them weighs."""
+
+    number: int
+    weight: Fraction = Fraction(1)
+
+
+def opponents(paths: Sequence[str], league: League | None, weights: Sequence[tuple[str, Fraction]], folder: str,
+              levels: Sequence[Level] = ()) -> list[Opponent]:
     """The robots of these words, copied into a folder, in an order that doesn't depend on that of the words."""
-    files = [file for path in paths for file in robots_of(path)]
-    found = robots.copied(files, folder) + (best(league, folder) if league else [])
+    samples = {path: it.weight for it in levels for path in of_level(it.number)}
+    files = [*(file for path in paths for file in robots_of(path)), *samples]
+    found = robots.copied(files, folder) + (of_league(league, folder) if league else [])
     unused = {path for path, _ in weights}
     them = []
     for robot in robots.in_order(found):
-        weight, by = weight_of(robot.path, weights)
+        weight, by = weight_of(robot.path, weights) or (samples.get(robot.path, Fraction(1)), "")
         unused -= {by}
         them.append(Opponent(robot, weight))
     if unused:
@@ -63,21 +71,17 @@ def robots_of(path: str) -> list[str]:
     return found
 
 
-def weight_of(path: str, weights: Iterable[tuple[str, Fraction]]) -> tuple[Fraction, str]:
+def weight_of(path: str, weights: Iterable[tuple[str, Fraction]]) -> tuple[Fraction, str] | None:
     """The weight of a robot, by its file or by the folder that it is in, and the word that gave it: the last one that does."""
     found = [(weight, word) for word, weight in weights if same(word, path) or same(word, os.path.dirname(path) or ".")]
-    return found[-1] if found else (Fraction(1), "")
+    return found[-1] if found else None
 
 
 def same(one: str, other: str) -> bool:
     return os.path.abspath(one) == os.path.abspath(other)
 
 
-def best(league: League, folder: str) -> list[Robot]:
-    """The best robots of a league's newest season, copied into a folder. On command lines they have their ids."""
-    with opened(league.folder) as store, store.view():
-        rows = rated(store, season(store))[:league.best]
-        sources = [(it.robot, source(store, it.sha256)) for it in rows]
-    if not sources:
-        raise Fault(f"the league {league.folder} has no table yet")
-    return [robots.laid(name, text, folder) for name, text in sources]
+def of_league(league: League, folder: str) -> list[Robot]:
+    """The best robots of a league. What reads leagues is itself read here, since few need it."""
+    best: Callable[[str, int, str], list[Robot]] = importlib.import_module("tuning.rated").best
+    return best(league.folder, league.best, folder)

@@ -7,11 +7,14 @@ from typing import Sequence
 from sites.markup import Markup, tag
 from sites.scales import Scale
 
+from .breakdowns import listed
 from .games import Games
-from .sweeps import Row, shown
+from .sweeps import BETTER, WORSE, Row, shown
 
 WIDTH, HEIGHT = 720, 360
-LEFT, RIGHT, TOP, BOTTOM = 56, 20, 34, 46
+LEFT, RIGHT, TOP, BOTTOM = 56, 20, 48, 46
+# So many letters a line of small ones has room for.
+COLUMNS = 90
 STYLE = """
 svg { font: 13px sans-serif; background: #fff; color: #1c1c1c }
 .grid { stroke: #ddd } .zero { stroke: #888; stroke-dasharray: 4 3 }
@@ -27,10 +30,22 @@ def picture(games: Games, rows: Sequence[Row]) -> str:
     return drawn + "\n"
 
 
-def drawing(width: int, height: int, title: str, *parts: Markup) -> Markup:
-    """A drawing that stands alone."""
-    return tag("svg", tag("title", title), Markup(f"<style>{STYLE}</style>"), tag("text", title, x=LEFT, y=20), *parts,
-               xmlns="http://www.w3.org/2000/svg", viewBox=f"0 0 {width} {height}", width=width, height=height)
+def drawing(games: Games, width: int, height: int, title: str, *parts: Markup) -> Markup:
+    """A drawing that stands alone, and says against whom."""
+    among = listed(games)
+    whole = f"{title}; against {', '.join(among)}"
+    return tag("svg", tag("title", whole), Markup(f"<style>{STYLE}</style>"), tag("text", title, x=LEFT, y=18), text(LEFT, 34, shortened(among), "start"),
+               *parts, xmlns="http://www.w3.org/2000/svg", viewBox=f"0 0 {width} {height}", width=width, height=height)
+
+
+def shortened(among: Sequence[str]) -> str:
+    """As many of the opponents as a line has room for, and how many more there are."""
+    for many in range(len(among), 0, -1):
+        left = len(among) - many
+        line = f"against {', '.join(among[:many])}" + (f" and {left} more" if left else "")
+        if len(line) <= COLUMNS:
+            return line
+    return f"against {len(among)} robots"
 
 
 def text(x: float, y: float, said: str, anchor: str = "middle", kind: str = "small") -> Markup:
@@ -41,7 +56,7 @@ def kind_of(row: Row, games: Games) -> str:
     """The class of a row's dot."""
     if row.values == games.today:
         return "today"
-    return row.verdict if row.verdict in ("better", "worse") else "value"
+    return row.verdict if row.verdict in (BETTER, WORSE) else "value"
 
 
 def curve(games: Games, rows: Sequence[Row]) -> Markup:
@@ -61,8 +76,8 @@ def curve(games: Games, rows: Sequence[Row]) -> Markup:
     dots = [tag("circle", tag("title", f"{shown(row.values)}: {row.change.value:+.2f} ({row.change.low:+.2f} to {row.change.high:+.2f}), {row.verdict}"),
                 cx=x, cy=up.at(row.change.value), r=5 if row.values == games.today else 4, class_=kind_of(row, games)) for x, row in zip(xs, rows)]
     today = text(along.at(number.value), HEIGHT - 8, f"today's {number.value}")
-    title = f"{games.name}: points a match by {number.name}, against today's"
-    return drawing(WIDTH, HEIGHT, title, *grid, *feet, tag("polygon", points=" ".join(outline), class_="band"),
+    title = f"{games.name}: points a match more than today's, by {number.name}"
+    return drawing(games, WIDTH, HEIGHT, title, *grid, *feet, tag("polygon", points=" ".join(outline), class_="band"),
                    tag("polyline", points=way, class_="way"), *dots, today)
 
 
@@ -77,13 +92,13 @@ def heat(games: Games, rows: Sequence[Row]) -> Markup:
         is_today = row.values == games.today
         cells.append(tag("rect", tag("title", f"{shown(row.values)}: {row.change.value:+.2f}, {row.verdict}"), x=x, y=y, width=wide - 2, height=high - 2,
                          fill=shade(row.change.value / most), stroke="#1c1c1c" if is_today else None, stroke_width=2 if is_today else None))
-        mark = {"better": "+", "worse": "\N{MINUS SIGN}"}.get(row.verdict, "")
+        mark = {BETTER: "+", WORSE: "\N{MINUS SIGN}"}.get(row.verdict, "")
         cells.append(text(x + wide / 2 - 1, y + high / 2 + 4, f"{row.change.value + 0.0:+.2f}{' ' + mark if mark else ''}"))
     bottom = TOP + high * len(second)
     feet = [text(LEFT + wide * at + wide / 2, bottom + 16, str(value)) for at, value in enumerate(first)]
     sides = [text(LEFT - 6, TOP + high * (len(second) - 1 - at) + high / 2 + 4, str(value), "end") for at, value in enumerate(second)]
     names = text(LEFT, bottom + 34, f"along: {games.numbers[0].name}, up: {games.numbers[1].name}; framed: today's; + surely better, \N{MINUS SIGN} surely worse", "start")
-    return drawing(max(LEFT + wide * len(first) + RIGHT, 620), bottom + 44, f"{games.name}: points a match, against today's", *cells, *feet, *sides, names)
+    return drawing(games, max(LEFT + wide * len(first) + RIGHT, 620), bottom + 44, f"{games.name}: points a match more than today's", *cells, *feet, *sides, names)
 
 
 def shade(part: float) -> str:

@@ -8,8 +8,10 @@ from dataclasses import dataclass
 from itertools import product
 from typing import Iterator, Sequence
 
+from tools.faults import plain
 from tournaments.intervals import Mean
 
+from .breakdowns import listed
 from .games import Games, Starts, Stretch
 
 # How often a sweep of a number that changes nothing may call any of its values better or worse.
@@ -19,6 +21,9 @@ DROPPED = 0.05
 # The first look under --until sure, in matches of each seating.
 FIRST = 10
 OF_TWO = 8
+
+# What is said of a value.
+BETTER, WORSE, TODAYS, NOTHING = "better", "worse", "today's", "no difference that these matches could show"
 
 Values = tuple[int, ...]
 
@@ -74,22 +79,20 @@ def row(games: Games, values: Values, level: float) -> Row:
     matches = sum(len(games.scores.of[mine, other]) for other in weights)
     points = games.scores.mean(mine, weights)
     if values == games.today:
-        return Row(values, points, matches, Mean(0, 0, 0), "today's")
+        return Row(values, points, matches, Mean(0, 0, 0), TODAYS)
     sure = games.scores.change(mine, today, weights, level)
-    verdict = "better" if sure.low > 0 else "worse" if sure.high < 0 else NOTHING
+    verdict = BETTER if sure.low > 0 else WORSE if sure.high < 0 else NOTHING
     return Row(values, points, matches, games.scores.change(mine, today, weights), verdict)
-
-
-NOTHING = "no difference that these matches could show"
 
 
 def said(rows: Sequence[Row], games: Games) -> Iterator[str]:
     """The answer in words."""
-    better = sorted((it for it in rows if it.verdict == "better"), key=lambda it: -it.points)
-    worse = [it for it in rows if it.verdict == "worse"]
+    better = sorted((it for it in rows if it.verdict == BETTER), key=lambda it: -it.points)
+    worse = [it for it in rows if it.verdict == WORSE]
     names = " and ".join(it.name for it in games.numbers)
     yield f"surely better than today's {shown(games.today)}: {', '.join(shown(it.values) for it in better) or 'none'}\n"
     yield f"surely worse: {', '.join(shown(it.values) for it in worse) or 'none'}\n"
+    yield f"against {plain(', '.join(listed(games)))}\n"
     yield f"({names}: 95 % intervals of each change; 'surely' holds for all values at once in 99 of 100 sweeps)\n"
 
 

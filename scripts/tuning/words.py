@@ -11,11 +11,12 @@ from tools.output import written_over
 from tournaments.words import Parser, common, settle, within
 
 from .marks import STAGES, Place, Range, ranged
-from .opponents import BEST, League
+from .opponents import BEST, League, Level
 
 BUDGET, ROUND = 100_000, 160
 PLACED = re.compile(r"([0-9]{1,9}):([0-9]{1,9})=([^/]*)(?:/([^/]*))?")
 WEIGHT = re.compile(r"(.+)=([0-9]{1,6}(?:\.[0-9]{1,3})?)")
+LEVEL = re.compile(r"([0-9]{1,3})(?:=([0-9]{1,6}(?:\.[0-9]{1,3})?))?")
 
 
 def numbered(text: str) -> tuple[Place, Range]:
@@ -47,6 +48,14 @@ def league(text: str) -> League:
     return League(folder, within(1, 10_000)(best)) if equals and best.isdigit() else League(text, BEST)
 
 
+def level(text: str) -> Level:
+    """Reads N or N=WEIGHT."""
+    found = LEVEL.fullmatch(text)
+    if not found:
+        raise argparse.ArgumentTypeError(f"'{text}' isn't N or N=WEIGHT")
+    return Level(int(found[1]), Fraction(found[2] or 1))
+
+
 def parser(name: str) -> Parser:
     """The words of `tune`, under the name by which it was called."""
     it = common(name, "Says what the numbers of a robot are worth, by a sweep, or tunes them.")
@@ -56,10 +65,13 @@ def parser(name: str) -> Parser:
                     help="a number without a mark, and its range; /STEP may follow; may be given often")
     it.add_argument("--only", metavar="NAME", action="append", default=[], help="of the marked numbers take this one; may be given often")
     it.add_argument("--league", metavar="LEAGUE", type=league, help="play against the best 10 robots of a league, too; of LEAGUE=N the best N")
+    it.add_argument("--level", metavar="N", type=level, action="append", default=[],
+                    help="play against the sample robots of this level, too; of N=WEIGHT each weighs so much; may be given often")
     it.add_argument("--weight", metavar="ROBOT=WEIGHT", type=weighed, action="append", default=[],
                     help="what an opponent, or each of a folder, weighs (default 1); may be given often")
     it.add_argument("--against-itself", action="store_true", help="tune against its own versions, too")
     it.add_argument("--judge", metavar="ROBOT", action="append", default=[], help="judge against this robot or folder instead; may be given often")
+    it.add_argument("--by-opponent", action="store_true", help="print what each value is worth against each opponent, too")
     it.add_argument("--budget", metavar="MATCHES", type=within(1, 1_000_000_000), help=f"matches of the search (default {BUDGET})")
     it.add_argument("--minutes", metavar="MINUTES", type=within(1, 100_000), help="end the search after this time, too")
     it.add_argument("--round", metavar="MATCHES", type=within(2, 1_000_000), help=f"matches of each trial of the search (default {ROUND})")
@@ -85,8 +97,9 @@ def check(given: argparse.Namespace) -> None:
         raise Fault("--plan plays nothing, so it takes no --until, no --journal and no -o")
     if given.output and (why := written_over(given.output, [given.robot, *given.field])):
         raise Fault(f"-o {why}")
-    if not given.field and not given.league:
+    if not given.field and not given.league and not given.level:
         raise Fault("there is no robot to play against")
     given.budget = given.budget or BUDGET
     given.round = given.round or ROUND
+    given.has_matches = given.matches is not None
     settle(given)

@@ -9,16 +9,16 @@ import hashlib
 import html
 import json
 import os
-import re
 import shutil
 import subprocess
 import zipfile
-import zlib
 from string import Template
 
 from replays.modules import script_of, waiting_script
 from replays.pages import framed_script, put_together
+from tools.samples import ladder
 
+from .deflating import deflated
 from .helping import functions, panel, steps, text_of, whole
 from .manuals import Page
 from .renaming import renamed
@@ -40,22 +40,29 @@ POLICY = ("default-src 'none'; script-src 'self' blob: 'wasm-unsafe-eval' 'sha25
 # Each file of the zip has this time, so that the same page makes the same bytes.
 TIME = (1980, 1, 1, 0, 0, 0)
 
-# A row of the ladder of sample robots: a level, and a robot with a link.
-LADDER = re.compile(r"^\| (\d+) \| \[(\w+\.r)\]", re.MULTILINE)
-
 
 def samples() -> list[dict[str, str | int]]:
     """The robots to choose from, in the order of the ladder."""
-    ladder = LADDER.findall(text_of(TOP, "robots", "README.md"))
+    robots = [(os.path.basename(path), level) for path, level in ladder()]
     there = {name for name in os.listdir(os.path.join(TOP, "robots")) if name.endswith(".r")}
-    assert {name for _, name in ladder} == there and len(ladder) == len(there), ladder
-    return [{"name": name, "level": int(level), "source": text_of(TOP, "robots", name)} for level, name in ladder]
+    assert {name for name, _ in robots} == there and len(robots) == len(there), robots
+    return [{"name": name, "level": level, "source": text_of(TOP, "robots", name)} for name, level in robots]
 
 
 def packed(data: bytes) -> str:
     """Bytes deflated and in base 64."""
-    packer = zlib.compressobj(9, wbits=-15, memLevel=9)
-    return base64.b64encode(packer.compress(data) + packer.flush()).decode()
+    return base64.b64encode(deflated(data)).decode()
+
+
+def scripts() -> dict[str, str]:
+    """The page's scripts, as they are written: what waits until it is called, what starts it, the player's and the worker's."""
+    return {"page": f"globalThis.CROBOTS_PAGE={waiting_script(os.path.join(WEB, 'page.js'))};\n", "start": script_of(os.path.join(WEB, "start.js")),
+            "player": framed_script(), "worker": script_of(os.path.join(WEB, "worker.js"))}
+
+
+def small(script: str) -> str:
+    """A script of the page without its comments and needless blanks, and with short names."""
+    return renamed(short(script))
 
 
 def data_of(module: str, manual: Page) -> dict[str, object]:
@@ -63,7 +70,7 @@ def data_of(module: str, manual: Page) -> dict[str, object]:
     with open(module, "rb") as file:
         coded = packed(file.read())
     return {"robots": samples(), "steps": steps(WEB), "functions": functions(manual), "editor": os.path.isdir(EDITOR),
-            "player": put_together(player()), "worker": short(script_of(os.path.join(WEB, "worker.js"))), "module": coded}
+            "player": put_together(player()), "worker": small(scripts()["worker"]), "module": coded}
 
 
 def data_script(data: dict[str, object]) -> str:
@@ -73,26 +80,25 @@ def data_script(data: dict[str, object]) -> str:
 
 def page_script() -> str:
     """The page's script: a function whose text can be looked at before it is called; it answers what the page exports."""
-    text = short(waiting_script(os.path.join(WEB, "page.js")))
-    return f"globalThis.CROBOTS_PAGE={text};\n"
+    return small(scripts()["page"])
 
 
 def start_script(data: dict[str, object], page: str, module: str) -> str:
     """The script that starts the page, with the SHA-256 of what it looks at: the data as JSON, the function's text, the module."""
     with open(module, "rb") as file:
         bytes_of_module = file.read()
-    function = page.removeprefix("globalThis.CROBOTS_PAGE=").removesuffix(";\n")
+    function = page.strip().removeprefix("globalThis.CROBOTS_PAGE=").removesuffix(";")
     parts = {"data": json.dumps(data, ensure_ascii=False, separators=(",", ":")).encode(), "page": function.encode(), "module": bytes_of_module}
-    text = script_of(os.path.join(WEB, "start.js"))
+    text = scripts()["start"]
     for name, part in parts.items():
         assert text.count(f'"${name}"') == 1, name
         text = text.replace(f'"${name}"', f'"{hashlib.sha256(part).hexdigest()}"')
-    return short(text)
+    return small(text)
 
 
 def player() -> str:
     """The script of the page in a frame."""
-    return short(framed_script())
+    return small(scripts()["player"])
 
 
 def policy() -> str:

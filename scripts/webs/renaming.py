@@ -1,51 +1,67 @@
-"""Gives the variables of a script's functions short names. It is for the editor's scripts, which are in ECMAScript 5; a script with
-anything that isn't known here is refused.
-
-A word is a variable's name unless it follows a point or is the name of a member. It stands for what the innermost function around it
-declares by that name; if none does, it is the browser's or the whole script's, and stays. Variables of one function, and of those around
-it, get different names; those of others may share one. A variable that isn't found here, as that of a `catch`, keeps its name, or shares
-the new one of a variable outside whose name it had before too. So what is in doubt declares nothing.
+"""Gives the variables of a script short names: those of functions and blocks, and never a property's, nor a name that the whole script
+shares with others. It reads a script piece by piece, as far as names need it: brackets, statements, declarations, members. What it
+doesn't know for sure is refused, and what is in doubt declares nothing.
 
 Programs that others wrote do this too, but then the page's bytes would depend on which version is installed. One of them is a test."""
 
 from __future__ import annotations
 
 import itertools
+import re
 import string
 from dataclasses import dataclass, field
-from typing import Iterator
+from typing import Iterator, NamedTuple
 
-from .slimming import BEFORE_EXPRESSION, Unclear, pieces
+from .slimming import BEFORE_EXPRESSION, Unclear, pieces, pieces_from
 
 # Words that name no variable; and what later forms of the language have, or what changes the meaning of names.
 KEYWORDS = frozenset((
-    "arguments break case catch continue debugger default delete do else false finally for function if in instanceof new null return "
-    "switch this throw true try typeof undefined var void while").split())
-REFUSED = frozenset("async await class const enum eval export extends import let static super with yield".split())
-BEFORE_STATEMENT = frozenset(("else", "do", "try", "finally"))
-CLOSING = {"(": ")", "[": "]", "{": "}"}
+    "arguments async await break case catch class const continue debugger default delete do else extends false finally for function if in "
+    "instanceof let new null return super switch this throw true try typeof undefined var void while").split())
+REFUSED = frozenset("enum eval export import with yield".split())
+DECLARING = ("const", "let", "var")
+# Words that only some places keep for themselves: no variable gets these names.
+SOMETIMES = ("async", "get", "of", "set", "static")
+BEFORE_STATEMENT = frozenset(("else", "do", "try", "catch", "finally"))
+CLOSING = {"(": ")", "[": "]", "{": "}", "${": "}"}
 # What names are made of; the letters that words have most come first.
 LETTERS = "etnaiorslcdfuhpmgbvywkxjqz" + string.ascii_uppercase + "_$"
-# What stands within a bracket: a function's statements, those of a block, members of an object, or values.
-BODY, BLOCK, MEMBERS, VALUES = range(4)
+# What stands within a bracket: a function's statements, those of a block, what a loop goes by, members of an object, or values.
+BODY, BLOCK, HEADER, MEMBERS, VALUES = range(5)
+# The text of a template, up to an expression or to its end.
+CHUNK = re.compile(r"(?:\\(?:.|\n)|\$(?!\{)|[^\\$])*")
 
 
 @dataclass
 class Scope:
-    """A function, or the whole script: its variables, each with the places where it is named."""
+    """A function, a block, or the whole script: its variables, each with the places where it is named."""
 
     above: Scope | None
-    places: dict[str, list[int]] = field(default_factory=dict)
+    is_block: bool = False
+    places: dict[str, list[Place]] = field(default_factory=dict)
     below: list[Scope] = field(default_factory=list)
+    # the variables of scopes around this one that are named in it
+    others: set[tuple[int, str]] = field(default_factory=set)
 
-    def inner(self) -> Scope:
-        """A function within this one."""
-        self.below.append(Scope(self))
+    def inner(self, is_block: bool = False) -> Scope:
+        """A function or a block within this one."""
+        self.below.append(Scope(self, is_block))
         return self.below[-1]
 
     def declaring(self, name: str) -> Scope:
         """The innermost scope that declares a name; the whole script, if none does."""
         return self if name in self.places or not self.above else self.above.declaring(name)
+
+    def function(self) -> Scope:
+        """The innermost function, or the whole script."""
+        return self.above.function() if self.is_block and self.above else self
+
+
+class Place(NamedTuple):
+    """A piece that names a variable; alone in an object it is the name of a property too."""
+
+    at: int
+    is_property: bool
 
 
 @dataclass
@@ -59,13 +75,16 @@ class Item:
     items: list[Item] = field(default_factory=list)
 
     def is_name(self) -> bool:
-        return self.kind == "word" and not self.text[0].isdigit() and self.text not in KEYWORDS
+        return self.kind == "word" and not self.text[0].isdigit() and self.text[0] != "#" and self.text not in KEYWORDS
 
-    def is_bracket(self, text: str) -> bool:
-        return self.kind == "bracket" and self.text == text
+    def is_bracket(self, *texts: str) -> bool:
+        return self.kind == "bracket" and self.text in texts
 
     def is_sign(self, *texts: str) -> bool:
         return self.kind == "sign" and self.text in texts
+
+    def is_word(self, *texts: str) -> bool:
+        return self.kind == "word" and self.text in texts
 
     def ends_statement(self, after: Item) -> bool:
         """Whether the end of a line behind this item ends a statement: no value goes on by the item after it."""
@@ -75,6 +94,26 @@ class Item:
 
 
 NOTHING = Item("sign", "")
+
+
+def opened(found: list[tuple[str, str]]) -> Iterator[tuple[str, str]]:
+    """The pieces of a script, with those of each expression of a template."""
+    for kind, text in found:
+        yield from taken_apart(text) if kind == "template" else ((kind, text),)
+
+
+def taken_apart(template: str) -> Iterator[tuple[str, str]]:
+    """The texts of a template, and between them the pieces of its expressions, each in a bracket."""
+    at = 0
+    while at < len(template):
+        chunk = CHUNK.match(template, at)
+        assert chunk
+        yield "chunk", chunk[0]
+        at = chunk.end()
+        if at < len(template):
+            inside, end = pieces_from(template, at + 2)
+            yield from (("sign", "${"), *opened(inside), ("sign", "}"))
+            at = end + 1
 
 
 def grouped(found: list[tuple[str, str]], places: Iterator[int], closing: str = "") -> list[Item]:
@@ -88,7 +127,7 @@ def grouped(found: list[tuple[str, str]], places: Iterator[int], closing: str = 
             continue
         if kind == "sign" and text == closing:
             return items
-        if kind == "template" or kind == "sign" and (text == "=>" or text in CLOSING.values()):
+        if kind == "sign" and text in CLOSING.values():
             raise Unclear(text)
         opens = kind == "sign" and text in CLOSING
         inside = grouped(found, places, CLOSING[text]) if opens else []
@@ -102,13 +141,13 @@ def grouped(found: list[tuple[str, str]], places: Iterator[int], closing: str = 
 class Reader:
     """Reads what stands within a bracket: finds what is declared there, and each word that is a variable's name."""
 
-    def __init__(self, items: list[Item], scope: Scope, named: list[tuple[Scope, Item]], form: int) -> None:
+    def __init__(self, items: list[Item], scope: Scope, named: list[tuple[Scope, Item, bool]], form: int) -> None:
         self.items, self.scope, self.named, self.form, self.at = items, scope, named, form, 0
         self.has_statements = form in (BODY, BLOCK)
         # whether a statement begins, for sure; how many conditions want their colon
         self.begins, self.conditions = self.has_statements, 0
-        # whether a statement of variables goes on; whether the next word is one of them
-        self.declares, self.is_next_declared = False, False
+        # the scope of a statement of variables, as long as it goes on
+        self.declares: Scope | None = None
 
     def item(self, step: int = 0) -> Item:
         """The item here, or some steps on; nothing, where none is."""
@@ -122,82 +161,276 @@ class Reader:
         self.at += 1
         return self.item(-1)
 
+    def goes_by(self, sign: str) -> bool:
+        """Whether this sign is here; goes on by it then."""
+        is_here = self.item().is_sign(sign)
+        self.at += is_here
+        return is_here
+
+    def is_at_end(self) -> bool:
+        return self.at >= len(self.items)
+
+    def within(self, it: Item, scope: Scope, form: int = VALUES) -> Reader:
+        """What reads a bracket in here."""
+        return Reader(it.items, scope, self.named, form)
+
     def read(self) -> None:
         """Reads all of it."""
-        while self.at < len(self.items):
+        while not self.is_at_end():
             if self.form == MEMBERS and (self.at == 0 or self.item(-1).is_sign(",")):
-                self.take(self.item().kind in ("word", "text"))
-                self.take(self.item().is_sign(":"))
-            self.part()
+                self.member()
+            else:
+                self.part()
 
     def part(self) -> None:
         """Reads an item, and what belongs to it."""
         it, before = self.item(), self.item(-1)
         if before.ends_statement(it):
-            self.begins, self.declares = self.has_statements, False
+            self.begins, self.declares = self.has_statements, None
         begins, self.begins = self.begins, False
-        self.take(not (it.is_sign(".") and before.is_sign(".")))
-        if it.kind == "bracket":
+        self.at += 1
+        if self.item().is_sign("=>"):
+            self.arrow(it)
+        elif it.kind == "bracket":
             self.bracket(it, it.text == "{" and (begins or before.is_bracket("(")))
-        elif it.kind == "word" and not before.is_sign("."):
+        elif it.kind == "word" and not self.is_member():
             self.word(it, begins, before)
         elif it.kind == "sign":
             self.sign(it.text)
 
+    def is_member(self) -> bool:
+        """Whether the word that was taken is a property's name, behind a dot; behind three it is none."""
+        return self.item(-2).is_sign(".") and not self.item(-3).is_sign(".")
+
     def bracket(self, it: Item, is_block: bool) -> None:
         """Reads what stands within another bracket."""
         form = BLOCK if is_block else MEMBERS if it.text == "{" else VALUES
-        Reader(it.items, self.scope, self.named, form).read()
+        self.within(it, self.scope.inner(is_block=True) if is_block else self.scope, form).read()
         self.begins = is_block
 
     def sign(self, text: str) -> None:
-        self.is_next_declared = self.declares and text == ","
-        if text == "?":
-            self.conditions += 1
+        if text == "," and self.declares:
+            self.target(self.declares)
+        elif text == "?":
+            self.condition()
         elif text == ":" and self.conditions:
             self.conditions -= 1
         elif text in (":", ";"):
-            self.begins, self.declares = self.has_statements, False
+            self.begins, self.declares = self.has_statements, None
+
+    def condition(self) -> None:
+        """A question mark is that of a condition, if no other one and no dot before a name follows."""
+        if not self.goes_by("?") and (not self.item().is_sign(".") or self.item(1).text[:1].isdigit()):
+            self.conditions += 1
 
     def word(self, it: Item, begins: bool, before: Item) -> None:
-        """Reads a word, and a function behind its first word."""
-        is_declared, self.is_next_declared = self.is_next_declared, it.text == "var"
+        """Reads a word, and what begins with it."""
         if it.text in REFUSED:
             raise Unclear(it.text)
-        if it.text == "function":
-            self.function(begins and self.form == BODY, not begins and before.kind == "sign" and not before.is_sign(":", ";"))
+        if it.text in DECLARING:
+            self.declares = self.scope.function() if it.text == "var" else self.scope
+            self.target(self.declares)
+        elif it.text in ("for", "catch", "class", "function"):
+            self.begins_with(it.text, begins, not begins and before.kind == "sign" and not before.is_sign(":", ";"))
+        elif it.text == "in" or self.form == HEADER and it.text == "of" and self.declares:
+            self.declares = None
         elif it.is_name():
-            self.name(it, self.scope, is_declared)
-        elif it.text in ("var", "in"):
-            self.declares = it.text == "var"
+            self.name(it, self.scope)
         else:
             self.begins = it.text in BEFORE_STATEMENT and self.has_statements
 
-    def name(self, it: Item, scope: Scope, is_declared: bool) -> None:
+    def begins_with(self, word: str, begins: bool, is_value: bool) -> None:
+        """Reads what begins with a word that has a scope of its own."""
+        if word == "for":
+            self.loop()
+        elif word == "catch":
+            self.caught()
+        elif word == "class":
+            self.blueprint(begins)
+        else:
+            self.function(begins and self.form == BODY, is_value)
+
+    def name(self, it: Item, scope: Scope, is_declared: bool = False, is_property: bool = False) -> None:
         """Takes note of a name, and perhaps of its declaration."""
-        self.named.append((scope, it))
+        self.named.append((scope, it, is_property))
         if is_declared:
             scope.places.setdefault(it.text, [])
+
+    def target(self, scope: Scope) -> None:
+        """Reads what is declared in a scope: a name, or a pattern."""
+        it = self.take(self.item().is_name() or self.item().is_bracket("[", "{"))
+        if it.kind == "bracket":
+            reader = self.within(it, self.scope)
+            (reader.targets if it.text == "[" else reader.properties)(scope)
+        else:
+            self.name(it, scope, is_declared=True)
+
+    def targets(self, scope: Scope) -> None:
+        """Reads a list of what is declared in a scope, as parameters are."""
+        while not self.is_at_end():
+            if not self.goes_by(","):
+                self.spread()
+                self.target(scope)
+                self.preset()
+
+    def properties(self, scope: Scope) -> None:
+        """Reads the properties of a pattern, whose values are declared in a scope."""
+        while not self.is_at_end():
+            if self.goes_by(","):
+                continue
+            if self.spread():
+                self.target(scope)
+                continue
+            key = self.key()
+            if self.goes_by(":"):
+                self.target(scope)
+            else:
+                self.alone(key, scope, is_declared=True)
+            self.preset()
+
+    def spread(self) -> bool:
+        """Whether three dots are here; goes on by them then."""
+        return all(self.goes_by(".") for _ in range(3))
+
+    def preset(self) -> None:
+        """Reads the value that something has otherwise, if there is one."""
+        if self.goes_by("="):
+            self.value()
+
+    def value(self) -> None:
+        """Reads a value, up to what ends it."""
+        conditions, self.conditions = self.conditions, 0
+        begin = self.at
+        while not self.is_at_end():
+            it = self.item()
+            if it.is_sign(",", ";") or it.is_sign(":") and not self.conditions or self.at > begin and self.item(-1).ends_statement(it):
+                break
+            self.part()
+        self.conditions = conditions
+
+    def key(self) -> Item:
+        """Reads the name of a property or of a method."""
+        it = self.take(self.item().kind in ("word", "text") or self.item().is_bracket("["))
+        if it.kind == "bracket":
+            self.within(it, self.scope).read()
+        return it
+
+    def alone(self, key: Item, scope: Scope, is_declared: bool = False) -> None:
+        """A name that stands alone in an object or a pattern is a variable's and a property's."""
+        if not key.is_name() or not (self.is_at_end() or self.item().is_sign(",", "=")):
+            raise Unclear(key.text)
+        self.name(key, scope, is_declared, is_property=True)
+
+    def member(self) -> None:
+        """Reads a member of an object, up to its value; a method whole."""
+        if self.spread():
+            return
+        key = self.named_method() or self.key()
+        if self.item().is_bracket("("):
+            self.called()
+        elif not self.goes_by(":"):
+            self.alone(key, self.scope)
+
+    def named_method(self) -> Item | None:
+        """The name of a member behind words that say what it is; none if there are none."""
+        begin = self.at
+        while self.item().is_word(*SOMETIMES) and not (self.item(1).kind == "sign" and not self.item(1).is_sign("*")) and not self.item(1).is_bracket("("):
+            self.at += 1
+        self.goes_by("*")
+        return self.key() if self.at > begin else None
+
+    def members(self) -> None:
+        """Reads the members of a class."""
+        while not self.is_at_end():
+            if self.goes_by(";"):
+                continue
+            _ = self.named_method() or self.key()
+            if self.item().is_bracket("("):
+                self.called()
+            else:
+                self.preset()
+                self.take_end()
+
+    def take_end(self) -> None:
+        """What is a value alone ends with a sign, or with its line."""
+        if not self.is_at_end() and not self.goes_by(";") and not self.item().is_on_new_line:
+            raise Unclear(self.item().text)
+
+    def called(self, inner: Scope | None = None) -> None:
+        """Reads the parameters of a function, and its body."""
+        inner = inner or self.scope.inner()
+        self.within(self.take(self.item().is_bracket("(")), inner).targets(inner)
+        self.within(self.take(self.item().is_bracket("{")), inner, BODY).read()
+
+    def arrow(self, it: Item) -> None:
+        """Reads an arrow function, whose parameters were taken: one name, or a bracket."""
+        inner = self.scope.inner()
+        if it.is_name():
+            self.name(it, inner, is_declared=True)
+        elif it.is_bracket("("):
+            self.within(it, inner).targets(inner)
+        else:
+            raise Unclear(it.text)
+        self.at += 1
+        if self.item().is_bracket("{"):
+            self.within(self.take(True), inner, BODY).read()
+        else:
+            self.value_in(inner)
+
+    def value_in(self, scope: Scope) -> None:
+        """Reads a value, in a scope of its own."""
+        around, self.scope = self.scope, scope
+        self.value()
+        self.scope = around
+
+    def loop(self) -> None:
+        """Reads what a loop goes by, and its block if something is declared for it."""
+        inner = self.scope.inner(is_block=True)
+        self.take(self.item().is_word("await") or self.item().is_bracket("("))
+        self.at -= self.item(-1).kind == "bracket"
+        self.within(self.take(self.item().is_bracket("(")), inner, HEADER).read()
+        if self.item().is_bracket("{"):
+            self.within(self.take(True), inner.inner(is_block=True), BLOCK).read()
+            self.begins = self.has_statements
+        elif inner.places:
+            self.expression_in(inner)
+
+    def expression_in(self, scope: Scope) -> None:
+        """Reads a statement that is an expression alone, in a scope of its own."""
+        self.take(self.item().is_name())
+        self.at -= 1
+        self.value_in(scope)
+        self.take_end()
+        self.begins = self.has_statements
+
+    def caught(self) -> None:
+        """Reads what is caught, if that has a name, and the block then."""
+        self.begins = self.has_statements
+        if self.item().is_bracket("("):
+            inner = self.scope.inner(is_block=True)
+            self.within(self.take(True), inner).target(inner)
+            self.within(self.take(self.item().is_bracket("{")), inner, BLOCK).read()
+
+    def blueprint(self, is_statement: bool) -> None:
+        """Reads a class. The name of one that is a statement is a variable outside of it, and that of a value one inside."""
+        inner = self.scope.inner(is_block=True)
+        if self.item().is_name():
+            self.name(self.take(True), self.scope if is_statement else inner, is_declared=True)
+        around, self.scope = self.scope, inner
+        while self.item().kind in ("word", "sign"):
+            self.part()
+        self.scope = around
+        self.within(self.take(self.item().is_bracket("{")), inner).members()
+        self.begins = is_statement
 
     def function(self, is_statement: bool, is_value: bool) -> None:
         """Reads a function. The name of one that is a statement is a variable outside of it, and that of a value one inside."""
         inner = self.scope.inner()
+        self.goes_by("*")
         if self.item().kind == "word":
             self.name(self.take(self.item().is_name()), inner if is_value else self.scope, is_statement or is_value)
-        for number, it in enumerate(self.take(self.item().is_bracket("(")).items):
-            if number % 2 == 0 and it.is_name():
-                self.name(it, inner, True)
-            elif number % 2 == 0 or not it.is_sign(","):
-                raise Unclear(it.text)
-        Reader(self.take(self.item().is_bracket("{")).items, inner, self.named, BODY).read()
+        self.called(inner)
         self.begins = is_statement
-
-
-def numbered(scope: Scope, first: int = 0) -> Iterator[tuple[int, list[int]]]:
-    """The places of each variable of the functions below a scope, and a number that no variable of a function around it has."""
-    for inner in scope.below:
-        yield from enumerate(inner.places.values(), first)
-        yield from numbered(inner, first + len(inner.places))
 
 
 def short_names(others: set[str]) -> Iterator[str]:
@@ -206,19 +439,33 @@ def short_names(others: set[str]) -> Iterator[str]:
         yield from (name for name in map("".join, itertools.product(LETTERS, repeat=length)) if name not in others)
 
 
+def resolve(named: list[tuple[Scope, Item, bool]]) -> None:
+    """Tells each scope where its variables are named, and which variables of scopes around it are named in it."""
+    for scope, it, is_property in named:
+        declaring = scope.declaring(it.text)
+        declaring.places.setdefault(it.text, []).append(Place(it.place, is_property))
+        while scope is not declaring and scope.above:
+            scope.others.add((id(declaring), it.text))
+            scope = scope.above
+
+
+def rename(scope: Scope, given: dict[tuple[int, str], str], kept: set[str], found: list[tuple[str, str]]) -> None:
+    """Gives the variables of the scopes below one their names: the shortest that nothing else has that is named there."""
+    for inner in scope.below:
+        names = short_names(kept | {given[it] for it in inner.others if it in given})
+        for (name, places), short in zip(inner.places.items(), names):
+            given[id(inner), name] = short
+            for at, is_property in places:
+                found[at] = "word", f"{name}:{short}" if is_property else short
+        rename(inner, given, kept, found)
+
+
 def renamed(script: str) -> str:
     """The script with short names."""
-    found = pieces(script)
+    found = [*opened(pieces(script))]
     outer = Scope(None)
-    named: list[tuple[Scope, Item]] = []
+    named: list[tuple[Scope, Item, bool]] = []
     Reader(grouped(found, iter(range(len(found)))), outer, named, BODY).read()
-    for scope, it in named:
-        scope.declaring(it.text).places.setdefault(it.text, []).append(it.place)
-    places: dict[int, list[int]] = {}
-    for number, some in numbered(outer):
-        places.setdefault(number, []).extend(some)
-    names = short_names({*outer.places, *KEYWORDS, *REFUSED})
-    for some, name in zip(sorted(places.values(), key=len, reverse=True), names):
-        for place in some:
-            found[place] = "word", name
+    resolve(named)
+    rename(outer, {}, {*outer.places, *KEYWORDS, *REFUSED, *SOMETIMES}, found)
     return "".join(text for _, text in found)

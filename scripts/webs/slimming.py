@@ -1,6 +1,5 @@
-"""Makes scripts and styles short: without comments, and without the blanks and line ends that nothing needs. Names and all else
-stay, so that a script works as before, and a fault is still found in it. `renaming` makes the names of the editor's scripts
-short."""
+"""Makes scripts and styles short: without comments, and without the blanks and line ends that nothing needs. `renaming` makes names
+short. All else stays."""
 
 from __future__ import annotations
 
@@ -24,36 +23,43 @@ class Unclear(Exception):
 
 def template_end(script: str, at: int) -> int:
     """Where the template ends that begins at a place; there may be others in its expressions."""
-    depth = 0
     at += 1
-    while at < len(script):
+    while at < len(script) and script[at] != "`":
         if script[at] == "\\":
-            at += 1
+            at += 2
         elif script.startswith("${", at):
-            depth, at = depth + 1, at + 1
-        elif depth and script[at] == "}":
-            depth -= 1
-        elif depth and script[at] == "`":
-            at = template_end(script, at) - 1
-        elif script[at] == "`":
-            return at + 1
-        at += 1
-    raise Unclear("a template without an end")
+            at = pieces_from(script, at + 2)[1] + 1
+        else:
+            at += 1
+    if at >= len(script):
+        raise Unclear("a template without an end")
+    return at + 1
 
 
 def pieces(script: str) -> list[tuple[str, str]]:
     """The pieces of a script, each with its kind; comments are line ends if they have some, and else blanks."""
+    found, end = pieces_from(script, 0)
+    if end < len(script):
+        raise Unclear("a bracket that nothing opens")
+    return found
+
+
+def pieces_from(script: str, at: int) -> tuple[list[tuple[str, str]], int]:
+    """The pieces of a script from a place on, up to its end or to a bracket that is opened before; and where that is."""
     found: list[tuple[str, str]] = []
-    at, before = 0, ("sign", ";")
+    before, depth = ("sign", ";"), 0
     while at < len(script):
         kind, text = piece_at(script, at, before)
+        depth += {"{": 1, "}": -1}.get(text, 0)
+        if depth < 0:
+            break
         at += len(text)
         if kind == "comment":
             kind, text = ("end", "\n") if "\n" in text else ("blank", " ")
         if kind not in ("blank", "end"):
             before = kind, text
         found.append((kind, text))
-    return found
+    return found, at
 
 
 def piece_at(script: str, at: int, before: tuple[str, str]) -> tuple[str, str]:

@@ -2,11 +2,17 @@
 
 from __future__ import annotations
 
+import http.client
 import importlib
 import os
 import re
+import subprocess
+import time
 import zipfile
+from contextlib import closing
 from typing import Callable, Iterator
+
+from leagues.store import opened
 
 from .base import IDLE, Answer, Base, Ladder, other
 
@@ -20,7 +26,8 @@ ADDRESSES: dict[tuple[str, str], tuple[int, int, int, int]] = {
     ("GET", "/ladder.js"): (200, 200, 200, 200), ("GET", "/join"): (200, 200, 200, 200), ("GET", "/mine"): (303, 200, 200, 200),
     ("GET", "/robots/mine"): (200, 200, 200, 200), ("GET", "/robots/mine/versions/1"): (404, 404, 200, 200),
     ("GET", "/replays/999/1"): (404, 404, 404, 404), ("GET", "/organiser"): (404, 404, 404, 200), ("GET", "/checklist"): (404, 404, 404, 200),
-    ("GET", "/checklist.csv"): (404, 404, 404, 200),
+    ("GET", "/checklist.csv"): (404, 404, 404, 200), ("GET", "/workbench/"): (404, 404, 404, 404),
+    ("GET", "/workbench/page.js"): (404, 404, 404, 404), ("GET", "/send.js"): (200, 200, 200, 200), ("POST", "/send"): (401, 422, 422, 422),
     ("POST", "/robots"): (401, 403, 200, 200), ("POST", "/check"): (401, 200, 200, 200), ("PUT", "/robots/mine"): (401, 403, 200, 200),
     ("POST", "/robots/mine/back"): (401, 403, 200, 200), ("POST", "/robots/mine/withdraw"): (401, 403, 200, 422),
     ("POST", "/organiser/invite"): (401, 404, 404, 200), ("POST", "/organiser/withdraw"): (401, 404, 404, 200),
@@ -46,14 +53,14 @@ class Authors(Base):
     def no_address_is_without_a_row(self) -> Iterator[str]:
         app = importlib.import_module("ladder.app")
         shapes = {(method, re.sub(r"<name>", "mine", rule)) for rule, _, method in app.ROUTES}
-        shapes = {(method, rule.replace("<int:seating>", "999").replace("<int:number>", "1")) for method, rule in shapes}
+        shapes = {(method, rule.replace("<int:seating>", "999").replace("<int:number>", "1").replace("<path:name>", "page.js")) for method, rule in shapes}
         yield from (f"{it} has no row" for it in sorted(shapes ^ {*ADDRESSES}))
 
     def each_threat_has_its_test(self) -> Iterator[str]:
         """The table of the page names tests, and each of them is there."""
         with open(os.path.join(TOP, "docs", "ladder.md"), encoding="utf-8") as file:
             rows = re.findall(r"^\|.*\|.*\|(.*)\|$", file.read().partition("## What may go wrong")[2], re.MULTILINE)[2:]
-        parts = [importlib.import_module(f"ladder_tests.{name}") for name in ("authors", "crashes", "handing", "hostile", "passes", "seeing")]
+        parts = [importlib.import_module(f"ladder_tests.{name}") for name in ("authors", "crashes", "finals", "handing", "hostile", "passes", "proxies", "seeing", "showing", "working")]
         known = {name.replace("_", " ") for part in parts for it in vars(part).values() if isinstance(it, type) for name in vars(it)}
         yield from (f"there is no test {name}" for row in rows for name in re.findall("`([^`]*)`", row) if name not in known)
         yield from [] if len(rows) > 12 and all("`" in row for row in rows) else [f"{len(rows)} rows"]
@@ -146,6 +153,21 @@ class Authors(Base):
         if rest := ladder.process.stdout.read():
             yield f"said again: {rest}"
 
+    def a_public_ladder_says_where_others_reach_it(self) -> Iterator[str]:
+        """An address of this machine by which it has an own network, if it has one; else one that reaches no other machine."""
+        known = subprocess.run(["hostname", "-I"], capture_output=True, text=True, check=False).stdout.split()
+        for words, wanted in (((), {"127.0.0.1"}), (("--public",), {it for it in known if ":" not in it} or {"127.0.0.1"})):
+            ladder = self._made(f"public{len(words)}")
+            ladder.serve(*words)
+            found = re.search("http://([0-9.]+):", ladder.said)
+            if not found or found[1] not in wanted:
+                yield f"{words}: {ladder.said}"
+                continue
+            with closing(http.client.HTTPConnection(found[1], ladder.port, timeout=60)) as line:
+                line.request("GET", "/tag")
+                if line.getresponse().status != 200:
+                    yield f"{words}: {found[1]} doesn't answer"
+
     def who_guesses_has_to_wait(self) -> Iterator[str]:
         ladder, tokens = self._people("guesses")
         found = [ladder.ask("PUT", "/robots/x", IDLE, token=f"guess{at}").status for at in range(25)]
@@ -155,6 +177,23 @@ class Authors(Base):
             yield "a right token is told from a wrong one meanwhile"
         if ladder.ask("GET", "/").status != 200:
             yield "a reader has to wait, too"
+
+    def who_guesses_at_the_form_has_to_wait(self) -> Iterator[str]:
+        ladder, tokens = self._people("forms")
+        found = [ladder.post("/join", {"token": f"guess{at}"}).status for at in range(21)]
+        if found != [401] * 20 + [429] or ladder.post("/join", {"token": tokens[AUTHOR]}).status != 429:
+            yield f"{found}"
+
+    def an_old_session_is_none(self) -> Iterator[str]:
+        """After thirty days a browser has to join again. A link has no such end."""
+        ladder, tokens = self._people("old")
+        cookie = ladder.joined(tokens[AUTHOR])
+        for days, wanted in ((29, 200), (31, 303)):
+            with opened(ladder.folder) as store, store.change():
+                store.run("UPDATE ladder_token SET made = ?", time.time() - days * 86400)
+            found = ladder.ask("GET", "/mine", cookie=cookie).status, ladder.ask("GET", "/mine", token=tokens[AUTHOR]).status
+            if found != (wanted, 200):
+                yield f"{days} days: {found}"
 
     def sign_up_has_a_cap(self) -> Iterator[str]:
         ladder = self._new("sign")

@@ -72,6 +72,7 @@ class Ladder:
     server: Any = None
     port: int = 0
     organiser: str = ""
+    said: str = ""
 
     def run(self, command: str, *words: str, status: int = 0) -> str:
         """Runs a command on the league; answers what it wrote, or said if it failed."""
@@ -79,11 +80,11 @@ class Ladder:
         assert ran.returncode == status, f"{command} {words}: status {ran.returncode}: {ran.stderr}"
         return ran.stderr if status else ran.stdout
 
-    def begin(self, outside: str = "", prefix: str = "") -> None:
+    def begin(self, outside: str = "", prefix: str = "", workbench: str = "") -> None:
         """Serves the league by a thread, without the player."""
         waitress = importlib.import_module("waitress")
         places = [os.path.join(os.path.dirname(self.folder), "..", "bin", name) for name in NAMES]
-        site = Site(self.folder, "A ladder", Programs(*places), prefix, outside)
+        site = Site(self.folder, "A ladder", Programs(*places), prefix, outside, workbench)
         with opened(self.folder) as store:
             schema.ready(store)
             self.organiser = self.organiser or accounts.organiser(store)
@@ -97,7 +98,8 @@ class Ladder:
             self.process = subprocess.Popen([LEAGUE, "serve", self.folder, "--port", str(self.port), "-j2", *words], env=self.environment, text=True,
                                             stdout=subprocess.PIPE, stderr=said, start_new_session=True)
         assert self.process.stdout
-        found = re.search(r":(\d+)", self.process.stdout.readline())
+        self.said = self.process.stdout.readline()
+        found = re.search(r":(\d+)", self.said)
         assert found, "it doesn't say its port"
         self.port = int(found[1])
         if not self.organiser:

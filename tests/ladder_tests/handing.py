@@ -55,6 +55,16 @@ class Handing(Base):
                 yield f"{name}: {answer.status} {answer.text!r}"
         yield from (f"{it} joined" for it, in ladder.rows("SELECT robot FROM ladder_owner JOIN ladder_author ON number = author WHERE name = 'Ben'"))
 
+    def a_source_has_so_many_bytes(self) -> Iterator[str]:
+        """Just as many as the terms allow, and not one more."""
+        ladder, token = self._author("Sam")
+        ladder.terms(size=500)
+        for count, status in ((500, 200), (501, 413)):
+            answer = ladder.ask("PUT", "/robots/sized", IDLE.ljust(count), token=token)
+            if answer.status != status:
+                yield f"{count}: {answer.status} {answer.text}"
+        ladder.terms(size=65_536)
+
     def limits_of_an_author(self) -> Iterator[str]:
         ladder = self._new("limits")
         token = ladder.author("Ann")
@@ -92,6 +102,9 @@ class Handing(Base):
             ladder.ask("PUT", "/robots/v", other(at), token=token)
         steps = [(lambda: ladder.post("/robots/v/back", {"version": "1"}, token=token), (200, "taken: v, version 3\n")),
                  (lambda: ladder.post("/robots/v/back", {"version": "9"}, token=token), (404, "there is no version 9 of v\n")),
+                 (lambda: ladder.post("/robots/v/back", {"version": "0"}, token=token), (404, "there is no version 0 of v\n")),
+                 (lambda: ladder.ask("GET", "/robots/v/versions/1", token=token), (200, other(1))),
+                 (lambda: ladder.ask("GET", "/robots/v/versions/2", token=token), (200, other(2))),
                  (lambda: ladder.post("/robots/v/withdraw", token=token), (200, "v left; its matches are kept\n")),
                  (lambda: ladder.post("/robots/v/withdraw", token=token), (422, "the robot v has left already\n")),
                  (lambda: ladder.ask("PUT", "/robots/v", other(1), token=token), (200, "taken: v, version 4\n"))]

@@ -111,6 +111,12 @@ class Hostile(Base):
         if (status := ladder.post("/robots", parts, token=token).status) != 413:
             yield f"200 parts: {status}"
 
+    def large_heads_are_refused(self) -> Iterator[str]:
+        ladder, _ = self._two("large-heads")
+        found = [sent(ladder.port, b"GET / HTTP/1.1\r\nHost: a\r\nX: " + b"y" * count + b"\r\n\r\n")[8:12] for count in (15_000, 17_000)]
+        if found != [b" 200", b" 431"]:
+            yield f"{found}"
+
     def slow_clients_stop_nobody(self) -> Iterator[str]:
         """Sixty clients that never end their request, on eight threads: a reader is answered."""
         ladder, _ = self._two("slow")

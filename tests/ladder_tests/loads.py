@@ -1,18 +1,29 @@
-"""Many authors and many readers at once. By hand with LADDER_AUTHORS=200 and LADDER_READERS=500 the times are judged, too."""
+"""Many authors and many readers at once, many requests one after another, and a new robot in a full table.
+
+By hand with LADDER_AUTHORS=200 and LADDER_READERS=500 the times are judged, too; LADDER_ASKED=100000 and LADDER_FIELD=60 make the others long."""
 
 from __future__ import annotations
 
 import http.client
+import itertools
 import os
+import re
 import threading
 import time
 from typing import Iterator
 
-from .base import Base, Ladder, other
+from .base import HERE, IDLE, TODAY, Base, Ladder, other
+from .crashes import children
 
 AUTHORS = int(os.environ.get("LADDER_AUTHORS", "12"))
 READERS = int(os.environ.get("LADDER_READERS", "24"))
 SECONDS = float(os.environ.get("LADDER_SECONDS", "3"))
+# How many requests one after another, and how many robots there are when another one comes.
+ASKED = int(os.environ.get("LADDER_ASKED", "2000"))
+FIELD = int(os.environ.get("LADDER_FIELD", "8"))
+SAMPLES = os.path.join(HERE, "..", "..", "robots")
+# The server's memory, in bytes; a robot's first matches, and in how many seconds it has played them.
+MEMORY, FIRST, PLACED = 200_000_000, 24, 60.0
 # The aims, in seconds, which hold for a machine that does nothing else.
 IS_LONG = AUTHORS >= 200
 HAND_IN, READ, EACH = 1.0, 0.1, 2.0
@@ -41,6 +52,75 @@ class Loads(Base):
             said = f"hand-ins: median {share(sent, 0.5):.3f} s, slowest {max(sent):.3f} s; reads: 99 of 100 within {share(read, 0.99):.3f} s"
             print(said, flush=True)
             yield from [said] if max(sent) > HAND_IN or share(read, 0.99) > READ else []
+
+
+    def the_server_stays_small(self) -> Iterator[str]:
+        """After many requests of all kinds, also of robots that are handed in."""
+        ladder = self._made("small")
+        ladder.serve()
+        ladder.terms(robots=10_000, versions=1_000_000)
+        token = ladder.author("Ann")
+        paths = ("/", "/tag", "/table", "/robots/mine", "/mine", "/nothing", "/ladder.js", "/wall")
+        ladder.ask("PUT", "/robots/mine", IDLE, token=token)
+        them = [threading.Thread(target=read_all, args=(ladder, paths, token, ASKED // 4, at)) for at in range(4)]
+        for it in them:
+            it.start()
+        for it in them:
+            it.join()
+        sizes = [memory(child) for child in children(ladder)]
+        if ASKED >= 100_000:
+            print(f"server and player after {ASKED} requests: {', '.join(f'{size // 1_000_000} MB' for size in sizes)}", flush=True)
+        if len(sizes) != 2 or sizes[0] > MEMORY:
+            yield f"{sizes}"
+
+    def a_new_robot_has_a_place_soon(self) -> Iterator[str]:
+        """Among robots that have played all their matches: its first ones, and a place, within a minute."""
+        ladder = self._made("field")
+        sources = sorted(name for name in os.listdir(SAMPLES) if name.endswith(".r"))
+        for at, name in zip(range(FIELD), itertools.cycle(sources)):
+            with open(os.path.join(SAMPLES, name), encoding="utf-8") as file:
+                ladder.add(f"r{at}", f"{file.read()}/* {at} */\n", TODAY)
+        ladder.run("play", "--quiet")
+        ladder.serve()
+        token, began, wanted = ladder.author("Ann"), time.monotonic(), min(FIRST, 2 * FIELD)
+        with open(os.path.join(SAMPLES, "hunter.r"), encoding="utf-8") as file:
+            ladder.ask("PUT", "/robots/new", file.read(), token=token)
+        times: dict[int, float] = {}
+        while times.keys() != {wanted, 4 * FIELD} and time.monotonic() < began + 10 * PLACED:
+            count = played(ladder.ask("GET", "/table").text)
+            times |= {many: time.monotonic() - began for many in (wanted, 4 * FIELD) if count >= many and many not in times}
+            time.sleep(0.05)
+        said = f"a new robot among {FIELD}: {', '.join(f'{many} matches after {it:.1f} s' for many, it in times.items())}"
+        if FIELD >= 60:
+            print(said, flush=True)
+        if times.get(wanted, 2 * PLACED) > PLACED:
+            yield said
+
+
+def read_all(ladder: Ladder, paths: tuple[str, ...], token: str, count: int, first: int) -> None:
+    """Asks for these pages in turns, over connections that are kept for a while; now and then a version is handed in."""
+    line = http.client.HTTPConnection("127.0.0.1", ladder.port, timeout=60)
+    for at in range(count):
+        path = paths[at % len(paths)]
+        if at % 500 == 499:
+            ladder.ask("PUT", "/robots/mine", other(first * count + at), token=token)
+        line.request("GET", path, headers={"Authorization": f"Bearer {token}"} if at % 2 else {})
+        line.getresponse().read()
+    line.close()
+
+
+def memory(process: int) -> int:
+    """The bytes of memory that a process has now."""
+    with open(f"/proc/{process}/status", encoding="ascii") as file:
+        found = re.search(r"VmRSS:\s*(\d+) kB", file.read())
+    return int(found[1]) * 1024 if found else 0
+
+
+def played(table: str) -> int:
+    """How many matches the new robot has played, by the table."""
+    found = re.search('data-robot="new".*?</tr>', table, re.DOTALL)
+    numbers = re.findall(r"<td[^>]*>(\d+)</td>", found[0]) if found else []
+    return int(numbers[0]) if numbers else 0
 
 
 def hand_in(ladder: Ladder, at: int, token: str, sent: list[float], wrong: list[str]) -> None:

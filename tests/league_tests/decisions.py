@@ -156,22 +156,24 @@ class Decisions(Base):
     def shares_of_stopped_pairs_by_hand(self) -> list[str]:
         """18 wins of 20: the first look had eight or nine, since ten would have stopped. Of 45 ways with eight and 100 with nine the mean
         chance is (45 * 0.8 + 100 * 0.9) / 145, and of two wins (45 * 56 / 90 + 100 * 72 / 90) / 145. Half of the first look being
-        ties, half of what is above a half counts, and the variance has (p - 1/2)**2 / 4 / 9 more."""
+        ties, half of what is above a half counts, and the variance has (p - 1/2)**2 / 4 / 9 more. The third moment of a mean of n is
+        its variance times (1 - 2p) / n, so that of one who mostly won is below 0."""
         chance, both = 126 / 145, 108 / 145
         own = chance**2 - both
         cases = (
-            (Count(10), Count(10), 1.0, 0.0),
-            (Count(18, 0, 2), Count(9, 0, 1), chance, own),
-            (Count(2, 0, 18), Count(1, 0, 9), 1 - chance, own),
-            (Count(0, 30), Count(0, 10), 0.5, 0.0),
-            (Count(6, 0, 4), Count(6, 0, 4), 0.6, 0.6**2 - 30 / 90),
-            (Count(3, 5, 2), Count(3, 5, 2), 0.55, 0.25 * (0.36 - 0.3) + 0.01 * 0.25 / 9),
+            (Count(10), Count(10), 1.0, 0.0, 0.0),
+            (Count(18, 0, 2), Count(9, 0, 1), chance, own, own * (1 - 252 / 145) / 20),
+            (Count(2, 0, 18), Count(1, 0, 9), 1 - chance, own, own * (252 / 145 - 1) / 20),
+            (Count(0, 30), Count(0, 10), 0.5, 0.0, 0.0),
+            (Count(6, 0, 4), Count(6, 0, 4), 0.6, 0.6**2 - 30 / 90, (0.6**2 - 30 / 90) * -0.2 / 10),
+            (Count(3, 5, 2), Count(3, 5, 2), 0.55, 0.25 * (0.36 - 0.3) + 0.01 * 0.25 / 9, 0.125 * (0.36 - 0.3) * -0.2 / 5),
         )
         wrong = []
-        for count, first, value, variance in cases:
-            found = stopped.share(count, first)
-            if not math.isclose(found.value, value) or not math.isclose(found.variance, variance, abs_tol=1e-12):
-                wrong.append(f"{count}: {found}, not {value} and {variance}")
+        for count, first, *wanted in cases:
+            it = stopped.share(count, first)
+            found = [it.value, it.variance, it.third]
+            if not all(math.isclose(one, other, abs_tol=1e-12) for one, other in zip(found, wanted)):
+                wrong.append(f"{count}: {found}, not {wanted}")
         return wrong
 
     def shares_of_stopped_pairs_have_no_bias(self) -> list[str]:

@@ -94,6 +94,14 @@ class Farms(Base):
         found = [row[2:] for row in it.battles()]
         return wrong + ([] if found == [row[2:] for row in wanted] else [f"elsewhere {len(found)} other matches were played"])
 
+    def more_than_is_asked_for(self) -> list[str]:
+        """True records of a league with more matches of a pair, which begin with those that are asked for, are refused as a whole."""
+        more, less = (League(self, name, rules, robots=("a.r", "r50.r")) for name, rules in (("more", "-m20"), ("less", "-m6")))
+        write(self.at("more-records"), self._farmed(more.run("play", "--plan", "--piece=10")))
+        ran = less.ran("take", "more-records")
+        is_refused = ran.returncode == 2 and ran.stderr.count("has matches that this season doesn't ask for") == 2
+        return [] if is_refused and not less.battles() else [f"status {ran.returncode}, {ran.stderr}, {len(less.battles())} matches"]
+
     def old_plans_are_removed(self) -> list[str]:
         """A plan is kept for a month after it was made."""
         it = League(self, "old", "-m2", robots=("a.r", "b.r"))

@@ -20,7 +20,7 @@ from leagues.standings import Standing, standings
 from tools.faults import Fault
 from tournaments.programs import program
 
-from .base import Base, read, write
+from .base import HERE, Base, read, write
 from .forgers import Archive, Row
 
 # By what a change is seen of somebody who works out the chain anew: by the rules alone, or only by an older archive or a
@@ -55,6 +55,22 @@ SEEN = {
     "handed": {"number": RULES, "folder": SINCE, "robot": SINCE, "name": SINCE, "publication": MARK},
     "code": {"sha256": RULES, "profile": RULES, "program": SINCE, "hash": RULES, "publication": MARK},
 }
+# What the page says that nobody sees by the rules alone, and the columns that are meant; of those that all tables have the name alone.
+UNSEEN = {
+    "authors": {"robot.author"}, "days": {".day", "season.begun"}, "names of seasons, workers, robots and their folders":
+        {"season.name", "worker.name", "battle.worker", "handed.folder", "handed.robot", "handed.name"},
+    "reasons and what was asked for to be taken back": {"correction.why", "removal.why", "removal.what"},
+    "by which program a source was compiled": {"code.program"},
+    "rules, entries and corrections that were overtaken by later ones": {"season.rules", "ruling.rules", "correction.what", "correction.of",
+                                                                         "correction.other_day"},
+    "how many entries there were when a season, rules or a correction came": {"season.first_entry", "ruling.entries", "correction.entries"},
+    "which publication showed something first": {".publication"},
+    "tables of earlier days": {f"publication.{it}" for it in ("number", "season", "final", "missing", "scale")} | {
+        f"standing.{it}" for it in ("publication", "robot", "sha256", "division", "rank", "points", "rating", "low", "high", "close")},
+    "the rows of matches that were taken back": {f"removed.{it}" for it in (
+        "removal", "seating", "number", "cycles", "damage1", "damage2", "damage3", "damage4", "worker")},
+}
+ARCHIVES = os.path.join(HERE, "..", "..", "docs", "archives.md")
 ROWS_TRIED = 2
 ENDED = ("SELECT hashes, seed, seating.cycles, profile, program, battle.number, battle.cycles, damage1, damage2, damage3, "
          "damage4 FROM battle JOIN seating ON seating.number = seating")
@@ -207,6 +223,17 @@ class Forging(Base):
             wrong.append(f"what is older isn't since what is newer: {ran.stdout}{ran.stderr}")
         return wrong
 
+    def ids_of_digits_are_texts(self) -> list[str]:
+        """The robot 10 comes before the robot 9 in the chain, and rules in JSON are hashed without the quotation marks of the file."""
+        for robot in ("9", "10", "100"):
+            write(self.at(f"{robot}.r"), read(self.at("b.r")) + f"/* {robot} */")
+        self._does("init", "-m2", "-l300", "--season=a, \"b\"", "--day=2026-03-01", name="digits")
+        self._does("add", "9.r", "10.r", "100.r", "--day=2026-03-01", name="digits")
+        self._does("play", "-j2", "--quiet", "--day=2026-03-01", name="digits")
+        there = Archive(self._published("2026-03-02", "digits"))
+        found, again = ([row["hash"] for row in it.tables["publication"]] for it in (there, there.copy().linked()))
+        return [] if found == again else [f"the hashes are {found}, and by the page {again}"]
+
     def each_column_is_in_the_table(self) -> list[str]:
         """A new column gets a line that says by what a change of it is seen."""
         database = sqlite3.connect(":memory:")
@@ -214,6 +241,15 @@ class Forging(Base):
         there = {table: {name for _, name, *_ in database.execute(f"PRAGMA table_info({table})")}
                  for table, in database.execute("SELECT name FROM sqlite_master WHERE type = 'table'")}
         return [] if there == {table: {*columns} for table, columns in SEEN.items()} else [f"the tables are {there}"]
+
+    def what_is_not_seen_is_on_the_page(self) -> list[str]:
+        """The page names each column of which a change is seen by an older archive or hash alone, and nothing else."""
+        since = {f"{table}.{column}" for table, columns in SEEN.items() for column, by in columns.items() if by == SINCE}
+        named = {it for those in UNSEEN.values() for one in those for it in (
+            [one] if one[0] != "." else [f"{table}{one}" for table, columns in SEEN.items() if one[1:] in columns])}
+        said = " ".join(read(ARCHIVES).split("## What can't be seen")[1].lower().split())
+        wrong = [f"{it} is only {'tried' if it in since else 'named'}" for it in sorted(since ^ named)]
+        return wrong + [f"the page doesn't say: {it}" for it in UNSEEN if it not in said]
 
     def each_changed_cell(self) -> list[str]:
         last, wrong = Archive(self._archives()[-1]), []
@@ -251,6 +287,15 @@ class Forging(Base):
             wrong += self._judged(tried, table, by)
         return wrong
 
+    def days_that_go_back(self) -> list[str]:
+        """No entry is of an earlier day than the one before, also if it is later than the first ones."""
+        forged = Archive(self._archives()[-1])
+        last = forged.tables["entry"][-1]
+        last["day"] = "2026-03-02"
+        said = f"entry {last['number']} is of 2026-03-02, and the one before of 2026-03-11"
+        found = self._said(forged.linked())
+        return [] if said in found else [f"{found}"]
+
     def rules_that_were_not_so(self) -> list[str]:
         """Each rule that counts: the matches show that it was another one. Also how many matches a group has."""
         there, wrong = self._plain("ruled", "-m6", "--anchor=b=1000"), []
@@ -276,12 +321,13 @@ class Forging(Base):
                                        if (row["seating"], row["number"]) != (at, str(most[at]))]
             self._fitted(forged, False)
             wrong += [] if self._wrong(forged)[0] else [f"the last match of seating {at} is gone, and nothing is seen"]
-            forged = there.copy()
-            forged.tables["battle"] += [row | {"seating": at} for row in longer.tables["battle"]
-                                        if same[row["seating"]] == at and most[at] < int(row["number"]) <= most[at] + 5]
-            self._fitted(forged, False)
-            if len(forged.tables["battle"]) > len(there.tables["battle"]) and not self._wrong(forged)[0]:
-                wrong.append(f"seating {at} has true matches after its decision, and nothing is seen")
+            for many in (1, 5):
+                forged = there.copy()
+                forged.tables["battle"] += [row | {"seating": at} for row in longer.tables["battle"]
+                                            if same[row["seating"]] == at and most[at] < int(row["number"]) <= most[at] + many]
+                self._fitted(forged, False)
+                if len(forged.tables["battle"]) > len(there.tables["battle"]) and not self._wrong(forged)[0]:
+                    wrong.append(f"seating {at} has {many} true matches after its decision, and nothing is seen")
         forged = there.copy()
         rules = json.loads(forged.tables["season"][0]["rules"])
         forged.tables["season"][0]["rules"] = json.dumps(rules | {"sure": False}, sort_keys=True)

@@ -75,6 +75,13 @@ class Rated(Base):
         found = rated(pairs({(0, 1): "wwwwwwwwll", (1, 0): "lllllllwww"}))
         return differing(found, [(93.12, -3.5, 207.35), (-93.12, -207.35, 3.5)], 0.1)
 
+    def skewness_by_hand(self) -> list[str]:
+        """A skewness of -0.3 moves an end by -0.3 * 1.44715 = -0.43415 in a full field. By Hall's cube root it is 1 + 0.3 * (1.959964 -
+        0.05) = 1.572989, of which the root is 1.162985: 3 / 0.3 * 0.162985 - 1.959964 = -0.330114. Half of each is -0.38213."""
+        cases = {(-0.3, 0.0): -0.43415, (-0.3, 1.0): -0.330114, (-0.3, 0.5): -0.38213, (0.3, 0.0): 0.43415, (0.3, 1.0): 0.43415, (0.0, 1.0): 0.0}
+        found = {it: ratings.further(*it) for it in cases}
+        return [f"{it}: {found[it]}, not {cases[it]}" for it in cases if abs(found[it] - cases[it]) > 1e-4]
+
     def one_that_won_all_by_hand(self) -> list[str]:
         """0.99 of a pair are odds of 99: 798.25 points, which is as far as two robots can be apart; half of it for each. Up from there
         nothing leads. Down: ten matches without an upset have no variance but by 0.1 / 100, and 2.306 * 0.0316228 + 0.1 *
@@ -126,6 +133,12 @@ class Rated(Base):
         found = factor, matrices.inverse(factor), matrices.solved(factor, [2.0, 9.0])
         wanted = [[2.0], [1.0, 2.0]], [[0.3125, -0.125], [-0.125, 0.25]], [-0.5, 2.0]
         return [] if found == wanted else [f"{found}"]
+
+    def products_of_rows_by_hand(self) -> list[str]:
+        """With (1, 2, 3, 4, 5): of rows that have mostly zeros, one number, none, no zeros."""
+        rows = [[0.0, 0.0, 3.0, 0.0, 2.0], [0.0, 0.0, 0.0, -7.0, 0.0], [0.0] * 5, [1.0, -1.0, 1.0, -1.0, 1.0], [0.0, 1.0, 1.0, 1.0, 0.0]]
+        found = [of_row([1.0, 2.0, 3.0, 4.0, 5.0]) for of_row in matrices.forms(rows)]
+        return [] if found == [19.0, -28.0, 0.0, 3.0, 9.0] else [f"{found}"]
 
     def close_by_the_definition(self) -> list[str]:
         """The variance of a difference of points match by match: in pairs, threes and with two sizes."""
@@ -268,11 +281,18 @@ class Defined:
         own = [group for group in self.groups if robot in group]
         size = max(map(len, own))
         upsets = [size / 2 * abs(self.slopes[pair][robot]) / len(self.met[pair]) for pair in self.opponents(robot)]
-        each = UNSEEN / len(upsets)
-        variance = sum(self.together(robot, robot, group) for group in own) + each * sum(it**2 for it in upsets)
-        third = sum(self.third(robot, group) for group in own) + side * each * sum(it**3 for it in upsets)
+        dense = len(self.met) / math.comb(len(self.robots), 2)
+        parts = [UNSEEN * (dense / len(upsets) + (1 - dense) * it**2 / sum(one**2 for one in upsets)) for it in upsets]
+        variance = sum(self.together(robot, robot, group) for group in own) + sum(part * it**2 for it, part in zip(upsets, parts))
+        third = side * sum(self.third(robot, group) for group in own) + sum(part * it**3 for it, part in zip(upsets, parts))
         half = quantile(self.freedom(robot, own)) * math.sqrt(variance)
-        return max(0.0, half + side * third / variance * (1 + 2 * NORMAL**2) / 6)
+        straight = half + third / variance * (1 + 2 * NORMAL**2) / 6
+        if third >= 0:
+            return straight
+        skewness = third / variance**1.5
+        root = (1 - skewness * (NORMAL + skewness / 6)) ** (1 / 3)
+        bent = half - math.sqrt(variance) * (NORMAL + 3 * (root - 1) / skewness)
+        return max(0.0, dense * straight + (1 - dense) * bent)
 
     def freedom(self, robot: int, own: Sequence[tuple[int, ...]]) -> float:
         """How well the variance by its own matches is known: all pairs are one part, each group of more robots is one."""

@@ -5,6 +5,8 @@ from __future__ import annotations
 import re
 import resource
 
+from tournaments.reports import results
+
 from .base import Base, seed_of, sha256, FILES
 
 
@@ -83,6 +85,20 @@ class Refusals(Base):
         }
         return [wrong for program, why in cases.items()
                 for wrong in self._answers(self._run("-m2", "-j1", "--crobots", program, "a.r", "b.r"), "", f"tournament: {why}\n", 4)]
+
+    def what_is_no_output(self) -> list[str]:
+        """Of the output of three matches each line that is gone, twice or in the next one's place is seen, each end that is cut, and each other
+        digit in the number of a match and in the totals."""
+        text = "".join(f"Match {number}: cycles = {15 * number}\n  1) alive damage  {number}0% a.r\n  2) dead  damage 100% b.r\n" for number in (7, 8, 9))
+        text += "Totals: 3 matches\n  1) won 3 tied 0 lost 0 a.r\n  2) won 0 tied 0 lost 3 b.r\n"
+        lines = text.splitlines(keepends=True)
+        changed = ["".join([*lines[:at], *middle, *lines[at + 2:]]) for at in range(len(lines) - 1) for one, two in [lines[at:at + 2]]
+                   for middle in ([two], [one], [one, one, two], [one, two, two], [two, one])]
+        changed += [text[:at] for at in range(len(text))]
+        numbered = [at for at, it in enumerate(text) if it.isdigit() and (text[:at].endswith("Match ") or at > text.index("Totals"))]
+        changed += [text[:at] + digit + text[at + 1:] for at in numbered for digit in "0123456789" if digit != text[at]]
+        wrong = [] if results(text.encode(), 2, 7, 3) == "105:70:100,120:80:100,135:90:100" else ["the output itself"]
+        return wrong + [f"{it!r}" for it in changed if results(it.encode(), 2, 7, 3) is not None]
 
     def more_jobs_than_files_can_be_open(self) -> list[str]:
         limit = lambda: resource.setrlimit(resource.RLIMIT_NOFILE, (20, 20))  # noqa: E731

@@ -34,7 +34,17 @@ main() {
 }
 """
 UNUSED = "main(){int a; a = 5 /* tune 0..20 name unused */; if (rand(1000) < 300) while(1) cannon(0,0); while(1);}"
-FILES = {"still.r": STILL, "other.r": STILL + "/* other */", "draws.r": DRAWS, "two.r": TWO % (100, 900), "best.r": TWO % (600, 200),
+# By 9 it shoots itself, later than dies.r does; else it stands still.
+SWITCH = """main() {
+  int n;
+  if (5 /* tune 1..9 step 4 name switch */ > 6) {
+    while (n < 8) n = n + 1;
+    while (1) cannon(0, 0);
+  }
+  while (1);
+}
+"""
+FILES = {"switch.r": SWITCH, "dies.r": "main(){while(1) cannon(0,0);}", "still.r": STILL, "other.r": STILL + "/* other */", "draws.r": DRAWS, "two.r": TWO % (100, 900), "best.r": TWO % (600, 200),
          "unused.r": UNUSED, "bad.r": "main(){\nbreak; }", "plain.r": "main(){int a; a = 7;}", "field/a.r": STILL + "/* a */",
          "field/b.r": "main(){while(1) cannon(0,0);}", "field/notes.txt": "no robot"}
 WORDS = ("-l400", "--quiet")
@@ -96,9 +106,12 @@ class Playing:
         return [] if right else [f"{row}, not {told}"]
 
     def a_number_that_changes_nothing(self) -> list[str]:
-        verdicts = [row["verdict"] for row in self._rows("-m40", "unused.r", "still.r", "other.r")]
-        wanted = ["no difference that these matches could show"] * 20
-        return [] if verdicts == [*wanted[:5], "today's", *wanted[5:]] else [f"{verdicts}"]
+        """It plays alike by each value, though its matches end by chance: so each difference is 0, and an interval is that of two matches of 80
+        that weren't seen, by Student's quantile of 80 degrees of freedom: 1.990 * 3 / 80 * the root of 2 = 0.1055."""
+        rows = self._rows("-m40", "unused.r", "still.r", "other.r")
+        nothing = ("+0.000", "-0.106", "+0.106", "no difference that these matches could show")
+        got = [tuple(row[name] for name in ("change", "low", "high", "verdict")) for row in rows]
+        return [] if got == [nothing] * 5 + [("+0.000", "+0.000", "+0.000", "today's")] + [nothing] * 15 else [f"{got}"]
 
     def until_sure_spends_matches_where_it_matters(self) -> list[str]:
         """Today's value and the best one get all matches, the worst one only those of the first look."""
@@ -115,8 +128,62 @@ class Playing:
             [[row["lost"], row["points"], row["verdict"]] for row in rows] else [f"{made}"]
         wrong += [] if made["numbers"] == [{"name": "lost", "line": 1, "column": 25, "low": 0, "high": 1000, "today": 400}] else [f"{made['numbers']}"]
         shown = [line.split(None, 6) for line in table[: len(rows) + 1]]
-        wrong += [] if shown == [[*rows[0]], *([*row.values()] for row in rows)] else [f"{shown}"]
+        beside = [{name: value for name, value in row.items() if name != "against"} for row in rows]
+        wrong += [] if shown == [[*beside[0]], *([*row.values()] for row in beside)] else [f"{shown}"]
         return wrong if table[len(rows) + 1].startswith("surely better than today's 400: ") else [*wrong, f"{table}"]
+
+    def what_each_opponent_is_worth(self) -> list[str]:
+        """Of 20 matches each: 5 ties with still.r and wins against dies.r, 9 loses and wins. Nothing differs among the matches of an
+        opponent, so an interval is that of two matches that weren't seen: 3 points more and less of 20, by Student's quantile of 20
+        degrees of freedom: 2.086 * 3 / 20 * the root of 2 = 0.4425. Of both, with weights 1 and 3, there are 1 / ((1/16 + 9/16) / 20) = 32
+        counted matches: 2.037 * 3 / 32 * the root of 2 = 0.2701. No points are below 0 or above 3."""
+        rows = self._rows("-m20", "--by-opponent", "--weight", "dies.r=3", "switch.r", "still.r", "dies.r")
+        got = [[row[name] for name in ("switch", "against", "points", "from", "to", "change", "low", "high", "matches", "verdict")] for row in rows]
+        still, dies, both = ["1.000", "0.558", "1.442"], ["3.000", "2.558", "3.000"], ["2.500", "2.230", "2.770"]
+        same, nothing = ["+0.000", "-0.442", "+0.442"], "no difference that these matches could show"
+        none = ["+0.000"] * 3
+        wanted = [
+            ["1", "dies.r", *dies, *same, "20", ""], ["1", "still.r", *still, *same, "20", ""], ["1", "all", *both, "+0.000", "-0.270", "+0.270", "40", nothing],
+            ["5", "dies.r", *dies, *none, "20", ""], ["5", "still.r", *still, *none, "20", ""], ["5", "all", *both, *none, "40", "today's"],
+            ["9", "dies.r", *dies, *same, "20", ""], ["9", "still.r", "0.000", "0.000", "0.442", "-1.000", "-1.442", "-0.558", "20", ""],
+            ["9", "all", "2.250", "1.980", "2.520", "-0.250", "-0.520", "+0.020", "40", nothing],
+        ]
+        wrong = [f"{one}, not {other}" for one, other in zip(got, wanted) if one != other] + ([] if len(got) == 9 else [f"{len(got)} rows"])
+        made = json.loads(self._run("--sweep", "--json", "-m20", "--weight", "dies.r=3", "switch.r", "still.r", "dies.r").stdout)["sweep"]
+        return wrong if [it["points"] for it in made] == [2.5, 2.5, 2.25] else [*wrong, f"{made}"]
+
+    def against_whom(self) -> list[str]:
+        """Each form of an answer says it, and a weight if there are several. Of two files with equal bytes there is one, with both weights."""
+        shutil.copy(self._folder / "still.r", self._folder / "twin.r")
+        words = ("-m2", "--weight", "dies.r=0.5", "switch.r", "twin.r", "still.r", "dies.r")
+        names = [f"dies.r (weight 0.5), {name} (weight 2)" for name in ("still.r", "twin.r")]
+        picture = self._folder / "whom.svg"
+        table = self._run("--sweep", "-o", "whom.svg", *words).stdout
+        title, line = (xml.etree.ElementTree.parse(picture).findtext("{*}title"), "against {}\n")
+        name = next((it for it in names if line.format(it) in table), "")
+        wrong = [] if name and (title or "").endswith(f", by switch; against {name}") else [table, f"{title}"]
+        wrong += [] if f">against {name}</text>" in picture.read_text(encoding="utf-8") else ["the picture shows no opponents"]
+        wrong += [] if {row["against"] for row in self._rows(*words)} == {name} else ["comma-separated values"]
+        made = json.loads(self._run("--sweep", "--json", *words).stdout)
+        wrong += [] if made["against"] == [{"robot": "dies.r", "weight": 0.5}, {"robot": name.split(", ")[1].split()[0], "weight": 2.0}] else [f"{made['against']}"]
+        told = self._run("-m2", "--budget", "100", *words[1:]).stdout
+        return wrong if f"by 2 fresh matches against each of {name}\n" in told or "came back to today's values" in told else [*wrong, told]
+
+    def what_tuning_says_by_opponent(self) -> list[str]:
+        """9 is today's value, and loses to still.r: any below is worth a point more against it. The comma-separated values have the
+        numbers as columns, and of both versions the rows that a sweep has; JSON has the same numbers of the tuned one."""
+        (self._folder / "nine.r").write_text(SWITCH.replace("5 /*", "9 /*"), encoding="ascii")
+        words = ("-m20", "--budget", "500", "--by-opponent", "nine.r", "still.r", "dies.r")
+        rows = [*csv.DictReader(io.StringIO(self._run("--csv", *words).stdout))]
+        got = [[row[name] for name in ("against", "points", "change", "low", "verdict")] for row in rows]
+        wanted = [["dies.r", "3.000", "+0.000", "+0.000", ""], ["still.r", "0.000", "+0.000", "+0.000", ""], ["all", "1.500", "+0.000", "+0.000", "today's"],
+                  ["dies.r", "3.000", "+0.000", "-0.442", ""], ["still.r", "1.000", "+1.000", "+0.558", ""], ["all", "2.000", "+0.500", "+0.286", "better"]]
+        wrong = [] if got == wanted else [f"{got}"]
+        made = json.loads(self._run("--json", *words).stdout)["by_opponent"]
+        told = [[it["robot"], f"{it['points']:.3f}", f"{it['change']:+.3f}", f"{it['low']:+.3f}"] for it in made]
+        wrong += [] if told == [row[:4] for row in wanted[3:5]] else [f"{made}"]
+        lines = self._run(*words).stdout.splitlines()
+        return wrong if [line.split()[1:3] for line in lines[3:9]] == [row[:2] for row in wanted] else [*wrong, f"{lines}"]
 
     def pictures_are_drawings(self) -> list[str]:
         """Well-formed; a dot for each value with its row, and for two numbers a field for each pair."""
@@ -195,12 +262,49 @@ class Playing:
         wanted = [both, both, both, alone, alone, alone, both]
         return [] if [*rows.values()] == wanted and both != alone else [f"{rows}"]
 
+    def samples_of_a_level(self) -> list[str]:
+        """Those that the table of the ladder has there, each with the level's weight, unless it has one of its own."""
+        def whom(*words: str) -> dict[str, float]:
+            return {it["robot"]: it["weight"] for it in json.loads(self._run("--sweep", "--json", "-m2", *words).stdout)["against"]}
+        got = [whom("--level", "5", "draws.r"), whom("--level", "4=0.5", "--level", "5=3", "draws.r", "still.r"),
+               whom("--level", "4", "--weight", f"{TOP / 'robots' / 'boxer.r'}=2", "draws.r")]
+        wanted: list[dict[str, float]] = [{"jouster.r": 1.0}, {"boxer.r": 0.5, "shuttle.r": 0.5, "jouster.r": 3.0, "still.r": 1.0},
+                                          {"boxer.r": 2.0, "shuttle.r": 1.0}]
+        wrong = [f"{one}, not {other}" for one, other in zip(got, wanted) if one != other]
+        wrong += self._refused("tune: no sample is of level 6; there are 1, 2, 3, 4, 5\n", "--level", "6", "draws.r")
+        return wrong + self._refused("tune: argument --level: '4=' isn't N or N=WEIGHT\n", "--level", "4=", "draws.r")
+
+    def a_judgement_is_what_challenge_says(self) -> list[str]:
+        """Of the robot that was written, with the same words: another program of this repository plays the same fresh matches."""
+        words = ("-m60", "-s9", "two.r", "still.r", "other.r")
+        made = json.loads(self._run("--json", "--budget", "6000", "-o", "made.r", *words).stdout)
+        told = subprocess.run([TOP / "scripts" / "challenge", "--json", "--crobots", self._crobots, "-m60", "-s9", *WORDS, "made.r", "--old", "two.r",
+                               "still.r", "other.r"], cwd=self._folder, capture_output=True, text=True, check=True).stdout
+        both = json.loads(told)["all"]
+        right = [round(made[name], 9) for name in ("points", "before", "change")] == [round(both[name], 9) for name in ("new", "old", "change")]
+        return [] if right and made["better"] else [f"{made}, not {both}"]
+
+    def a_judgement_has_a_part_of_the_budget(self) -> list[str]:
+        """A tenth of 12,000 matches is 600 for each of both versions, and 300 against each of two robots; of 600 it's 15, so there are 100.
+        What is given is kept."""
+        wrong = []
+        for words, matches in ((("--budget", "12000"), 300), (("--budget", "600"), 100), (("--budget", "12000", "-m50"), 50)):
+            told = self._run(*words, "two.r", "still.r", "other.r").stdout
+            wrong += [] if f"by {matches} fresh matches against each of other.r, still.r\n" in told else [told]
+        return wrong
+
     def its_own_versions(self) -> list[str]:
-        """They join the opponents of the search alone: the judgement is against the others."""
+        """They join the opponents of the search alone: the judgement is against the others. If it meets nobody that the search hasn't met,
+        whatever the files are called, it says so. The robot itself is never met."""
         ran = self._run("-m20", "--budget", "3000", "--against-itself", "two.r", "still.r")
         judged = self._run("-m20", "--budget", "3000", "--judge", "other.r", "--judge", "field", "two.r", "still.r")
-        right = ran.stderr == "" and "fresh matches against each of 1\n" in ran.stdout and judged.stderr == "" and "against each of 3\n" in judged.stdout
-        return [] if right else [f"{ran!r:.400} {judged!r:.400}"]
+        right = ran.stderr == "" and "fresh matches against each of still.r\n" in ran.stdout and judged.stderr == "" and "against each of a.r, b.r, other.r\n" in judged.stdout
+        wrong = [] if right else [f"{ran!r:.400} {judged!r:.400}"]
+        shutil.copy(self._folder / "still.r", self._folder / "same.r")
+        for words, said in ((("--judge", "same.r"), SAID), (("--judge", "same.r", "--judge", "other.r"), ""), (("--judge", "same.r", "--judge", "two.r"), SAID)):
+            told = self._run("-m2", "--budget", "100", *words, "two.r", "still.r").stderr
+            wrong += [] if told == said else [f"{words}: {told}"]
+        return wrong + self._refused("tune: there is no robot to play against\n", "--judge", "two.r", "two.r", "still.r")
 
     def a_robot_that_is_edited_meanwhile(self) -> list[str]:
         """What is played, and written, is what was read first: here the first match edits the robot."""

@@ -119,10 +119,10 @@ def mistakes() -> list[Mistake]:
     found, sources = [], {}
     for command, output in re.findall(r"^\$ (.*)\n((?:(?!\$ |```).*\n)*)", text, re.MULTILINE):
         if made := re.fullmatch(r"printf '(.*)' > (\S+)", command):
-            sources[made[2]] = made[1].replace("\\n", "\n").encode("ascii")
+            sources[made[2]] = made[1].replace("\\n", "\n").replace("%%", "%").encode()
         elif (asked := re.fullmatch(r"crobots-why ((?:-\S+ )*)(\S+)", command)) and output and "--all" not in asked[1]:
             told = re.sub(rf"^(?:.* for want of room\n|{re.escape(asked[2])}:)", "", output, flags=re.MULTILINE)
-            found.append(Mistake(sources[asked[2]], 2 if "-p2" in asked[1] else 1, told.encode("ascii"), "--lint" in asked[1]))
+            found.append(Mistake(sources[asked[2]], 2 if "-p2" in asked[1] else 1, told.encode(), "--lint" in asked[1]))
     return found
 
 

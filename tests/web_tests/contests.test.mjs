@@ -11,7 +11,7 @@ const load = name => import(pathToFileURL(path.join(process.env.CROBOTS_WEB, `${
 const {Trials, opponentsOf, playedOf} = await load("trials");
 const {contestOf, matchesOf} = await load("contests");
 const {sweepOf, matchesOf: matchesOfSweep} = await load("sweeps");
-const {Bench, STOPPED} = await load("calling");
+const {Bench, Caller: CallerOfWorker, STOPPED} = await load("calling");
 globalThis.CROBOTS_HASH = (await load("hashes")).hashOf;
 
 const SETTINGS = {limit: 1000, profile: 2, seed: "7"};
@@ -230,4 +230,31 @@ test("a bench starts its engine when it is needed, and does one thing at a time"
     bench.stop();
     assert.deepEqual([made.length, made[0].stops], [1, 1]);
     await assert.rejects(second.call("d"), {message: STOPPED});
+});
+
+test("what is asked for ahead is asked for once, and its answer is taken by the first that asks for just that", async () => {
+    const workers = [];
+    globalThis.Worker = class {
+        constructor() {
+            this.calls = [];
+            workers.push(this);
+        }
+
+        postMessage({call}) {
+            this.calls.push(...call ? [call] : []);
+        }
+
+        terminate() {}
+    };
+    const caller = new CallerOfWorker("address", []);
+    caller.askAhead("windows", {limit: 5, seed: "1"}, FACES);
+    const asked = [caller.call("windows", {limit: 5, seed: 1n}, FACES), caller.call("windows", {seed: "1", limit: 5}, FACES),
+        caller.call("windows", {seed: "1", limit: 5}, FACES)];
+    assert.deepEqual(workers[0].calls, ["windows", "windows", "windows"]);
+    ["ahead", "another", "again"].forEach((result, at) => workers[0].onmessage({data: {number: at + 1, result}}));
+    assert.deepEqual(await Promise.all(asked), ["another", "ahead", "again"]);
+    caller.askAhead("film", {}, FACES);
+    caller.stop();
+    caller.call("film", {}, FACES);
+    assert.deepEqual(workers[1].calls, ["film"]);
 });

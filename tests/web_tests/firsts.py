@@ -20,6 +20,9 @@ BOXES = """const film = document.getElementById('film'), top = film.getBoundingC
 WATCH = """if (top === window) { const look = () => { const player = document.getElementById('film')?.contentWindow?.player;
     if (player?.isPlaying && player.cycle > player.match.first) window.firstMoved = performance.now(); else requestAnimationFrame(look); };
     document.addEventListener('DOMContentLoaded', look); }"""
+# the editor's script doesn't come
+NO_EDITOR = """const append = Element.prototype.append;
+    Element.prototype.append = function (...parts) { if (!parts[0]?.src?.endsWith('/codemirror.js')) append.apply(this, parts); }"""
 # the most milliseconds until then, on a processor that is slowed down four times; of some openings the fastest counts
 MOST, SLOWDOWN, OPENINGS = 1000, 4, 12
 MOVER = ("mover.r", b"main() { while (1) drive(90, 50); }")
@@ -155,6 +158,17 @@ def soon(page: Page) -> list[str]:
     return [] if least <= as_loaded(MOST) else [f"the first match moves after {least:.0f} ms"]
 
 
+def before_the_editor(page: Page) -> list[str]:
+    """The first match plays even while the editor doesn't load, and Run is there."""
+    page.forget()
+    with page.before(NO_EDITOR):
+        page.driver.get(page.address)
+        page.wait(MOVES)
+        page.run()
+        report, mirrors = page.text("report"), page.js("return document.querySelectorAll('.CodeMirror').length")
+    return [] if report.startswith("Match 1: ") and not mirrors else [f"{report[:80]} {mirrors}"]
+
+
 def samples_are_there(page: Page) -> list[str]:
     """The robots of the match are those in the tabs."""
     page.fresh()
@@ -167,7 +181,7 @@ SHOWN: dict[str, Callable[[Page], list[str]]] = {
     "in sight": in_sight, "drawers": drawers, "a robot that beats it": beat, "at once": at_once, "by a link": by_link, "a link that is faulty": faulty_link,
     "coming back": back, "its robots": samples_are_there,
 }
-DRIVEN: dict[str, Callable[[Page], list[str]]] = {"no motion": calm, "soon": soon}
+DRIVEN: dict[str, Callable[[Page], list[str]]] = {"no motion": calm, "before the editor": before_the_editor, "soon": soon}
 
 
 def results(page: Page, is_chromium: bool = False) -> Iterator[tuple[str, list[str]]]:

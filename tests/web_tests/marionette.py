@@ -14,6 +14,8 @@ from typing import Any, Iterator
 
 # for an answer, and for the browser's start on a machine that has much else to do
 SECONDS, SECONDS_OF_A_START = 180, 300
+# what the browser says of a key that nothing got, and how often it is pressed again
+LOST_KEY, TRIES, SECONDS_BETWEEN = "NS_ERROR_FAILURE", 5, 0.1
 # a window is no narrower, so a narrower page is shown magnified by one of these
 LEAST_WIDTH, SCALES = 500, (1, 1.5, 2)
 ELEMENT = "element-6066-11e4-a52e-4f735466cecf"
@@ -121,9 +123,22 @@ class Firefox:
         self.ask("WebDriver:SwitchToFrame")
 
     def perform(self, actions: list[dict[str, Any]]) -> None:
-        """Does what pointers do."""
-        self.ask("WebDriver:PerformActions", actions=actions)
+        """Does what pointers do, or keys: of these one after another."""
+        keys = [{**it, "actions": [step]} for it in actions if it["type"] == "key" for step in it["actions"]]
+        for some in [[it] for it in keys] or [actions]:
+            self._perform(some)
         self.ask("WebDriver:ReleaseActions")
+
+    def _perform(self, actions: list[dict[str, Any]]) -> None:
+        """Does it once more if the browser says that it didn't: it loses a key while it hands the focus from frame to frame."""
+        for tried in range(1, TRIES + 1):
+            try:
+                self.ask("WebDriver:PerformActions", actions=actions)
+                return
+            except RuntimeError as why:
+                if tried == TRIES or LOST_KEY not in str(why):
+                    raise
+                time.sleep(SECONDS_BETWEEN)
 
     def quit(self) -> None:
         """Ends the browser."""

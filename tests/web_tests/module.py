@@ -425,7 +425,9 @@ def results(crobots: str, stages: str, folder: str) -> Iterator[tuple[str, list[
     """The tests' names, and what is wrong."""
     yield "parts of the page", units()
     yield "short scripts", slimmed.wrong()
-    yield "short names", slimmed.wrong_names(folder)
+    yield "short names", slimmed.wrong_names()
+    yield "hashes of what is started", slimmed.wrong_hashes(folder)
+    yield "deflating", slimmed.wrong_deflating()
     yield "size", size(folder)
     yield "blocks of any bytes", any_blocks(folder)
     yield "samples", differing(crobots, folder, sample_battles())

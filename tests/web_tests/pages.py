@@ -25,6 +25,21 @@ from .battles import Battle
 SECONDS = 180
 
 
+# counts the pictures since the layout was another one
+STANDS_STILL = """window.pictures = 0; let before = "";
+const look = () => {
+    const edges = [innerWidth, innerHeight, document.documentElement.scrollHeight, ...[...document.querySelectorAll("iframe")].flatMap(it => {
+        const {top, width, height} = it.getBoundingClientRect();
+        return [top + scrollY, width, height, it.contentDocument?.documentElement?.scrollHeight];
+    })].join();
+    window.pictures = edges === before ? window.pictures + 1 : 0;
+    before = edges;
+    if (window.pictures < 10) requestAnimationFrame(look);
+};
+requestAnimationFrame(look);"""
+PICTURES = 4
+
+
 def as_loaded(limit: float) -> float:
     """A limit of a time that holds on a machine with nothing else to do, on this one: more if it has more to do than it can at once."""
     return limit * max(1, os.getloadavg()[0] / (os.cpu_count() or 1))
@@ -152,9 +167,9 @@ class Page:
         """Runs code in the page."""
         return self.driver.execute_script(code, *words)
 
-    def wait(self, code: str, *words: Any) -> Any:
+    def wait(self, code: str, *words: Any, seconds: float = SECONDS) -> Any:
         """Waits until code answers something."""
-        end = time.monotonic() + SECONDS
+        end = time.monotonic() + seconds
         while time.monotonic() < end:
             found = self.js(code, *words)
             if found:
@@ -246,11 +261,17 @@ class Page:
         if self.driver.name == "chrome":
             self.driver.execute_cdp_cmd("Emulation.setDeviceMetricsOverride",
                                         {"width": width, "height": height, "deviceScaleFactor": 1, "mobile": False})
-            return
-        self.driver.set_window_size(width, height)
-        around = self.js("return outerHeight - innerHeight")
-        self.driver.set_window_size(width, height + around)
-        self.wait("return Math.abs(innerWidth - arguments[0]) <= 2 && Math.abs(innerHeight - arguments[1]) <= 2", width, height)
+        else:
+            self.driver.set_window_size(width, height)
+            around = self.js("return outerHeight - innerHeight")
+            self.driver.set_window_size(width, height + around)
+            self.wait("return Math.abs(innerWidth - arguments[0]) <= 2 && Math.abs(innerHeight - arguments[1]) <= 2", width, height)
+        self.settle()
+
+    def settle(self) -> None:
+        """Waits until the layout stands still: of the window and of each frame in it, for some pictures one after another."""
+        self.js(STANDS_STILL)
+        self.wait("return window.pictures >= arguments[0]", PICTURES)
 
     def whole_window(self) -> None:
         """Gives the window back its size."""

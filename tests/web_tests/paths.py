@@ -6,6 +6,7 @@ has who goes how. Each browser walks three of them; with CROBOTS_PATHS=all all t
 
 from __future__ import annotations
 
+import contextlib
 import os
 import time
 from dataclasses import dataclass
@@ -16,6 +17,8 @@ from .pages import Page, fragment
 
 LAPTOP, PHONE, SCREEN = (1366, 651), (360, 640), (1920, 1000)
 MOST_TABS = 200
+# how many keys a driver may lose, and how long a film takes to do what a key says
+MOST_LOST, SECONDS_OF_A_PRESS = 2, 10
 FRIEND = "main() { while (1) drive(30, 40); }"
 MINE = "/* mine */"
 # keys as the protocol of drivers has them
@@ -124,8 +127,17 @@ class Reader:
                                     "return [Math.round(box.left + it.left + it.width / 2), Math.round(box.top + it.top + it.height / 2), innerHeight]", name)
         return x, y, height
 
-    def press_in_film(self, name: str, key: str) -> None:
-        """Presses a button of the film, or its key."""
+    def press_in_film(self, name: str, key: str, is_done: str) -> None:
+        """Presses a button of the film, or its key, until that is done. A driver may lose the first key after the focus went to a frame."""
+        for _ in range(MOST_LOST if self.has_keys else 0):
+            self._press_in_film(name, key)
+            with contextlib.suppress(TimeoutError):
+                self.page.wait(f"return {is_done}", seconds=SECONDS_OF_A_PRESS)
+                return
+        self._press_in_film(name, key)
+        self.page.wait(f"return {is_done}")
+
+    def _press_in_film(self, name: str, key: str) -> None:
         if self.has_keys:
             self.page.driver.switch_to.frame(0)
             self.write(key)
@@ -206,8 +218,9 @@ def watch_the_hit(reader: Reader) -> None:
     _, place, height = reader.place_in_film("#hit-after")
     if place > height:
         raise TimeoutError(f"the buttons of the film are at {place}, below {height}")
-    reader.press_in_film("#robots .number", "1")
-    reader.press_in_film("#hit-after", "n")
+    player = "document.getElementById('film').contentWindow.player"
+    reader.press_in_film("#robots .number", "1", f"{player}.chosen === 1")
+    reader.press_in_film("#hit-after", "n", f"{player}.cycle > 0 && !{player}.isPlaying")
     page.wait("return /^[\\d,]+\\s*1\\) hunter.r loses \\d+% to robot 2$/.test("
               "document.getElementById('film').contentDocument.querySelector('#events li').innerText.replaceAll('\\n', ' ').trim())")
 

@@ -123,8 +123,11 @@ def reloaded(page: Page, _folder: str) -> list[str]:
 
 
 def in_sight(page: Page, _folder: str) -> list[str]:
-    """At each size of a window the field, the play button and Run are in sight at once, and the menu of speeds is beside them."""
+    """At each size of a window the field, the play button and Run are in sight at once, and the menu of speeds is beside them; also below
+    a notice with a way back to one's own robots."""
     page.size(*SIZES[0])
+    page.fresh()
+    page.write("main() { drive(1, 1); }")
     page.show(Battle(samples()[:2], Settings(limit=3_000)))
     page.watch(1)
     wrong = []

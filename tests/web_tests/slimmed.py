@@ -1,22 +1,27 @@
-"""Tests of what makes the page's scripts short: comments and needless blanks go, variables of the editor's scripts get short names,
-and nothing else changes."""
+"""Tests of what makes the page small: of scripts comments and needless blanks go, variables get short names, and nothing else changes;
+the module is deflated into fewer bytes than by zlib, which reads them."""
 
 from __future__ import annotations
 
 import os
+import random
 import subprocess
 import sys
-from typing import Callable
+import tempfile
+import zlib
+from typing import Callable, Iterator
 
-sys.path.insert(0, os.path.join(os.path.dirname(os.path.abspath(__file__)), "..", "..", "scripts"))
+HERE = os.path.dirname(os.path.abspath(__file__))
+sys.path.insert(0, os.path.join(HERE, "..", "..", "scripts"))
 
 from harness import skip  # noqa: E402
 from packages import lacking  # noqa: E402
-from webs.laying import EDITOR, EDITOR_FILES  # noqa: E402
+from webs.deflating import DISTANCES, LENGTHS, deflated, distance_class  # noqa: E402
+from webs.laying import EDITOR, EDITOR_FILES, scripts, slim, small  # noqa: E402
 from webs.renaming import renamed  # noqa: E402
 from webs.slimming import Unclear, short, short_style  # noqa: E402
 
-OTHER = "uglifyjs"
+NODE, TYPES = "node", "tsc"
 
 CASES = {
     "blanks": ("let a  =  b + 1 ;\n", "let a=b+1;"),
@@ -35,6 +40,7 @@ CASES = {
     "a quotient of an expression": ("a = b / /c  d/", "a=b/ /c  d/"),
     "a number's part": ("1 .toFixed( 2 ); a . b", "1 .toFixed(2);a.b"),
     "templates": ("f( `a  ${ b + `  c  ` + { d } }  // e` ); // f", "f(`a  ${ b + `  c  ` + { d } }  // e`);"),
+    "a template in a template": ("f( `${ a(({b}) => `  ${b}  `) }  c`  );", "f(`${ a(({b}) => `  ${b}  `) }  c`);"),
     "a template's escapes": ("f( `\\`  ${ '}' }  \\${ ` );", "f(`\\`  ${ '}' }  \\${ `);"),
     "letters": ("let größe = 1 ; $a = this . #b", "let größe=1;$a=this.#b"),
 }
@@ -43,31 +49,54 @@ STYLES = {
     "comments": ("/* a; */ b { c: d; /* e\n */ f: g }", " b{c: d; f: g}"),
     "texts": ("a::after { content: \" ;  } /* b */\"; c: ' { ' }", "a::after{content: \" ;  } /* b */\";c: ' { '}"),
 }
-# The first names are e, t, n and a: the earlier ones for what is named more often, and then for what is declared first.
+# The first names are e, t, n, a and i, for what is declared first; a name is taken again where its variable isn't named.
 NAMES = {
     "variables of a function": ("function f(one,two){var three=one;return two+three}", "function f(e,t){var n=e;return t+n}"),
-    "the more frequent first": ("function f(one,two){two(two(one))}", "function f(t,e){e(e(t))}"),
     "names of all": ("function f(one){return e(one,t.n)}", "function f(n){return e(n,t.n)}"),
     "members": ("function f(one){return{one:one,'two':one.one,3:{one:one}}}", "function f(e){return{one:e,'two':e.one,3:{one:e}}}"),
     "functions within": ("function f(one){return function(two){var three;return one(two,three)}}",
                          "function f(e){return function(t){var n;return e(t,n)}}"),
     "functions side by side": ("(function(one){one()});(function(two){two()})", "(function(e){e()});(function(e){e()})"),
-    "the same name within": ("function f(one){return function(){var one=1;return one}}", "function f(t){return function(){var e=1;return e}}"),
+    "a name that is free within": ("function f(one){return function(two,three){return three}}", "function f(e){return function(e,t){return t}}"),
+    "a name that is needed further within": ("function f(one){return function(two){return function(){one()}}}",
+                                             "function f(e){return function(t){return function(){e()}}}"),
+    "the same name within": ("function f(one){return function(){var one=1;return one}}", "function f(e){return function(){var e=1;return e}}"),
     "a value's name": ("x=function own(one){return own(own)}", "x=function e(t){return e(e)}"),
     "a statement's name": ("function f(){function one(){}\none(one)}", "function f(){function e(){}\ne(e)}"),
     "use before the declaration": ("function f(){one(two);var two;function one(){}}", "function f(){t(e);var e;function t(){}}"),
     "lists": ("function f(){var one=one(one,x),two=[one,y],three;return z,one}", "function f(){var e=e(e,x),t=[e,y],n;return z,e}"),
     "a line's end": ("function f(){var one=x\ny,z}", "function f(){var e=x\ny,z}"),
     "a loop over names": ("function f(one){for(var two in one,x)two()}", "function f(e){for(var t in e,x)t()}"),
-    "a caught fault": ("function f(one){try{one()}catch(e){one(e)}}", "function f(t){try{t()}catch(e){t(e)}}"),
+    "a caught fault": ("function f(one){try{one()}catch(two){let three;one(two)}try{}catch{one()}}",
+                       "function f(e){try{e()}catch(t){let n;e(t)}try{}catch{e()}}"),
     "labels": ("function f(one){{out:for(;one;){if(one){break out}}}}", "function f(e){{out:for(;e;){if(e){break out}}}}"),
     "conditions": ("function f(one,two){switch(one){case two:{x({two:one?{two:one}:one})}}}",
                    "function f(e,t){switch(e){case t:{x({two:e?{two:e}:e})}}}"),
     "texts": ("function f(one){return'one'+/one/.one(one)}", "function f(e){return'one'+/one/.one(e)}"),
     "words": ("function f(it){return it.in.it,it in it}", "function f(e){return e.in.it,e in e}"),
+    "arrows": ("x=one=>async(two,three)=>two?one:{one};one()", "x=e=>async(t,n)=>t?e:{one:e};one()"),
+    "an arrow's body": ("x=(one,two=three=>one)=>{const four=two;y(four)}", "x=(e,t=t=>e)=>{const n=t;y(n)}"),
+    "blocks": ("function f(one){{let two=one;{const one=two}}one()}", "function f(e){{let t=e;{const e=t}}e()}"),
+    "a variable of all the function": ("function f(one){{var two=one}two()}", "function f(e){{var t=e}t()}"),
+    "patterns": ("function f({one,two:three,...four},[five,,six=one]){}", "function f({one:e,two:t,...n},[a,,i=e]){}"),
+    "a pattern's values": ("function f(one){const{two=one,[one]:three}=x;two=three}", "function f(e){const{two:t=e,[e]:n}=x;t=n}"),
+    "objects": ("function f(one){return{one,two(){},get three(){return one},[one]:one,...one,async*four(five){}}}",
+                "function f(e){return{one:e,two(){},get three(){return e},[e]:e,...e,async*four(e){}}}"),
+    "a pattern that declares nothing": ("function f(one,two){({one,three:two=3}=x);[one,two]=[two,one]}",
+                                        "function f(e,t){({one:e,three:t=3}=x);[e,t]=[t,e]}"),
+    "classes": ("class A extends B{#one=1;two=x=>x\nthree;static async four(one){this.#one=one}get five(){}}",
+                "class A extends B{#one=1;two=e=>e\nthree;static async four(e){this.#one=e}get five(){}}"),
+    "a class within": ("function f(){class One{}return class Two extends One{make(){return new Two}}}",
+                       "function f(){class e{}return class t extends e{make(){return new t}}}"),
+    "templates": ("function f(one){return`one ${one+`$${one}`} {one} \\${one}`}", "function f(e){return`one ${e+`$${e}`} {one} \\${one}`}"),
+    "loops": ("function f(one){for(const[two,three]of one.of){two()}for(const four of one)one(four)}",
+              "function f(e){for(const[t,n]of e.of){t()}for(const t of e)e(t)}"),
+    "what may be lacking": ("function f(one){return one?.5:one?.one??one?.[one]}", "function f(e){return e?.5:e?.one??e?.[e]}"),
 }
-UNKNOWN = ("x=>x", "`a`", "let x", "class A{}", "f(...x)", "x={x}", "x={get y(){}}", "x={[y]:1}", "function f(x=1){}", "function f({x}){}",
-           "with(x){}", "eval(x)", "(", ")", "f(]")
+UNKNOWN = ("with(x){}", "eval(x)", "import(x)", "import.meta", "function*f(){yield 1}", "class A{static{}}", "for(const x of y)if(x)z();",
+           "function f({1}){}", "x={1}", "1=>x", "(", ")", "f(]")
+# what a script looks like in which a variable is another one
+SLIP = ("function f(first,second){return third=>first(second,third,third)}", "function f(e,t){return n=>e(t,n,t)}")
 UNCLEAR = {"a template": "`a", "an expression": "x = /a", "a text": "'a"}
 
 
@@ -80,28 +109,41 @@ def refuses(script: str, make: Callable[[str], str] = short) -> bool:
     return False
 
 
-def mangled(text: str) -> str:
-    """A script as another program makes it short."""
-    return subprocess.run([OTHER, "--mangle"], input=text, capture_output=True, text=True, check=True).stdout
-
-
 def text_of(*path: str) -> str:
     """The text of a file."""
     with open(os.path.join(*path), encoding="utf-8") as file:
         return file.read()
 
 
-def wrong_names(folder: str) -> list[str]:
-    """What is wrong with names. Another program, which gives short names too, has to make the same of the editor's scripts as they are
-    installed and as the page has them."""
-    differing = [f"{name}: {renamed(before)!r}, not {after!r}" for name, (before, after) in NAMES.items() if renamed(before) != after]
-    differing += [f"{script!r} gets names" for script in UNKNOWN if not refuses(script, renamed)]
-    scripts = [name for name in EDITOR_FILES if name.endswith(".js") and os.path.isdir(EDITOR)]
-    if why := lacking([OTHER]):
-        skip("the editor's scripts by another program", why)
-        return differing
-    return differing + [f"{name} is another script" for name in scripts
-                        if mangled(text_of(EDITOR, name)) != mangled(text_of(folder, "codemirror", os.path.basename(name)))]
+def differing(pairs: list[tuple[str, str]]) -> list[str]:
+    """What another program, which reads types, finds of pairs of scripts: the first name of each that means something else."""
+    with tempfile.TemporaryDirectory() as place:
+        rows = []
+        for number, pair in enumerate(pairs):
+            paths = [os.path.join(place, f"{number}{side}.js") for side in "ab"]
+            for path, script in zip(paths, pair):
+                with open(path, "w", encoding="utf-8") as file:
+                    file.write(script)
+            rows.append("\t".join(paths))
+        ran = subprocess.run([NODE, os.path.join(HERE, "bindings.mjs")], input="\n".join(rows), capture_output=True, text=True, check=True)
+    return ran.stdout.splitlines()
+
+
+def wrong_scripts() -> list[str]:
+    """What is wrong with the scripts of the page and of the editor: each name has to mean what it meant."""
+    if why := lacking([NODE, TYPES]):
+        skip("what names mean in scripts that are made short", why)
+        return []
+    editor = [text_of(EDITOR, name) for name in EDITOR_FILES if name.endswith(".js") and os.path.isdir(EDITOR)]
+    pairs = [*((script, small(script)) for script in scripts().values()), *((script, slim(script)) for script in editor)]
+    found = differing([*pairs, *NAMES.values(), SLIP])
+    return [*filter(None, found[:-1]), *([] if found[-1] else ["a slip isn't seen"])]
+
+
+def wrong_names() -> list[str]:
+    """What is wrong with names."""
+    cases = [f"{name}: {renamed(before)!r}, not {after!r}" for name, (before, after) in NAMES.items() if renamed(before) != after]
+    return cases + [f"{script!r} gets names" for script in UNKNOWN if not refuses(script, renamed)] + wrong_scripts()
 
 
 def wrong() -> list[str]:
@@ -109,3 +151,59 @@ def wrong() -> list[str]:
     differing = [f"{name}: {short(before)!r}, not {after!r}" for name, (before, after) in CASES.items() if short(before) != after]
     differing += [f"{name}: {short_style(before)!r}, not {after!r}" for name, (before, after) in STYLES.items() if short_style(before) != after]
     return differing + [f"{name} is made short" for name, script in UNCLEAR.items() if not refuses(script)]
+
+
+# What the scripts of a folder leave, as the page's start looks at it, and the hashes of that.
+HASHES = """const {readFileSync} = require("node:fs"), {createHash} = require("node:crypto"), {inflateRawSync} = require("node:zlib");
+const text = name => readFileSync(`${process.argv[1]}/${name}.js`, "utf8"), hash = it => createHash("sha256").update(it).digest("hex");
+["data", "page"].forEach(name => (0, eval)(text(name)));
+const parts = [JSON.stringify(CROBOTS), String(CROBOTS_PAGE), inflateRawSync(Buffer.from(CROBOTS.module, "base64"))];
+console.log(parts.map(hash).filter(it => text("start").includes(it)).length);"""
+
+
+def wrong_hashes(folder: str) -> list[str]:
+    """What is wrong if the script that starts the page has other hashes than those of its data, its function and its module."""
+    ran = subprocess.run([NODE, "-e", HASHES, folder], capture_output=True, text=True, check=False)
+    return [] if ran.stdout == "3\n" else [f"{ran.stdout}{ran.stderr[-300:]}"]
+
+
+# The first values of some classes, and how many bits they have, as RFC 1951 has them in 3.2.5: of lengths and of distances.
+OF_LENGTHS = {0: (3, 0), 7: (10, 0), 8: (11, 1), 12: (19, 2), 22: (99, 4), 24: (131, 5), 27: (227, 5), 28: (258, 0)}
+OF_DISTANCES = {0: (1, 0), 3: (4, 0), 4: (5, 1), 15: (193, 6), 16: (257, 7), 17: (385, 7), 28: (16385, 13), 29: (24577, 13)}
+SEEDS = range(15)
+
+
+def drawn(seed: int) -> bytes:
+    """Bytes of all kinds, one after another: few letters, all letters, one again and again, copies from near and far."""
+    draw = random.Random(seed)
+    made = bytearray()
+    for _ in range(draw.randrange(1, 9)):
+        letters, size = draw.choice((1, 2, 5, 60, 256)), draw.choice((1, 3, 40, 700))
+        made += bytes(draw.randrange(letters) for _ in range(size))
+        begin = draw.randrange(len(made))
+        made += made[begin:begin + draw.choice((2, 3, 257, 258, 259, 2000))]
+    return bytes(made)
+
+
+def texts() -> Iterator[bytes]:
+    """What is deflated in tests: drawn bytes; nothing, and little; a copy from just as far as may be, and from further; and letters of
+    which each comes as often as the two before it together, whose best codes would be longer than codes may be."""
+    yield from (*map(drawn, SEEDS), b"", b"a", b"ab", b"a" * 600)
+    for far in (32768, 32769):
+        yield b"a word" + bytes(random.Random(far).choices(b"bcd", k=far - 6)) + b"a word"
+    counts = [1, 1]
+    while len(counts) < 19:
+        counts.append(counts[-1] + counts[-2])
+    yield bytes(random.Random(1).sample([letter for letter, count in enumerate(counts) for _ in range(count)], sum(counts)))
+
+
+def wrong_deflating() -> list[str]:
+    """What is wrong with what is deflated: another program has to read it; of the page's style and a script it is less than zlib makes."""
+    wrong = [f"class {at}" for at, it in OF_LENGTHS.items() if LENGTHS[at] != it] + [f"distance class {at}" for at, it in OF_DISTANCES.items() if DISTANCES[at] != it]
+    wrong += [f"distance {first}" for at, (first, _) in enumerate(DISTANCES) if (distance_class(first), at and distance_class(first - 1)) != (at, max(at - 1, 0))]
+    wrong += [f"{text[:20]!r} of {len(text)} bytes" for text in texts() if zlib.decompress(deflated(text), -15) != text]
+    for name in ("page.css", "page.js"):
+        text = text_of(HERE, "..", "..", "web", name).encode()
+        own, least = len(deflated(text)), len(zlib.compress(text, 9, wbits=-15))
+        wrong += [] if own < 0.985 * least else [f"{name}: {own}, and zlib {least}"]
+    return wrong

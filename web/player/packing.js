@@ -23,7 +23,11 @@ export async function bytesOf(stream, most = Infinity) {
 /** Returns the bytes of a text in base 64, of either alphabet. */
 function toBytes(text) {
     const binary = atob(text.replaceAll("-", "+").replaceAll("_", "/"));
-    return Uint8Array.from(binary, letter => letter.charCodeAt(0));
+    const bytes = new Uint8Array(binary.length);
+    for (let at = 0; at < bytes.length; at += 1) {
+        bytes[at] = binary.charCodeAt(at);
+    }
+    return bytes;
 }
 
 /** Returns the bytes that a text in base 64 packs, if they aren't more than `most`. */

@@ -1,0 +1,13 @@
+pub mod Behind
+pub mod Counting
+pub mod Keeping
+pub mod KnownPositions
+pub mod Moving
+pub mod Passing
+pub mod Placing
+pub mod Proceeding
+pub mod Replacing
+pub mod Shapes
+pub mod Stepping
+pub mod Turned
+pub mod Walking

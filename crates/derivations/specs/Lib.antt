@@ -1,3 +1,9 @@
+pub mod Columns
 pub mod Compiling
+pub mod KnownPositions
+pub mod Positions
+pub mod Scheme
+pub mod Stacks
 pub mod Steps
 pub mod Table
+pub mod Walks

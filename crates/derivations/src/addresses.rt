@@ -1,6 +1,11 @@
 //! The position in a source that each instruction of its program comes from.
 
-ghost use Rattle.std.specs.Prelude.{◌≡◌, ◌≤◌, ◌==◌, length, slice_get};
+ghost use Rattle.std.specs.Prelude.{◌≡◌, ◌≤◌, ◌==◌, ◌++◌, ◌∷◌, [], true, false, length, slice_get, IfSome};
+ghost use Rattle.grammar.specs.Grammar.{is_lexical_error};
+ghost use Rattle.tokens.specs.Tokens.{is_last, tokens};
+ghost use Rattle.derivations.specs.Columns.{position_in, token_positions};
+ghost use Rattle.derivations.specs.Positions.{ArePositions};
+ghost use Rattle.derivations.specs.Walks.{IsLocated, Passes, positions_next};
 
 use crate::locations::{Finder, Located};
 use crate::steps::{Automaton, StepEnd, place_of};
@@ -77,13 +82,17 @@ impl SourcePositions {
         profile: Profile,
         next: &Located,
         after: &Located,
-    ) -> bool {
+    ) -> bool
+        ensures { result ≡ true → Passes profile automaton.old self.old next.now after.now automaton.new self.new }
+    {
         let place = automaton.place();
-        for _ in 0..u64::MAX {
-            let is_kept = self.keep(automaton, profile, next);
-            if !is_kept || automaton.step(next, after) != StepEnd::Stepped {
+        for _step in 0..u64::MAX {
+            if !self.keep(automaton, profile, next) {
                 return false;
             }
+            let StepEnd::Stepped = automaton.step(next, after) else {
+                return false;
+            };
             if automaton.place() > place {
                 return true;
             }
@@ -92,48 +101,79 @@ impl SourcePositions {
     }
 
     /// Keeps the position of each instruction that the next step makes. Answers whether there was room.
-    fn keep(&mut self, automaton: &Automaton, profile: Profile, next: &Located) -> bool {
+    fn keep(&mut self, automaton: &Automaton, profile: Profile, next: &Located) -> bool
+        ensures { result ≡ true → is_lexical_error next.now.token ≡ false
+            → self.new ≡ self.old ++ positions_next profile automaton.now next.now }
+    {
         let emission = automaton.emission(&next.token);
         let place = automaton.origin(emission.origin(), next);
-        for _ in 0..emission.instructions(profile) {
-            if self.places.try_push(place).is_err() {
+        for _made in 0..emission.instructions(profile) {
+            if !self.push(place) {
                 return false;
             }
         }
         true
     }
+
+    /// Keeps the position of one more instruction. Answers whether there was room.
+    fn push(&mut self, place: SourcePosition) -> bool
+        ensures { result ≡ true → self.new ≡ self.old ++ place ∷ [] }
+    {
+        self.places.try_push(place).is_ok()
+    }
 }
 
-/// Finds the position of each instruction of a source's program in a profile, for a source that compiles. `None` if a
-/// token doesn't fit, or there are more instructions than a program has. No clause says that the list is as long as the
-/// program's code: tests do. Faults of names and levels are passed over. No memory is asked for.
+/// Finds the position of each instruction of a source's program in a profile, for a source that compiles: that of the
+/// token that its action comes from. `None` if a token doesn't fit, or there are more instructions than a program has.
+/// No clause says that the list is as long as the program's code: tests do. Faults of names and levels are passed over.
+/// No memory is asked for.
 #[inline(never)]
-pub fn lines(source: &[u8], profile: Profile) -> Option<SourcePositions> {
+pub fn lines(source: &[u8], profile: Profile) -> Option<SourcePositions>
+    ensures { IfSome result
+        (λ positions. ArePositions profile (tokens source.now) (token_positions source.now) positions) }
+{
     let mut feed = MemoryFeed::new(source, WINDOW_BYTES);
-    let mut cursor = Cursor::open(&mut feed).ok()?;
+    let Ok(mut cursor) = Cursor::open(&mut feed) else {
+        return None;
+    };
     let mut finder = Finder::new(source);
     let mut automaton = Automaton::start();
     let mut found = SourcePositions {
         places: ArrayVec::new(),
     };
     let mut next = finder.place(cursor.peek());
-    for _ in 0..MOST_SOURCE_BYTES + 2 {
+    for _token in 0..MOST_SOURCE_BYTES + 2 {
         let is_last = cursor.peek().token.is_last();
-        let after = if is_last {
-            next
-        } else {
-            finder.place(cursor.after())
-        };
+        let after = token_after(&cursor, &mut finder, &next);
         if !found.pass(&mut automaton, profile, &next, &after) {
             return None;
         }
         if is_last {
             // the final NOP comes from the end
-            found.places.try_push(place_of(&next)).ok()?;
-            return Some(found);
+            return if found.push(place_of(&next)) {
+                Some(found)
+            } else {
+                None
+            };
         }
-        cursor.advance(&mut feed).ok()?;
+        let Ok(()) = cursor.advance(&mut feed) else {
+            return None;
+        };
         next = after;
     }
     None
+}
+
+/// Returns the token after the next one: the next one itself, if it is the last.
+fn token_after(cursor: &Cursor, finder: &mut Finder<'_>, next: &Located) -> Located
+    ensures last { is_last cursor.now.next.token ≡ true → result ≡ next.now }
+    ensures other { is_last cursor.now.next.token ≡ false → IsLocated result cursor.now.after
+        (position_in finder.old.source.now finder.old.end cursor.now.after) }
+    ensures source { finder.new.source ≡ finder.old.source }
+    ensures end { is_last cursor.now.next.token ≡ false → finder.new.end ≡ cursor.now.after.end }
+{
+    if cursor.peek().token.is_last() {
+        return *next;
+    }
+    finder.place(cursor.after())
 }

@@ -2,8 +2,11 @@
 
 ghost use Rattle.std.specs.Prelude.{◌≡◌, ◌≢◌, ℕ, IfErr, IfOk, IfSome, List, Some, length};
 ghost use Rattle.derivations.specs.Compiling.{IsCompiled, IsFirstFault};
+ghost use Rattle.derivations.specs.Columns.{token_positions};
+ghost use Rattle.derivations.specs.Positions.{ArePositions};
 ghost use Rattle.parser.specs.Segment.{CountsRefusal};
 ghost use Rattle.tokens.specs.Feed.{MayRead};
+ghost use Rattle.tokens.specs.Tokens.{tokens};
 
 use crate::addresses::{SourcePositions, lines};
 use code::{Maker, Program};
@@ -41,10 +44,13 @@ pub fn compile<F: Feed>(profile: Profile, feed: &mut F) -> Result<Compiled, Pars
     Ok(Compiled { program, names })
 }
 
-/// Finds the position of each instruction of a program in the source that it was compiled from. `None` if these are not
-/// as many as the program has: that is so for another source, and tests look that it isn't for its own.
+/// Finds the position of each instruction of a program in the source that it was compiled from: that of the token that
+/// its action comes from. `None` if these are not as many as the program has: that is so for another source, and tests
+/// look that it isn't for its own.
 pub fn positions_of(program: &Program, source: &[u8]) -> Option<SourcePositions>
     ensures each { IfSome result (λ positions. length positions ≡ length program.now.instructions) }
+    ensures positions { IfSome result (λ positions.
+        ArePositions program.now.profile (tokens source.now) (token_positions source.now) positions) }
 {
     let positions = lines(source, program.profile())?;
     if positions.len() == program.instructions().len() {

@@ -1,5 +1,8 @@
 //! What a step of a derivation emits: actions, and the token that they come from.
 
+ghost use Rattle.std.specs.Prelude.{◌≡◌, ◌≤◌, length};
+ghost use Rattle.grammar.specs.Actions.{code_length};
+
 use arrayvec::ArrayVec;
 use grammar::{Action, Profile};
 
@@ -29,7 +32,11 @@ pub struct Emission {
 
 impl Emission {
     /// Makes the emission of these actions, which come from this token.
-    pub(crate) fn of(actions: &[Action], origin: Origin) -> Emission {
+    pub(crate) fn of(actions: &[Action], origin: Origin) -> Emission
+        requires { length actions.now ≤ MOST_ACTIONS }
+        ensures actions { result.actions.items ≡ actions.now }
+        ensures origin { result.origin ≡ origin }
+    {
         let mut emitted = ArrayVec::new();
         let _ = emitted.try_extend_from_slice(actions);
         Emission {
@@ -39,14 +46,20 @@ impl Emission {
     }
 
     /// Returns the actions, the first to be reported first.
-    pub fn actions(&self) -> &[Action] {
+    pub fn actions(&self) -> &[Action]
+        ensures value { result.now ≡ self.now.actions.items }
+        ensures most { length result.now ≤ MOST_ACTIONS }
+    {
         self.actions.as_slice()
     }
 
     /// Returns how many instructions the actions make in a profile.
-    pub fn instructions(&self, profile: Profile) -> usize {
+    pub fn instructions(&self, profile: Profile) -> usize
+        ensures { result ≡ code_length profile self.now.actions.items }
+    {
+        let actions = self.actions();
         let mut made = 0usize;
-        for action in self.actions() {
+        for action in actions {
             made = made.saturating_add(usize::from(action.instructions(profile)));
         }
         made
@@ -54,7 +67,9 @@ impl Emission {
 
     /// Returns the token that they come from: an operator's own, a call's name, the word of a test or of a return, a
     /// statement's semicolon, a function's closing brace.
-    pub fn origin(&self) -> Origin {
+    pub fn origin(&self) -> Origin
+        ensures { result ≡ self.now.origin }
+    {
         self.origin
     }
 }

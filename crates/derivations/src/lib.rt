@@ -9,6 +9,7 @@ mod candidates;
 mod choices;
 mod compiling;
 mod emissions;
+pub mod known;
 mod locations;
 mod scheme;
 mod source_tree;

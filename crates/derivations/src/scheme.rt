@@ -1,7 +1,15 @@
 //! The translation scheme: what each step of a derivation emits.
 
+ghost use Rattle.std.specs.Prelude.{◌≡◌, ◌≤◌, ◌∷◌, [], length, false, true};
+ghost use Rattle.grammar.specs.Grammar as table;
+ghost use Rattle.grammar.specs.Grammar.{is_lexical_error};
+ghost use Rattle.grammar.specs.Scope.{no_names};
+ghost use Rattle.grammar_laws.specs.Emission as law;
+ghost use Rattle.derivations.specs.Scheme.{blank_emitted, blank_rule, is_on_rule, known_items, origin_of};
+ghost use Rattle.derivations.specs.Table.{action_of, item_of, symbol_of};
+
 use crate::choices::operator_at;
-use crate::emissions::{Emission, Origin};
+use crate::emissions::{Emission, MOST_ACTIONS, Origin};
 use crate::symbols::{Item, Role, SemanticAction, Symbol};
 use grammar::{Action, Callee, Op, StoreOp, Var};
 use tokens::{Keyword, Punctuator, Token};
@@ -25,7 +33,10 @@ const BEGIN_FUNCTION: Action = Action::BeginFunction(0, 0);
 const END_FUNCTION: Action = Action::EndFunction(0);
 
 /// Returns what a step emits, by the item in front, the next token, and the two items after the one in front.
-pub(crate) fn emitted(front: Item, next: &Token, behind: [Option<Item>; 2]) -> Emission {
+pub(crate) fn emitted(front: Item, next: &Token, behind: [Option<Item>; 2]) -> Emission
+    ensures actions { result.actions.items ≡ blank_emitted (item_of front ∷ known_items behind) next.now }
+    ensures origin { is_lexical_error next.now ≡ false → result.origin ≡ origin_of (item_of front) }
+{
     match (front, *next) {
         (_, Token::Fault(_)) => Emission::of(&[], Origin::Next),
         (Item::Part(symbol), next) => Emission::of(on_choice(symbol, &next), Origin::Next),
@@ -39,7 +50,10 @@ pub(crate) fn emitted(front: Item, next: &Token, behind: [Option<Item>; 2]) -> E
 }
 
 /// Returns what is emitted as a tree is made.
-fn making(action: SemanticAction, behind: [Option<Item>; 2]) -> Emission {
+fn making(action: SemanticAction, behind: [Option<Item>; 2]) -> Emission
+    ensures actions { result.actions.items ≡ blank_rule (action_of action) (known_items behind) }
+    ensures origin { result.origin ≡ origin_of (table.Make (action_of action)) }
+{
     match action {
         SemanticAction::Empty => Emission::of(on_body(behind), Origin::Chosen),
         SemanticAction::Store(_) | SemanticAction::PostfixIncrement(_) => {
@@ -65,7 +79,10 @@ fn making(action: SemanticAction, behind: [Option<Item>; 2]) -> Emission {
 
 /// Returns what is emitted as a body begins, by the items after it: that of an `if`, of an `else`, of a `while`, or of
 /// a function.
-fn on_body(behind: [Option<Item>; 2]) -> &'static [Action] {
+fn on_body(behind: [Option<Item>; 2]) -> &'static [Action]
+    ensures value { result.now ≡ law.on_body (known_items behind) }
+    ensures most { length result.now ≤ MOST_ACTIONS }
+{
     let [Some(Item::Part(Symbol::Statement)), Some(after)] = behind else {
         return &[];
     };
@@ -79,7 +96,10 @@ fn on_body(behind: [Option<Item>; 2]) -> &'static [Action] {
 }
 
 /// Returns what is emitted as a symbol's production is chosen by the next token.
-fn on_choice(symbol: Symbol, next: &Token) -> &'static [Action] {
+fn on_choice(symbol: Symbol, next: &Token) -> &'static [Action]
+    ensures value { result.now ≡ law.on_choice (symbol_of symbol) next.now no_names }
+    ensures most { length result.now ≤ MOST_ACTIONS }
+{
     match (symbol, *next) {
         (Symbol::FunctionBlock, Token::Punctuator(Punctuator::OpenCurly)) => { &[BEGIN_FUNCTION] }
         (Symbol::Statement, Token::Keyword(Keyword::While)) => &[Action::BeginWhile],
@@ -96,7 +116,10 @@ fn on_choice(symbol: Symbol, next: &Token) -> &'static [Action] {
 }
 
 /// Returns what is emitted as a tree is made, other than that of a binary operator or a body.
-fn on_rule(action: SemanticAction) -> &'static [Action] {
+fn on_rule(action: SemanticAction) -> &'static [Action]
+    ensures value { is_on_rule (action_of action) ≡ true → result.now ≡ blank_rule (action_of action) [] }
+    ensures most { length result.now ≤ MOST_ACTIONS }
+{
     match action {
         SemanticAction::Negate => &[Action::ApplyBinop(Op::Subtract)],
         SemanticAction::Not => &[CONSTANT, Action::ApplyBinop(Op::Equal)],

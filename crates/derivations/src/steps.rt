@@ -1,6 +1,11 @@
 //! The leftmost derivation of a source, step by step.
 
-ghost use Rattle.std.specs.Prelude.{◌≡◌, ◌≢◌, ◌+◌};
+ghost use Rattle.std.specs.Prelude.{◌≡◌, ◌≢◌, ◌+◌, ◌-◌, ◌++◌, ◌∷◌, [], ◌<◌, ◌≤◌, ◌^◌, ℕ, drop, option_map, length, map, slice_get, take, false, true, if◌then◌else◌};
+ghost use Rattle.grammar.specs.Grammar as table;
+ghost use Rattle.grammar.specs.Grammar.{is_lexical_error};
+ghost use Rattle.derivations.specs.Positions.{Mark, chosen_items, front_mark, mark, marks_after, nowhere, origin_at, passed_after, passes_with, position_from};
+ghost use Rattle.derivations.specs.Scheme.{blank_emitted, known_items};
+ghost use Rattle.derivations.specs.Stacks.{IsMove, Moves, items_of, mark_of, marks_of, position_of};
 ghost use Rattle.derivations.specs.Steps.{decided_of, end_of, front_of, is_wanted, outcome_of, token_at};
 ghost use Rattle.derivations.specs.Table.{item_of};
 
@@ -55,7 +60,12 @@ pub(crate) struct Automaton {
 
 impl Automaton {
     /// Starts before the first token of a file.
-    pub(crate) fn start() -> Automaton {
+    pub(crate) fn start() -> Automaton
+        ensures items { items_of result.stack.items ≡ table.Part table.Source ∷ [] }
+        ensures marks { marks_of result.stack.items ≡ mark nowhere nowhere ∷ [] }
+        ensures place { result.place ≡ 0 }
+        ensures passed { result.passed ≡ nowhere }
+    {
         Automaton::over(&[Pending {
             item: Item::Part(Symbol::Source),
             chosen_at: 0,
@@ -65,7 +75,11 @@ impl Automaton {
     }
 
     /// Starts at a point at which these items are still to match, the next last.
-    fn over(items: &[Pending]) -> Automaton {
+    fn over(items: &[Pending]) -> Automaton
+        ensures stack { length items.now ≤ MOST_PENDING → result.stack.items ≡ items.now }
+        ensures place { result.place ≡ 0 }
+        ensures passed { result.passed ≡ nowhere }
+    {
         let mut stack = ArrayVec::new();
         let _ = stack.try_extend_from_slice(items);
         Automaton {
@@ -77,7 +91,9 @@ impl Automaton {
     }
 
     /// Returns how many tokens it has passed.
-    pub(crate) fn place(&self) -> usize {
+    pub(crate) fn place(&self) -> usize
+        ensures { result ≡ self.now.place }
+    {
         self.place
     }
 
@@ -90,7 +106,9 @@ impl Automaton {
 
     /// Does one step, by the next token and the one after it.
     pub(crate) fn step(&mut self, next: &Located, after: &Located) -> StepEnd
-        ensures { result ≢ StepEnd.Full → result ≡ outcome_of (front_of self.old.stack.items) next.now.token after.now.token }
+        ensures ends { result ≢ StepEnd.Full
+            → result ≡ outcome_of (front_of self.old.stack.items) next.now.token after.now.token }
+        ensures moves { result ≡ StepEnd.Stepped → Moves self.old self.new next.now after.now }
     {
         let Some(pending) = self.front() else {
             return StepEnd::Done;
@@ -98,27 +116,58 @@ impl Automaton {
         match decided(pending.item, &next.token, &after.token) {
             Move::Misfit => StepEnd::Misfit,
             Move::Replace(production) => {
-                if let Item::Part(symbol) = pending.item {
-                    let opens = enters(symbol, &next.token, &after.token);
-                    self.levels = self.levels.saturating_add(usize::from(opens));
-                }
+                self.enter(pending.item, next, after);
                 self.replace(&production, place_of(next), place_of(after))
             }
             Move::Pass(tokens) => {
-                if pending.item == Item::Close {
-                    self.levels = self.levels.saturating_sub(1);
-                }
-                if tokens > 0 {
-                    self.passed = place_of(next);
-                }
+                self.leave(pending.item);
+                self.note(tokens, next);
                 self.pass(tokens)
             }
         }
     }
 
+    /// Counts the level that the production of an item opens, if it does.
+    fn enter(&mut self, item: Item, next: &Located, after: &Located)
+        ensures stack { self.new.stack.items ≡ self.old.stack.items }
+        ensures place { self.new.place ≡ self.old.place }
+        ensures passed { self.new.passed ≡ self.old.passed }
+    {
+        if let Item::Part(symbol) = item {
+            let opens = enters(symbol, &next.token, &after.token);
+            self.levels = self.levels.saturating_add(usize::from(opens));
+        }
+    }
+
+    /// Counts the level that an item closes, if it does.
+    fn leave(&mut self, item: Item)
+        ensures stack { self.new.stack.items ≡ self.old.stack.items }
+        ensures place { self.new.place ≡ self.old.place }
+        ensures passed { self.new.passed ≡ self.old.passed }
+    {
+        if item == Item::Close {
+            self.levels = self.levels.saturating_sub(1);
+        }
+    }
+
+    /// Notes where the token is that is passed, if one is.
+    fn note(&mut self, tokens: usize, next: &Located)
+        ensures stack { self.new.stack.items ≡ self.old.stack.items }
+        ensures place { self.new.place ≡ self.old.place }
+        ensures some { 0 < tokens → self.new.passed ≡ position_of next.now }
+        ensures none { tokens ≡ 0 → self.new.passed ≡ self.old.passed }
+    {
+        if tokens > 0 {
+            self.passed = place_of(next);
+        }
+    }
+
     /// Goes past the item in front, and this many tokens.
     fn pass(&mut self, tokens: usize) -> StepEnd
-        ensures { result ≡ StepEnd.Stepped }
+        ensures end { result ≡ StepEnd.Stepped }
+        ensures stack { self.new.stack.items ≡ take (length self.old.stack.items - 1) self.old.stack.items }
+        ensures place { self.old.place + tokens < 2 ^ 64 → self.new.place ≡ self.old.place + tokens }
+        ensures passed { self.new.passed ≡ self.old.passed }
     {
         let _ = self.stack.pop();
         self.place = self.place.saturating_add(tokens);
@@ -132,25 +181,57 @@ impl Automaton {
         chosen: SourcePosition,
         after_chosen: SourcePosition,
     ) -> StepEnd
-        ensures { result ≢ StepEnd.Full → result ≡ StepEnd.Stepped }
+        ensures end { result ≢ StepEnd.Full → result ≡ StepEnd.Stepped }
+        ensures items { result ≡ StepEnd.Stepped
+            → items_of self.new.stack.items ≡ production.now ++ drop 1 (items_of self.old.stack.items) }
+        ensures marks { result ≡ StepEnd.Stepped → marks_of self.new.stack.items
+            ≡ map (λ item. mark chosen after_chosen) production.now ++ drop 1 (marks_of self.old.stack.items) }
+        ensures place { self.new.place ≡ self.old.place }
+        ensures passed { self.new.passed ≡ self.old.passed }
     {
-        let _ = self.stack.pop();
-        for item in production.items().iter().rev() {
+        self.take_front();
+        let items = production.items();
+        for i in 0..items.len() {
+            let Some(item) = from_end(items, i) else {
+                return StepEnd::Full;
+            };
             let pending = Pending {
-                item: *item,
+                item,
                 chosen_at: self.place,
                 chosen,
                 after_chosen,
             };
-            if self.stack.try_push(pending).is_err() {
+            if !self.push(pending) {
                 return StepEnd::Full;
             }
         }
         StepEnd::Stepped
     }
 
+    /// Takes the item in front away.
+    fn take_front(&mut self)
+        ensures stack { self.new.stack.items ≡ take (length self.old.stack.items - 1) self.old.stack.items }
+        ensures place { self.new.place ≡ self.old.place }
+        ensures passed { self.new.passed ≡ self.old.passed }
+    {
+        let _ = self.stack.pop();
+    }
+
+    /// Puts an item in front. Answers whether there was room.
+    fn push(&mut self, pending: Pending) -> bool
+        ensures stack { result ≡ true → self.new.stack.items ≡ self.old.stack.items ++ pending ∷ [] }
+        ensures place { self.new.place ≡ self.old.place }
+        ensures passed { self.new.passed ≡ self.old.passed }
+    {
+        self.stack.try_push(pending).is_ok()
+    }
+
     /// Returns what the next step emits, by the translation scheme.
-    pub(crate) fn emission(&self, next: &Token) -> Emission {
+    pub(crate) fn emission(&self, next: &Token) -> Emission
+        ensures actions { result.actions.items ≡ blank_emitted (items_of self.now.stack.items) next.now }
+        ensures origin { is_lexical_error next.now ≡ false
+            → result.origin ≡ origin_at (items_of self.now.stack.items) }
+    {
         match self.front() {
             Some(pending) => emitted(pending.item, next, self.behind()),
             None => Emission::of(&[], Origin::Next),
@@ -158,28 +239,76 @@ impl Automaton {
     }
 
     /// Returns the two items after the one in front.
-    fn behind(&self) -> [Option<Item>; 2] {
-        match self.stack.as_slice() {
-            [.., second, first, _] => [Some(first.item), Some(second.item)],
-            [first, _] => [Some(first.item), None],
-            _ => [None, None],
-        }
+    fn behind(&self) -> [Option<Item>; 2]
+        ensures { known_items result ≡ take 2 (drop 1 (items_of self.now.stack.items)) }
+    {
+        let others = before_last(self.stack.as_slice());
+        [last_item(others), last_item(before_last(others))]
     }
 
     /// Returns the position of the token that what the next step emits comes from.
-    pub(crate) fn origin(&self, origin: Origin, next: &Located) -> SourcePosition {
-        let front = self.front().unwrap_or_default();
+    pub(crate) fn origin(&self, origin: Origin, next: &Located) -> SourcePosition
+        ensures { result ≡ position_from origin (front_mark (marks_of self.now.stack.items)) self.now.passed
+            (position_of next.now) }
+    {
         match origin {
-            Origin::Chosen => front.chosen,
-            Origin::AfterChosen => front.after_chosen,
+            Origin::Chosen => self.chosen(),
+            Origin::AfterChosen => self.after_chosen(),
             Origin::Passed => self.passed,
             Origin::Next => place_of(next),
         }
     }
+
+    /// Returns the position of the token at which the production of the item in front was chosen.
+    fn chosen(&self) -> SourcePosition
+        ensures { result ≡ (front_mark (marks_of self.now.stack.items)).chosen }
+    {
+        match self.front() {
+            Some(pending) => pending.chosen,
+            None => SourcePosition { line: 0, column: 0 },
+        }
+    }
+
+    /// Returns the position of the token after that one.
+    fn after_chosen(&self) -> SourcePosition
+        ensures { result ≡ (front_mark (marks_of self.now.stack.items)).after_chosen }
+    {
+        match self.front() {
+            Some(pending) => pending.after_chosen,
+            None => SourcePosition { line: 0, column: 0 },
+        }
+    }
+}
+
+/// Returns the item of this index from the end.
+fn from_end(items: &[Item], i: usize) -> Option<Item>
+    requires { i < length items.now }
+    ensures { result ≡ slice_get items.now (length items.now - (i + 1)) }
+{
+    items.get(items.len() - (i + 1)).copied()
+}
+
+/// Returns a stack without its last item, the one in front.
+fn before_last(stack: &[Pending]) -> &[Pending]
+    ensures { result.now ≡ take (length stack.now - 1) stack.now }
+{
+    &stack[..stack.len().saturating_sub(1)]
+}
+
+/// Returns the last item of a stack.
+fn last_item(stack: &[Pending]) -> Option<Item>
+    ensures { result ≡ option_map (λ pending. pending.item) (front_of stack.now) }
+{
+    match stack.last() {
+        Some(pending) => Some(pending.item),
+        None => None,
+    }
 }
 
 /// Returns the position at which a token begins.
-pub(crate) fn place_of(token: &Located) -> SourcePosition {
+pub(crate) fn place_of(token: &Located) -> SourcePosition
+    ensures { result ≡ position_of token.now }
+{
     SourcePosition {
         line: token.line,
         column: token.column,
@@ -320,7 +449,8 @@ enum Move {
 
 /// Returns what a step does with an item, by the next token and the one after it.
 fn decided(item: Item, next: &Token, after: &Token) -> Move
-    ensures { end_of result ≡ decided_of (item_of item) next.now after.now }
+    ensures end { end_of result ≡ decided_of (item_of item) next.now after.now }
+    ensures does { IsMove (item_of item) next.now after.now result }
 {
     match item {
         _ if matches!(*next, Token::Fault(_)) => Move::Misfit,

@@ -2,10 +2,12 @@
 
 use crate::heads::behind_brackets;
 use crate::indices::token_at;
+use crate::meanings::Meaning;
+use crate::values::holds;
 use crate::variables::set_by;
 use crate::warnings::{Subject, Warnings};
 use derivations::{Located, Node, NodeKind, SourceTree};
-use grammar::{Callee, StoreOp, Var};
+use grammar::{Callee, Intrinsic, Op, StoreOp, Var};
 use tokens::{Keyword, Punctuator, Token};
 
 /// Warns of the `if` or `while` of a node's index.
@@ -29,6 +31,71 @@ pub fn warn_of_branch(out: &mut Warnings, subject: &Subject<'_>, index: usize, n
     {
         out.tell(node.token, words);
     }
+    if node.kind == NodeKind::While {
+        warn_of_waiting(out, subject, index, node, condition);
+    }
+}
+
+/// Warns of a loop that may wait for ever, by its condition.
+fn warn_of_waiting(
+    out: &mut Warnings,
+    subject: &Subject<'_>,
+    index: usize,
+    node: &Node,
+    condition: &Node,
+) {
+    if is_missed(subject, node.second.saturating_sub(1), condition) {
+        out.tell(
+            condition.token,
+            "perhaps this is never met exactly: write `<` or `>`",
+        );
+    } else if is_stuck(subject, index, node, condition) {
+        out.tell(
+            condition.token,
+            "a robot at a wall stands still, and waits for ever: wait by its place, or by `speed() > 0`",
+        );
+    }
+}
+
+/// Reports whether a loop waits for a speed that a robot at a wall never has, and calls nothing meanwhile.
+fn is_stuck(subject: &Subject<'_>, index: usize, node: &Node, condition: &Node) -> bool {
+    let last = node.second.saturating_sub(1);
+    let (Some(left), Some(value), NodeKind::Binary(op)) = (
+        subject.tree.get(condition.second.saturating_sub(1)),
+        subject.constants.get(last.saturating_sub(1)),
+        condition.kind,
+    ) else {
+        return false;
+    };
+    let asks_speed = matches!(
+        left.kind,
+        NodeKind::Call(Callee::Intrinsic(Intrinsic::Speed), _)
+    );
+    let goes_on = op != Op::Equal && value > 0 && holds(op, 0, value) == Some(true);
+    asks_speed && goes_on && !have_calls(subject.tree.within(node.second, index))
+}
+
+/// Reports whether one of these nodes is a call.
+fn have_calls(nodes: &[Node]) -> bool {
+    for node in nodes {
+        if matches!(node.kind, NodeKind::Call(..)) {
+            return true;
+        }
+    }
+    false
+}
+
+/// Reports whether the condition of an index waits for an exact coordinate, damage or speed.
+fn is_missed(subject: &Subject<'_>, index: usize, condition: &Node) -> bool {
+    let value = subject.constants.get(index.saturating_sub(1));
+    let meaning = subject.meanings.get(condition.second.saturating_sub(1));
+    condition.kind == NodeKind::Binary(Op::NotEqual)
+        && matches!(
+            meaning,
+            Meaning::Coordinate | Meaning::Damage | Meaning::Speed
+        )
+        && value.is_some()
+        && value != Some(0)
 }
 
 /// Warns of the body that begins at the token of an index: of a `;` alone, and of a statement after it that looks as if

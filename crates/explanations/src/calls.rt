@@ -1,9 +1,12 @@
 //! Warnings about calls: their arguments, what they answer, and those on the right of `&&` and `||`.
 
-use crate::indices::is_name;
+use crate::indices::{is_name, token_at};
+use crate::meanings::Meaning;
+use crate::steps::{leaves_gaps, only_value};
 use crate::warnings::{Said, Subject, Warnings};
 use derivations::{Body, Located, Node, NodeKind, SourceTree};
 use grammar::{Callee, Intrinsic, Op};
+use tokens::{Punctuator, Token};
 
 /// How far a shot flies at most, in metres.
 const MOST_RANGE: i32 = 700;
@@ -14,8 +17,14 @@ const MOST_SPEED: i32 = 100;
 /// The greatest resolution of a scan, in degrees.
 const MOST_RESOLUTION: i32 = 10;
 
+/// A number that is great enough to be one of 100,000ths.
+const LEAST_PARTS: i32 = 7000;
+
 /// The degrees of a whole circle.
 const CIRCLE: i32 = 360;
+
+/// The degrees of half of a quarter of it: multiples are usual degrees.
+const QUARTER: i32 = 45;
 
 /// Warns of the call of a node's index, which has this many arguments.
 pub fn warn_of_call(
@@ -33,6 +42,7 @@ pub fn warn_of_call(
         out.warn(node.token, Said::Arguments(wanted, arguments));
     } else if let Callee::Intrinsic(intrinsic) = callee {
         warn_of_pair(out, subject, index, node, intrinsic);
+        warn_of_look(out, subject, index, node, intrinsic);
     }
     if !subject.profile.short_circuit()
         && let Some(words) = on_right_side(tree, index)
@@ -41,12 +51,9 @@ pub fn warn_of_call(
     }
     if let Callee::Function(number) = callee
         && tree.is_used(index)
-        && lacks_return(tree, number)
+        && let Some(words) = on_returns(subject, number)
     {
-        out.warn(
-            node.token,
-            Said::Named(" has no `return`: its value is always 0"),
-        );
+        out.warn(node.token, Said::Named(words));
     }
 }
 
@@ -68,17 +75,20 @@ fn body_of(tree: &SourceTree, number: u8) -> Option<&Body> {
     None
 }
 
-/// Reports whether the function of this number has no `return`.
-fn lacks_return(tree: &SourceTree, number: u8) -> bool {
-    let Some(body) = body_of(tree, number) else {
-        return false;
-    };
-    for node in tree.within(body.first, body.end) {
+/// Returns what is said of a function of this number whose value is used, if it has no `return`, or one without a value.
+fn on_returns(subject: &Subject<'_>, number: u8) -> Option<&'static str> {
+    let body = body_of(subject.tree, number)?;
+    let mut found = Some(" has no `return`: its value is always 0");
+    for node in subject.tree.within(body.first, body.end) {
         if node.kind == NodeKind::Return {
-            return false;
+            let semicolon = Token::Punctuator(Punctuator::Semicolon);
+            if token_at(subject.tokens, node.token.saturating_add(1)) == semicolon {
+                return Some(" has a `return` without a value, which gives 0");
+            }
+            found = None;
         }
     }
-    true
+    found
 }
 
 /// Returns what is said of the node of an index that is on the right of `&&` or `||`, both of whose sides are always
@@ -133,13 +143,14 @@ fn warn_of_pair(
 ) {
     let last = index.saturating_sub(1);
     let before = subject.tree.first_of(last).saturating_sub(1);
-    let (Some((left, first)), Some((right, second)), Some((order, most, beyond))) = (
-        subject.valued(before),
-        subject.valued(last),
+    let (Some(left), Some(right), Some((order, most, beyond))) = (
+        subject.tree.get(before),
+        subject.tree.get(last),
         pair_of(intrinsic),
     ) else {
         return;
     };
+    let (first, second) = (only_value(subject, before), only_value(subject, last));
     // their names say that they are in the wrong order, or their values
     let is_swapped = is_named(subject.tokens, left, &OTHERS)
         && is_named(subject.tokens, right, &DEGREES)
@@ -150,7 +161,153 @@ fn warn_of_pair(
         && second > most
     {
         out.tell(node.token, beyond);
+    } else {
+        warn_of_meanings(out, subject, index, node, intrinsic);
     }
+}
+
+/// Warns of the arguments of a call that takes a degree and another value, by what they mean.
+fn warn_of_meanings(
+    out: &mut Warnings,
+    subject: &Subject<'_>,
+    index: usize,
+    node: &Node,
+    intrinsic: Intrinsic,
+) {
+    let last = index.saturating_sub(1);
+    let first = subject.tree.outermost(node.first, index);
+    if let (Some(left), Some(right)) = (subject.tree.get(first), subject.tree.get(last))
+        && matches!(left.kind, NodeKind::Fetch(_))
+        && left.kind == right.kind
+    {
+        out.tell(right.token, on_same(intrinsic));
+    }
+    if let Some(words) = on_degree(subject.meanings.get(first))
+        && let Some(argument) = subject.tree.get(first)
+    {
+        out.tell(argument.token, words);
+    }
+    if let Some(words) = on_other(intrinsic, subject.meanings.get(last))
+        && let Some(argument) = subject.tree.get(last)
+    {
+        out.tell(argument.token, words);
+    }
+}
+
+/// Returns what is said of a degree that is the other argument, too.
+fn on_same(intrinsic: Intrinsic) -> &'static str {
+    match intrinsic {
+        Intrinsic::Cannon => "this is the degree, and no range",
+        Intrinsic::Drive => "this is the degree, and no speed",
+        _ => "this is the degree, and no resolution",
+    }
+}
+
+/// Returns what is said of a value that is no degree where one is wanted.
+fn on_degree(meaning: Meaning) -> Option<&'static str> {
+    match meaning {
+        Meaning::Range => Some("this is a range, as `scan` answers it, and no degree"),
+        Meaning::Farther => Some("this comes from a range, and is no degree"),
+        Meaning::Parts => Some("this is in 100,000ths, and no degree"),
+        Meaning::Speed => Some("this is a speed, and no degree"),
+        Meaning::Damage => Some("this is a damage, and no degree"),
+        Meaning::Coordinate => Some("this is a coordinate, and no degree"),
+        Meaning::Distance => Some("this comes from a coordinate, and is no degree"),
+        // no other value surely is another one than a degree
+        _ => None,
+    }
+}
+
+/// Returns what is said of a value that surely isn't meant as the other argument of a call.
+fn on_other(intrinsic: Intrinsic, meaning: Meaning) -> Option<&'static str> {
+    match (intrinsic, meaning) {
+        (Intrinsic::Cannon, Meaning::Parts) => Some("this is in 100,000ths, and no range"),
+        (Intrinsic::Drive, Meaning::Parts) => Some("this is in 100,000ths, and no speed"),
+        (Intrinsic::Scan, Meaning::Parts) => Some("this is in 100,000ths, and no resolution"),
+        (Intrinsic::Cannon, Meaning::Speed) => Some("this is a speed, and no range"),
+        (Intrinsic::Cannon, Meaning::Damage) => Some("this is a damage, and no range"),
+        (Intrinsic::Drive, Meaning::Coordinate) => Some("this is a coordinate, and no speed"),
+        (Intrinsic::Drive, Meaning::Distance) => {
+            Some("this comes from a coordinate, and is no speed")
+        }
+        (Intrinsic::Scan, Meaning::Range) => Some("this is a range, and no resolution"),
+        (Intrinsic::Scan, Meaning::Speed) => Some("this is a speed, and no resolution"),
+        (Intrinsic::Scan, Meaning::Damage) => Some("this is a damage, and no resolution"),
+        (Intrinsic::Scan, Meaning::Coordinate) => Some("this is a coordinate, and no resolution"),
+        (Intrinsic::Scan, Meaning::Distance) => {
+            Some("this comes from a coordinate, and is no resolution")
+        }
+        _ => None,
+    }
+}
+
+/// Warns of gaps between the looks of a scan, and of a quotient that `atan` takes.
+fn warn_of_look(
+    out: &mut Warnings,
+    subject: &Subject<'_>,
+    index: usize,
+    node: &Node,
+    intrinsic: Intrinsic,
+) {
+    let (tree, constants) = (subject.tree, subject.constants);
+    if intrinsic == Intrinsic::Scan && leaves_gaps(tree, constants, index, node, MOST_RESOLUTION) {
+        out.tell(
+            node.token,
+            "there are gaps between these looks: the degree goes on by more than twice the resolution",
+        );
+    }
+    let last = index.saturating_sub(1);
+    if intrinsic == Intrinsic::Atan
+        && (is_bare_quotient(subject, index) || matches!(constants.get(last), Some(1..=99)))
+    {
+        out.tell(
+            node.token,
+            "`atan` takes 100,000ths: write `atan(100000 * y / x)`",
+        );
+    }
+    if matches!(intrinsic, Intrinsic::Sin | Intrinsic::Cos | Intrinsic::Tan)
+        && let Some(words) = on_degree(subject.meanings.get(last))
+        && let Some(argument) = tree.get(last)
+    {
+        out.tell(argument.token, words);
+    }
+}
+
+/// Reports whether the argument of a call of an index is a quotient of which nothing is multiplied, and which has no great
+/// number.
+fn is_bare_quotient(subject: &Subject<'_>, index: usize) -> bool {
+    let Some((node, None)) = subject.valued(index.saturating_sub(1)) else {
+        return false;
+    };
+    if node.kind != NodeKind::Binary(Op::Divide) {
+        return false;
+    }
+    for below in node.first..node.second {
+        let Some((part, value)) = subject.valued(below) else {
+            return false;
+        };
+        let is_great = match value {
+            Some(number) => number > LEAST_PARTS,
+            None => false,
+        };
+        if part.kind == NodeKind::Binary(Op::Multiply) || is_great {
+            return false;
+        }
+    }
+    is_place(subject, node.first, node.second)
+}
+
+/// Reports whether some of the nodes from one index to another one comes from a coordinate.
+fn is_place(subject: &Subject<'_>, first: usize, end: usize) -> bool {
+    for index in first..end {
+        if matches!(
+            subject.meanings.get(index),
+            Meaning::Coordinate | Meaning::Distance
+        ) {
+            return true;
+        }
+    }
+    false
 }
 
 /// Reports whether two arguments fit better the other way round, by the greatest second one.
@@ -159,6 +316,11 @@ fn may_be_swapped(most: i32, first: Option<i32>, second: Option<i32>) -> bool {
         (Some(first), Some(second)) if most >= CIRCLE => {
             first >= CIRCLE && first <= most && second < CIRCLE
         }
+        // a speed or a resolution that is too great: the first is a usual degree, and the second one isn't
+        (Some(first), Some(second))
+            if first % QUARTER == 0 && (second % QUARTER != 0 || second >= CIRCLE) => { false }
+        // (no resolution is 0)
+        (Some(0), Some(_)) if most == MOST_RESOLUTION => false,
         (Some(first), Some(second)) => first <= most && second > most,
         _ => false,
     }

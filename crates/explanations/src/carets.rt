@@ -2,6 +2,7 @@
 
 ghost use Rattle.std.specs.Prelude.{◌≡◌, ◌+◌, ◌<◌, ◌≤◌};
 
+use crate::letters::{shown_at, size_of, width_of};
 use crate::notes::Note;
 
 /// The most bytes of a line that are shown before the byte above the caret.
@@ -23,15 +24,47 @@ pub fn add_marked(note: &mut Note, source: &[u8], at: usize) {
     let shown = shown.get(..MOST_SHOWN).unwrap_or(shown);
     let before = marked.saturating_sub(first_shown(marked));
     note.add("    ");
-    for byte in shown {
-        note.push(char::from(printable(*byte)));
-    }
+    add_shown(note, shown);
     note.add("\n    ");
+    add_spaces(note, shown, before);
+    note.add("^\n");
+}
+
+/// Adds bytes as a terminal shows them: those of a character that it doesn't show as question marks.
+pub fn add_shown(note: &mut Note, shown: &[u8]) {
+    let mut left = 0usize;
+    for (index, byte) in shown.iter().enumerate() {
+        if left > 0 {
+            left = left.saturating_sub(1);
+            continue;
+        }
+        match shown_at(shown, index) {
+            Some(character) => {
+                note.push(character);
+                left = size_of(character).saturating_sub(1);
+            }
+            None => note.push(char::from(printable(*byte))),
+        }
+    }
+}
+
+/// Adds the spaces that are as wide as the first bytes of those that are shown.
+fn add_spaces(note: &mut Note, shown: &[u8], before: usize) {
+    let mut left = 0usize;
     for number in 0..before {
         let above = shown.get(number).copied().unwrap_or(b' ');
-        note.push(char::from(space_below(above)));
+        if left > 0 {
+            left = left.saturating_sub(1);
+            continue;
+        }
+        match shown_at(shown, number) {
+            Some(character) => {
+                note.add(if width_of(character) == 2 { "  " } else { " " });
+                left = size_of(character).saturating_sub(1);
+            }
+            None => note.push(char::from(space_below(above))),
+        }
     }
-    note.add("^\n");
 }
 
 /// Returns where the line begins that has the byte of an index.
@@ -39,7 +72,7 @@ fn line_start(source: &[u8], at: usize) -> usize {
     let before = source.get(..at).unwrap_or(source);
     let mut start = 0usize;
     for (index, byte) in before.iter().enumerate() {
-        if *byte == b'\n' {
+        if matches!(*byte, b'\n' | b'\r') {
             start = index.saturating_add(1);
         }
     }

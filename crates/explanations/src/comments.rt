@@ -1,5 +1,9 @@
 //! Comments that go further than they were meant to, or less far.
 
+use crate::notes::Note;
+use crate::warnings::{Said, Warnings};
+use derivations::Located;
+
 /// A comment.
 #[derive(Clone, Copy)]
 struct Comment<'a> {
@@ -67,6 +71,57 @@ pub fn nested(source: &[u8], at: usize) -> Option<u32> {
         comment = comment.next()?;
     }
     None
+}
+
+/// Returns the line on which a comment begins before a position that has lines of code in it, and behind them the beginning
+/// of another one: it probably wasn't meant to go so far.
+pub fn swallowing(source: &[u8], at: usize) -> Option<u32> {
+    with_code(source.get(..at)?, 1)
+}
+
+/// Returns the line of the first such comment of a text that begins on this line.
+fn with_code(text: &[u8], line: u32) -> Option<u32> {
+    let mut comment = Comment::first(text, line)?;
+    for _ in 0..text.len() {
+        if has_code(comment.inside) {
+            return Some(comment.line);
+        }
+        comment = comment.next()?;
+    }
+    None
+}
+
+/// Warns of each such comment, at the token behind it.
+pub fn warn_of_comments(out: &mut Warnings, source: &[u8], tokens: &[Located]) {
+    let (mut end, mut line) = (0usize, 1u32);
+    for (index, located) in tokens.iter().enumerate() {
+        let between = source.get(end..located.start).unwrap_or(&[]);
+        if let Some(begin) = with_code(between, line) {
+            out.warn(index, Said::Swallowing(begin));
+        }
+        end = located.end;
+        line = located.line;
+    }
+}
+
+/// Adds that the comment that begins on a line goes further than was meant.
+pub fn add_swallowing(note: &mut Note, line: u32) {
+    note.count(
+        "the comment that begins on line ",
+        u64::from(line),
+        " goes on up to the end of another one: its `*/` is missing",
+    );
+}
+
+/// Reports whether a text has a line end, behind it a `{` or a `;`, and behind that the beginning of a comment.
+fn has_code(text: &[u8]) -> bool {
+    let Some(lines) = after(text, b"\n") else {
+        return false;
+    };
+    match after(lines, b"{").or(after(lines, b";")) {
+        Some(behind) => after(behind, b"/*").is_some(),
+        None => false,
+    }
 }
 
 /// Reports whether a `*/` follows a comment without a `/*` between, and a position is before the end of that `*/`.

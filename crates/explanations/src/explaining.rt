@@ -4,12 +4,16 @@ ghost use Rattle.std.specs.Prelude.{◌≡◌, Err};
 ghost use Rattle.grammar.specs.Compiled.{compiled};
 ghost use Rattle.explanations.specs.Faults.{IsOn, first_line};
 
-use crate::carets::add_marked;
-use crate::comments::nested;
-use crate::hints::{Hint, hint_on};
+use crate::carets::{add_marked, add_shown};
+use crate::comments::{nested, swallowing};
+use crate::foreign::foreign_at;
+use crate::hints::{
+    Hint, hint_on, on_arrows, on_ended_conditions, on_headed_colons, on_prototypes,
+};
+use crate::letters::name_around;
+use crate::marks::on_character;
 use crate::misnamed::add_misnamed;
 use crate::notes::Note;
-use crate::reserved::{on_character, on_word};
 use crate::scenes::Scene;
 use crate::searches::Search;
 use crate::sizes::add_sizes;
@@ -94,6 +98,23 @@ fn add_reason(note: &mut Note, found: &Found<'_>, search: &Search<'_>) {
         | Code::TooManyFunctions
         | Code::TooMuchCode => add_limit(note, found),
     }
+    if ends_lines_by_return(found.source) {
+        note.add(
+            "  hint: the lines end in CR alone, and count as one: save the file with LF at their ends\n",
+        );
+    }
+}
+
+/// Reports whether the first line of a source ends in CR alone.
+fn ends_lines_by_return(source: &[u8]) -> bool {
+    for (index, byte) in source.iter().enumerate() {
+        match byte {
+            b'\n' => return false,
+            b'\r' => return source.get(index.saturating_add(1)) != Some(&b'\n'),
+            _ => {}
+        }
+    }
+    false
 }
 
 /// Returns a note of the first line on a diagnostic.
@@ -120,10 +141,23 @@ fn add_misfit(note: &mut Note, found: &Found<'_>, search: &Search<'_>) {
         search.derivation(),
         fits.as_slice(),
     );
-    if let Some(hint) = hint_for(found, &scene) {
+    if let Some((begin, end)) = name_of(found) {
+        note.add("  hint: a name has letters of ASCII, digits and `_` alone, and `");
+        add_shown(note, found.source.get(begin..end).unwrap_or(&[]));
+        note.add("` has others\n");
+    } else if let Some(hint) = hint_for(found, &scene) {
         note.add("  hint: ");
-        hint.add(note);
+        hint.add(note, found.source, found.tokens);
         note.push('\n');
+    }
+}
+
+/// Returns where the name begins and ends that has the character of a fault.
+fn name_of(found: &Found<'_>) -> Option<(usize, usize)> {
+    if found.code == Code::BadCharacter {
+        name_around(found.source, found.met.start)
+    } else {
+        None
     }
 }
 
@@ -133,9 +167,23 @@ fn hint_for(found: &Found<'_>, scene: &Scene<'_>) -> Option<Hint> {
     if let Some(line) = nested(found.source, found.met.start) {
         return Some(Hint::Nested(line));
     }
+    if let Some(line) = swallowing(found.source, found.met.start) {
+        return Some(Hint::Swallowing(line));
+    }
+    if let Some(hint) = on_prototypes(scene)
+        .or(on_ended_conditions(scene))
+        .or(on_arrows(scene))
+    {
+        return Some(hint);
+    }
+    if let Some(foreign) = foreign_at(scene) {
+        return Some(Hint::Foreign(foreign));
+    }
     match found.code {
-        Code::ReservedWord => Some(Hint::Text(on_word(found.source, &found.met)?)),
-        Code::BadCharacter => Some(Hint::Text(on_character(found)?)),
+        Code::BadCharacter => match on_headed_colons(scene) {
+            Some(hint) => Some(hint),
+            None => Some(Hint::Text(on_character(found, scene)?)),
+        },
         // of any other fault that has a hint here, the token doesn't fit
         _ => hint_on(scene),
     }
@@ -170,6 +218,15 @@ fn add_limit(note: &mut Note, found: &Found<'_>) {
             u64::from(MOST_SOURCE_BYTES),
             " bytes",
         ),
+        Code::TooMuchCode => add_sizes(note, found),
+        _ => add_greatest_count(note, found.code),
+    }
+    note.push('\n');
+}
+
+/// Adds how many things may be open, or may be in a file.
+fn add_greatest_count(note: &mut Note, code: Code) {
+    match code {
         Code::NestedTooDeeply => note.count(
             "at most ",
             u64::from(MOST_NESTED),
@@ -186,9 +243,7 @@ fn add_limit(note: &mut Note, found: &Found<'_>) {
         Code::TooManyFunctions => {
             note.count("a file has at most ", MOST_NAMES as u64, " functions");
         }
-        Code::TooMuchCode => add_sizes(note, found),
-        // no other fault exceeds a limit: `add_reason` asks others for these
+        // no other fault exceeds such a limit: `add_limit` has the words of the others
         _ => {}
     }
-    note.push('\n');
 }

@@ -1,10 +1,11 @@
 //! Hints on functions: one that begins inside another one, their heads, and what is outside of them.
 
-use crate::heads::{is_behind_block, is_call, is_head};
-use crate::hints::Hint;
+use crate::foreign::is_foreign;
+use crate::heads::{block_end_before, is_call, is_head};
+use crate::hints::{Hint, by_layout};
 use crate::lookalikes::meant_by;
 use crate::scenes::Scene;
-use derivations::{Item, Symbol};
+use derivations::{Item, Located, Symbol};
 use tokens::{Punctuator, Token};
 
 /// Returns the hint on a function that begins while a block is still open.
@@ -13,13 +14,19 @@ pub fn on_inner_functions(scene: &Scene<'_>) -> Option<Hint> {
     if scene.is_outside() || is_misspelled(scene, begin) || !is_head(scene.tokens, begin) {
         return None;
     }
-    Some(Hint::Text("a function can't begin inside another one: a `}` may be missing above"))
+    let words = "a function can't begin inside another one: ";
+    let open = scene.pending_at(Item::Exactly(Punctuator::CloseCurly))?;
+    let unclosed = Hint::Unclosed(words, scene.line(open));
+    Some(by_layout(scene.so_far(), true, words, unclosed))
 }
 
 /// Reports whether the token of an index is a name that is written for a word, and is nowhere else.
 fn is_misspelled(scene: &Scene<'_>, index: usize) -> bool {
     match scene.name(index) {
-        Some(name) => scene.is_lone(&name) && meant_by(name.as_bytes()).is_some(),
+        Some(name) => {
+            let is_meant = meant_by(name.as_bytes()).is_some() || is_foreign(&name);
+            scene.is_lone(&name) && is_meant
+        }
         None => false,
     }
 }
@@ -28,12 +35,24 @@ fn is_misspelled(scene: &Scene<'_>, index: usize) -> bool {
 pub fn on_outer_calls(scene: &Scene<'_>) -> Option<Hint> {
     let name = scene.pending_at(Item::Part(Symbol::FunctionBlock))?;
     let lacks_block = scene.is_behind_head() && !scene.is_mark(Punctuator::Semicolon);
-    let is_stray = is_behind_block(scene.tokens, name) && is_call(scene.tokens, name);
-    (is_stray && !lacks_block).then_some(Hint::Text(STRAY_CALL))
+    if lacks_block || !is_call(scene.tokens, name) {
+        return None;
+    }
+    on_stray_call(scene.tokens, name)
 }
 
-/// What is said of a call outside of functions, after the last of them.
-pub const STRAY_CALL: &str = "a call stands inside of a function: a `}` above may be one too many";
+/// Returns the hint on a call outside of functions, by the index of its name, if a function is above it.
+pub fn on_stray_call(tokens: &[Located], name: usize) -> Option<Hint> {
+    on_early_end(tokens, name, "a call stands inside of a function: ")
+}
+
+/// Returns the hint on what stands behind the end of a function, which may be too early, if one is above an index.
+fn on_early_end(tokens: &[Located], index: usize, words: &'static str) -> Option<Hint> {
+    let line = block_end_before(tokens, index)?;
+    let ended = Hint::Ended(words, line);
+    let so_far = tokens.get(..index).unwrap_or(tokens);
+    Some(by_layout(so_far, false, words, ended))
+}
 
 /// Returns the hint on the heads of functions.
 pub fn on_heads(scene: &Scene<'_>) -> Option<Hint> {
@@ -57,17 +76,31 @@ pub fn on_the_outside(scene: &Scene<'_>) -> Option<Hint> {
         return None;
     }
     if scene.is_mark(Punctuator::CloseCurly) {
-        return Some(Hint::Text("this `}` closes nothing: there is one too many, here or above"));
+        return Some(on_last_brace(scene));
     }
     if scene.is_mark(Punctuator::Semicolon) && scene.follows_mark(Punctuator::CloseCurly) {
         return Some(Hint::Text("no `;` stands behind the `}` of a function"));
     }
     if scene.wants(Punctuator::OpenRound) || scene.fits(&Token::End) {
-        return Some(Hint::Text(if is_behind_block(scene.tokens, scene.index) {
-            "outside functions stand declarations and functions alone: a `}` above may be one too many"
-        } else {
-            "outside functions stand declarations and functions alone: what is done stands in `main() { .. }`"
-        }));
+        return Some(on_outside(scene));
     }
     None
+}
+
+/// Returns the hint on a `}` outside of functions.
+fn on_last_brace(scene: &Scene<'_>) -> Hint {
+    let words = "this `}` closes nothing: ";
+    let ended = match block_end_before(scene.tokens, scene.index) {
+        Some(line) => Hint::Closed(line, scene.line(scene.index)),
+        None => Hint::Text("this `}` closes nothing: no `{` is above it"),
+    };
+    by_layout(scene.so_far(), false, words, ended)
+}
+
+/// Returns the hint on what stands outside functions, and is none.
+fn on_outside(scene: &Scene<'_>) -> Hint {
+    let words = "outside functions stand declarations and functions alone: ";
+    on_early_end(scene.tokens, scene.index, words).unwrap_or(Hint::Text(
+        "outside functions stand declarations and functions alone: what is done stands in `main() { .. }`",
+    ))
 }

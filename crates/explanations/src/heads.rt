@@ -1,6 +1,8 @@
 //! Heads of functions, and calls at which a head may have been meant.
 
-use crate::indices::{follows, token_at};
+use crate::indices::{follows, is_called, name_at, token_at};
+use crate::notes::Note;
+use crate::told::text_of;
 use derivations::Located;
 use tokens::{Keyword, Punctuator, Token};
 
@@ -97,14 +99,108 @@ fn may_define(token: &Token) -> bool {
     )
 }
 
-/// Reports whether a `}` is before an index.
-pub fn is_behind_block(tokens: &[Located], index: usize) -> bool {
+/// Returns the line of the last `}` before an index.
+pub fn block_end_before(tokens: &[Located], index: usize) -> Option<u32> {
+    let mut line = None;
     for located in tokens.get(..index).unwrap_or(tokens) {
         if located.token == Token::Punctuator(Punctuator::CloseCurly) {
-            return true;
+            line = Some(located.line);
         }
     }
-    false
+    line
+}
+
+/// Adds the head of the first function that is named from an index on in its line, or before it in that line, with the names
+/// of its parameters alone.
+pub fn add_head(note: &mut Note, tokens: &[Located], index: usize) {
+    let begin = match called_from(tokens, index) {
+        Some(at) => at,
+        None => line_start(tokens, index),
+    };
+    for (number, located) in line_from(tokens, begin).iter().enumerate() {
+        let at = begin.saturating_add(number);
+        if let Token::Name(name) = located.token
+            && is_called(tokens, at)
+        {
+            note.add(": write `");
+            note.add(text_of(&name));
+            note.push('(');
+            if !name.has_bytes(b"main") {
+                add_parameters(note, tokens, at);
+            }
+            return note.add(") {`");
+        }
+    }
+}
+
+/// Adds the head of the function that an arrow gives to the variable of the token of an index.
+pub fn add_arrow(note: &mut Note, tokens: &[Located], index: usize) {
+    note.add("`=>` makes no function: one stands outside of the others: write `");
+    if let Some(name) = name_at(tokens, index) {
+        note.add(text_of(&name));
+    }
+    note.push('(');
+    add_parameters(note, tokens, index.saturating_add(1));
+    note.add(") { .. }`");
+}
+
+/// Returns the index of the first name with a `(` behind it from another index on in its line.
+fn called_from(tokens: &[Located], index: usize) -> Option<usize> {
+    for number in 0..line_from(tokens, index).len() {
+        let at = index.saturating_add(number);
+        if name_at(tokens, at).is_some() && is_called(tokens, at) {
+            return Some(at);
+        }
+    }
+    None
+}
+
+/// Returns the index of the first token of the line that has the token of an index.
+fn line_start(tokens: &[Located], index: usize) -> usize {
+    let Some(wanted) = tokens.get(index) else {
+        return index;
+    };
+    for (number, located) in tokens.iter().enumerate() {
+        if located.line == wanted.line {
+            return number;
+        }
+    }
+    index
+}
+
+/// Adds the names of the parameters of a function, by the index of its name: those that a `,` or a `)` stands behind.
+fn add_parameters(note: &mut Note, tokens: &[Located], name: usize) {
+    let behind = behind_brackets(tokens, name).unwrap_or(name);
+    let mut is_first = true;
+    for at in name.saturating_add(2)..behind {
+        let ends = matches!(
+            token_at(tokens, at.saturating_add(1)),
+            Token::Punctuator(Punctuator::Comma | Punctuator::CloseRound)
+        );
+        if let Some(parameter) = name_at(tokens, at)
+            && ends
+        {
+            if !is_first {
+                note.add(", ");
+            }
+            note.add(text_of(&parameter));
+            is_first = false;
+        }
+    }
+}
+
+/// Returns the tokens of a line from an index on.
+pub fn line_from(tokens: &[Located], index: usize) -> &[Located] {
+    let rest = from(tokens, index);
+    let Some(first) = rest.first() else {
+        return rest;
+    };
+    for (number, located) in rest.iter().enumerate() {
+        if located.line != first.line {
+            return rest.get(..number).unwrap_or(rest);
+        }
+    }
+    rest
 }
 
 /// Returns the tokens from an index on.

@@ -1,11 +1,16 @@
 //! Hints on tokens that don't fit: what beginners mean by them.
 
+use crate::assigning::{add_assignments, add_declaration};
+use crate::comments::add_swallowing;
+use crate::foreign::Foreign;
 use crate::functions::{on_heads, on_inner_functions, on_outer_calls, on_the_outside};
-use crate::lookalikes::{Lookalike, meant_by};
+use crate::heads::{add_arrow, add_head, behind_brackets, line_from};
+use crate::layout::{Disagreement, first_disagreement};
+use crate::lookalikes::meant_by;
 use crate::notes::Note;
 use crate::scenes::Scene;
 use crate::told::spelling_of;
-use derivations::{Item, Role};
+use derivations::{Item, Located, Role};
 use grammar::{intrinsic_named, operator_from, store_operator};
 use tokens::{Keyword, MOST_CONSTANT_VALUE, Name, Punctuator, Token};
 
@@ -16,44 +21,135 @@ pub enum Hint {
     Text(&'static str),
     /// A line lacks a semicolon at its end.
     LacksSemicolon(u32),
-    /// The block that begins on a line isn't closed.
-    Unclosed(u32),
+    /// This text, and that the block that begins on a line isn't closed.
+    Unclosed(&'static str, u32),
+    /// This text, and that the function above ends on a line.
+    Ended(&'static str, u32),
+    /// The lines of the `}` that ends the function above, and of one that closes nothing.
+    Closed(u32, u32),
+    /// This text, and where braces and indentation disagree first.
+    Layout(&'static str, Disagreement),
     /// The comment that begins on a line ended earlier than was meant.
     Nested(u32),
+    /// The comment that begins on a line goes further than was meant.
+    Swallowing(u32),
     /// A hexadecimal number, with its value if it isn't too large.
     Hexadecimal(Option<u32>),
     /// What is perhaps meant.
     Meant(&'static str),
+    /// A construct of another language.
+    Foreign(Foreign),
+    /// This text, and the head of the first function that is named from the token of an index on in its line.
+    Head(&'static str, usize),
+    /// This text, and the declaration of the first name from the token of an index on in its line.
+    Declaration(&'static str, usize),
+    /// The head of the function that an arrow gives to the variable of the token of an index.
+    Arrow(usize),
+    /// The assignments that are meant where several variables are set at once, from the token of an index on.
+    Assignments(usize),
 }
 
 impl Hint {
-    /// Adds the hint in words.
-    pub fn add(self, note: &mut Note) {
+    /// Adds the hint in words; the tokens are the source's.
+    pub fn add(self, note: &mut Note, source: &[u8], tokens: &[Located]) {
         match self {
             Hint::Text(words) => note.add(words),
             Hint::LacksSemicolon(line) => {
                 note.count("line ", u64::from(line), " may lack a `;` at its end");
             }
-            Hint::Unclosed(line) => note.count(
-                "the block that begins on line ",
-                u64::from(line),
-                " isn't closed: a `}` is missing",
-            ),
-            Hint::Nested(line) => note.count(
-                "comments don't nest: the one that begins on line ",
-                u64::from(line),
-                " ends at its first `*/`",
-            ),
+            Hint::Meant(word) => {
+                note.add("perhaps ");
+                note.add(word);
+            }
             Hint::Hexadecimal(value) => {
                 note.add("numbers are decimal: hexadecimal ones aren't known");
                 if let Some(value) = value {
                     note.count("; write ", u64::from(value), "");
                 }
             }
-            Hint::Meant(word) => {
-                note.add("perhaps ");
-                note.add(word);
+            Hint::Foreign(foreign) => foreign.add(note, source, tokens),
+            Hint::Head(words, index) => {
+                note.add(words);
+                add_head(note, tokens, index);
             }
+            Hint::Declaration(words, index) => {
+                note.add(words);
+                add_declaration(note, source, tokens, index);
+            }
+            Hint::Arrow(index) => add_arrow(note, tokens, index),
+            Hint::Assignments(index) => add_assignments(note, source, tokens, index),
+            _ => self.add_place(note),
+        }
+    }
+
+    /// Adds a hint on where a block or a comment ends, or should.
+    fn add_place(self, note: &mut Note) {
+        match self {
+            Hint::Unclosed(words, line) => {
+                note.add(words);
+                add_unclosed(note, line);
+                note.add(": a `}` is missing, here or above");
+            }
+            Hint::Ended(words, line) => {
+                note.add(words);
+                add_end(note, line, ", where a `}` may be one too many");
+            }
+            Hint::Closed(end, line) => {
+                note.add("this `}` closes nothing: ");
+                add_end(note, end, ", and there is one too many");
+                note.count(", there or on line ", u64::from(line), "");
+            }
+            Hint::Layout(words, disagreement) => {
+                note.add(words);
+                add_disagreement(note, disagreement);
+            }
+            Hint::Nested(line) => note.count(
+                "comments don't nest: the one that begins on line ",
+                u64::from(line),
+                " ends at its first `*/`",
+            ),
+            Hint::Swallowing(line) => add_swallowing(note, line),
+            // `add` has the words of all others
+            _ => {}
+        }
+    }
+}
+
+/// Adds that the block that begins on a line isn't closed.
+fn add_unclosed(note: &mut Note, line: u32) {
+    note.count(
+        "the block that begins on line ",
+        u64::from(line),
+        " isn't closed",
+    );
+}
+
+/// Adds on which line the function above ends, and a further text.
+fn add_end(note: &mut Note, line: u32, more: &str) {
+    note.count("the function above ends on line ", u64::from(line), more);
+}
+
+/// Adds where braces and indentation disagree.
+fn add_disagreement(note: &mut Note, disagreement: Disagreement) {
+    match disagreement {
+        Disagreement::Unclosed(begin, line) => {
+            add_unclosed(note, begin);
+            note.count(
+                ": by the indentation a `}` is missing before line ",
+                u64::from(line),
+                "",
+            );
+        }
+        Disagreement::Early(line) => {
+            note.count(
+                "by the indentation the `}` on line ",
+                u64::from(line),
+                " is one too many",
+            );
+        }
+        Disagreement::Unopened(head, line) => {
+            note.count("line ", u64::from(head), " may lack a `{` at its end, or ");
+            note.count("the `}` on line ", u64::from(line), " is one too many");
         }
     }
 }
@@ -67,11 +163,15 @@ pub fn hint_on(scene: &Scene<'_>) -> Option<Hint> {
         .or(on_declarations(scene))
         .or(on_declared_names(scene))
         .or(on_operators(scene))
+        .or(on_values(scene))
         .or(on_names(scene))
         .or(on_calls(scene))
+        .or(on_own_types(scene))
+        .or(on_words_in_braces(scene))
         .or(on_heads(scene))
         .or(on_the_outside(scene))
         .or(on_conditions(scene))
+        .or(on_commas(scene))
         .or(on_operands(scene))
         .or(on_brackets(scene))
         .or(on_ends(scene))
@@ -84,11 +184,48 @@ fn on_comments(scene: &Scene<'_>) -> Option<Hint> {
     if scene.is_mark(Punctuator::Star) && is_next_slash {
         return Some(Hint::Text("this `*/` closes no comment: comments don't nest"));
     }
+    if scene.is_mark(Punctuator::Slash)
+        && scene.token(scene.index.saturating_add(1)) == Token::Punctuator(Punctuator::Star)
+    {
+        return Some(Hint::Text("a comment begins with `/*`, and ends with `*/`, without a blank"));
+    }
+    let divides = scene.touches_mark(Punctuator::Slash)
+        && matches!(
+            scene.token(scene.index.saturating_add(1)),
+            Token::Constant(_)
+        );
+    if scene.is_mark(Punctuator::Slash) && divides {
+        return Some(Hint::Text(
+            "there is no `//`: a quotient is written `/`, and is a whole number",
+        ));
+    }
     let is_next_to_slash = is_next_slash || scene.touches_mark(Punctuator::Slash);
     if scene.is_mark(Punctuator::Slash) && is_next_to_slash {
         return Some(Hint::Text("`//` begins no comment here: write `/* .. */` around it"));
     }
     None
+}
+
+/// Returns the hint on a declaration of a function, which has no block.
+pub fn on_prototypes(scene: &Scene<'_>) -> Option<Hint> {
+    if !scene.is_outside() || !matches!(scene.met(), Token::Keyword(_)) {
+        return None;
+    }
+    let name = scene.head()?;
+    let behind = behind_brackets(scene.tokens, name)?;
+    let is_ended = scene.token(behind) == Token::Punctuator(Punctuator::Semicolon);
+    is_ended.then_some(Hint::Text(
+        "a function that is defined further down needs no declaration: leave the line out",
+    ))
+}
+
+/// Returns the hint on a `do` behind a condition.
+pub fn on_ended_conditions(scene: &Scene<'_>) -> Option<Hint> {
+    let met = scene.tokens.get(scene.index)?;
+    let is_do = spelling_of(scene.source, met) == "do";
+    (is_do && scene.follows_mark(Punctuator::CloseRound)).then_some(Hint::Text(
+        "no `do` stands behind a condition",
+    ))
 }
 
 /// Returns the hint on letters that follow a number.
@@ -126,22 +263,22 @@ fn hexadecimal(digits: &[u8]) -> Option<u32> {
 /// Returns the hint on declarations: with values, of parameters in their list, and after statements.
 fn on_declarations(scene: &Scene<'_>) -> Option<Hint> {
     if scene.is_mark(Punctuator::Equals) && declares(scene) {
-        return Some(Hint::Text(
-            "a declaration gives no value: write `int a;` here, and `a = ..;` among the statements",
+        return Some(Hint::Declaration(
+            "a declaration gives no value",
+            scene.index.saturating_sub(1),
         ));
     }
     if !scene.is_word(Keyword::Type) {
         return None;
     }
     if scene.is_outside() && is_in_list(scene) {
-        return Some(Hint::Text(
-            "a list of parameters has names alone: write `f(a, b)`, and `int a, b;` behind it if you like",
-        ));
+        let head = scene.head().unwrap_or(scene.index);
+        return Some(Hint::Head("a list of parameters has names alone", head));
     }
     if scene.kinds.statement {
-        return Some(Hint::Text(
-            "declarations come first in their block: move it up, or leave it out, as a variable needs none",
-        ));
+        let words =
+            "declarations come first in their block: move it up, or leave it out, as a variable needs none";
+        return Some(by_layout(scene.so_far(), true, "", Hint::Text(words)));
     }
     if scene.follows_mark(Punctuator::Comma) && !scene.kinds.expression {
         return Some(Hint::Text("one `int` is enough: write `int a, b;`"));
@@ -188,7 +325,7 @@ fn is_in_list(scene: &Scene<'_>) -> bool {
 }
 
 /// Operators as beginners spell them: two punctuators, of which the second doesn't fit, and what is meant.
-static MISSPELLED: [(Punctuator, Punctuator, &str); 6] = [
+static MISSPELLED: [(Punctuator, Punctuator, &str); 7] = [
     (Punctuator::Less, Punctuator::Greater, "`!=` is meant"),
     (Punctuator::Equals, Punctuator::Less, "`<=` is meant"),
     (Punctuator::Equals, Punctuator::Greater, "`>=` is meant"),
@@ -198,6 +335,7 @@ static MISSPELLED: [(Punctuator, Punctuator, &str); 6] = [
         Punctuator::Equals,
         "`==` is meant",
     ),
+    (Punctuator::NotEquals, Punctuator::Equals, "`!=` is meant"),
     (Punctuator::Equals, Punctuator::Plus, "`+=` is meant"),
 ];
 
@@ -209,9 +347,15 @@ fn on_operators(scene: &Scene<'_>) -> Option<Hint> {
         }
     }
     if scene.is_mark(Punctuator::Equals) {
+        if begins_arrow(scene) {
+            return Some(Hint::Text(ARROW));
+        }
         match scene.token(scene.index.saturating_add(1)) {
             Token::Punctuator(Punctuator::Greater) => return Some(Hint::Meant("`>=` is meant")),
             Token::Punctuator(Punctuator::Less) => return Some(Hint::Meant("`<=` is meant")),
+            Token::Punctuator(Punctuator::Not) if scene.kinds.operator => {
+                return Some(Hint::Meant("`!=` is meant"));
+            }
             _ => {}
         }
     }
@@ -222,6 +366,115 @@ fn on_operators(scene: &Scene<'_>) -> Option<Hint> {
         return Some(Hint::Text("only a single name can be assigned to; to compare write `==`"));
     }
     None
+}
+
+/// Returns the hint on pointers, addresses and types of values.
+fn on_values(scene: &Scene<'_>) -> Option<Hint> {
+    let follows_type = scene.follows(&Token::Keyword(Keyword::Type));
+    if scene.is_mark(Punctuator::Star) && (follows_type || scene.kinds.statement) {
+        return Some(Hint::Text("there are no pointers: a name stands alone"));
+    }
+    if scene.is_mark(Punctuator::Greater) && scene.touches_mark(Punctuator::Minus) {
+        return Some(Hint::Text("there are no structures and no pointers: a name stands alone"));
+    }
+    if scene.is_mark(Punctuator::Equals) && scene.is_outside() && is_in_list(scene) {
+        return Some(Hint::Text(
+            "a parameter has the value that the call gives it, and no other one",
+        ));
+    }
+    if scene.is_mark(Punctuator::And) && scene.kinds.expression {
+        return Some(Hint::Text(
+            "there are no addresses: a function gives its answer back by `return`",
+        ));
+    }
+    if scene.is_word(Keyword::Type)
+        && scene.follows_mark(Punctuator::OpenRound)
+        && !scene.is_outside()
+    {
+        return Some(Hint::Text(
+            "all values are whole numbers: leave the type and its brackets out",
+        ));
+    }
+    None
+}
+
+/// Returns the hint on a `,` between statements, and between variables that are set at once.
+fn on_commas(scene: &Scene<'_>) -> Option<Hint> {
+    if !scene.is_mark(Punctuator::Comma) || !scene.wants(Punctuator::Semicolon) {
+        return None;
+    }
+    let first = scene.chosen_at();
+    Some(if first == scene.index.saturating_sub(1) {
+        Hint::Assignments(first)
+    } else if scene.token(first) == Token::Keyword(Keyword::Return) {
+        Hint::Text("a function gives back one value")
+    } else {
+        Hint::Text("a `,` joins no statements: write `;`")
+    })
+}
+
+/// Returns the hint on a `:` behind the head of a function.
+pub fn on_headed_colons(scene: &Scene<'_>) -> Option<Hint> {
+    let met = scene.tokens.get(scene.index)?;
+    let is_colon = spelling_of(scene.source, met) == ":";
+    if !is_colon || !scene.is_behind_head() {
+        return None;
+    }
+    Some(Hint::Head("no `:` stands behind the head of a function", scene.head()?))
+}
+
+/// What is said of an arrow that makes a function.
+const ARROW: &str =
+    "`=>` makes no function: one stands outside of the others, as `turn(degree) { .. }`";
+
+/// Returns the hint on a function that is given to a variable by an arrow, in the line of the token that doesn't fit.
+pub fn on_arrows(scene: &Scene<'_>) -> Option<Hint> {
+    let line = scene.line(scene.index);
+    for (index, located) in scene.tokens.iter().enumerate() {
+        let equals = index.saturating_add(1);
+        if located.line == line
+            && scene.name(index).is_some()
+            && scene.token(equals) == Token::Punctuator(Punctuator::Equals)
+            && let Some(behind) = behind_brackets(scene.tokens, equals)
+            && is_arrow(scene, behind)
+        {
+            return Some(Hint::Arrow(index));
+        }
+    }
+    None
+}
+
+/// Reports whether a `=>` begins with the token of an index.
+fn is_arrow(scene: &Scene<'_>, index: usize) -> bool {
+    scene.token(index) == Token::Punctuator(Punctuator::Equals)
+        && scene.token(index.saturating_add(1)) == Token::Punctuator(Punctuator::Greater)
+}
+
+/// Returns the hint on names alone between `{` and `}` in a line: a comment of Pascal.
+fn on_words_in_braces(scene: &Scene<'_>) -> Option<Hint> {
+    let first = scene.index.checked_sub(1)?;
+    let (_, _) = (scene.name(first)?, scene.name(scene.index)?);
+    let is_begun = scene.token(first.checked_sub(1)?) == Token::Punctuator(Punctuator::OpenCurly);
+    if !is_begun {
+        return None;
+    }
+    for located in line_from(scene.tokens, scene.index) {
+        match located.token {
+            Token::Name(_) => {}
+            Token::Punctuator(Punctuator::CloseCurly) => {
+                return Some(Hint::Text("a comment stands between `/*` and `*/`: `/* go east */`"));
+            }
+            _ => return None,
+        }
+    }
+    None
+}
+
+/// Reports whether the arrow of a function begins at the token that doesn't fit.
+fn begins_arrow(scene: &Scene<'_>) -> bool {
+    let next = scene.index.saturating_add(1);
+    scene.token(next) == Token::Punctuator(Punctuator::Greater)
+        && scene.token(next.saturating_add(1)) == Token::Punctuator(Punctuator::OpenCurly)
 }
 
 /// Returns the hint on a name that is written for a word: the one before, the one met, or that of the statement. A name
@@ -235,15 +488,30 @@ fn on_names(scene: &Scene<'_>) -> Option<Hint> {
     for index in names {
         if let Some(name) = scene.name(index) {
             match meant_by(name.as_bytes()) {
-                Some(Lookalike::Word(word)) if scene.is_lone(&name) => {
-                    return Some(Hint::Meant(word));
-                }
-                Some(Lookalike::Foreign(text)) => return Some(Hint::Text(text)),
+                Some(word) if scene.is_lone(&name) => return Some(Hint::Meant(word)),
                 _ => {}
             }
         }
     }
     None
+}
+
+/// Returns the hint on two names side by side in the place of a declaration: the first is a type of another language.
+fn on_own_types(scene: &Scene<'_>) -> Option<Hint> {
+    let before = scene.index.checked_sub(1)?;
+    let ends = matches!(
+        scene.token(scene.index.saturating_add(1)),
+        Token::Punctuator(Punctuator::Equals | Punctuator::Semicolon)
+    );
+    let (first, _) = (scene.name(before)?, scene.name(scene.index)?);
+    let is_on_line = scene.line(before) == scene.line(scene.index);
+    if !ends || !is_on_line || scene.chosen_at() != before || !scene.is_lone(&first) {
+        return None;
+    }
+    Some(Hint::Declaration(
+        "there are no types of your own, and a declaration begins with `int`",
+        scene.index,
+    ))
 }
 
 /// Returns the hint on an intrinsic function that is called without brackets.
@@ -267,12 +535,32 @@ fn on_conditions(scene: &Scene<'_>) -> Option<Hint> {
     if follows_word {
         return Some(Hint::Text("the condition of an `if` or a `while` stands in brackets"));
     }
+    let is_tested = scene.token(scene.chosen_at().saturating_sub(1))
+        == Token::Keyword(Keyword::Else);
+    if is_tested && scene.wants(Punctuator::Semicolon) && begins_brackets(scene) {
+        return Some(Hint::Text("an `else` has no condition: write `else if (..)`"));
+    }
+    if scene.is_word(Keyword::Else) && ends_block(scene) {
+        return Some(Hint::Text("no `;` stands between a `}` and its `else`"));
+    }
     if scene.is_word(Keyword::Else) && scene.kinds.statement {
-        return Some(Hint::Text(
-            "an `else` follows the one statement of its `if`: put several into braces, and no `;` behind the condition",
-        ));
+        let words =
+            "an `else` follows the one statement of its `if`: put several into braces, and no `;` behind the condition";
+        return Some(by_layout(scene.so_far(), true, "", Hint::Text(words)));
     }
     None
+}
+
+/// Reports whether the statement begins with brackets, and something stands behind them.
+fn begins_brackets(scene: &Scene<'_>) -> bool {
+    let open = scene.chosen_at();
+    behind_brackets(scene.tokens, open.saturating_sub(1)) == Some(scene.index)
+}
+
+/// Reports whether a `}` and a `;` are right before the token that doesn't fit.
+fn ends_block(scene: &Scene<'_>) -> bool {
+    let before = scene.token(scene.index.saturating_sub(2));
+    scene.follows_mark(Punctuator::Semicolon) && before == Token::Punctuator(Punctuator::CloseCurly)
 }
 
 /// Returns the hint on an operator without a right side.
@@ -314,6 +602,19 @@ fn parts_arguments(scene: &Scene<'_>) -> bool {
     scene.is_mark(Punctuator::Semicolon) && scene.fits_mark(Punctuator::Comma) && is_value && ends
 }
 
+/// Returns the hint on braces: by the indentation, or else another one.
+pub fn by_layout(
+    tokens: &[Located],
+    is_unclosed: bool,
+    words: &'static str,
+    otherwise: Hint,
+) -> Hint {
+    match first_disagreement(tokens, is_unclosed) {
+        Some(found) => Hint::Layout(words, found),
+        None => otherwise,
+    }
+}
+
 /// Returns the hint on statements and blocks that aren't ended.
 fn on_ends(scene: &Scene<'_>) -> Option<Hint> {
     let before = scene.before()?;
@@ -324,8 +625,17 @@ fn on_ends(scene: &Scene<'_>) -> Option<Hint> {
         return Some(Hint::Text("a `;` may be missing before it"));
     }
     if scene.met() == Token::End {
+        if scene
+            .pending_at(Item::Exactly(Punctuator::CloseRound))
+            .is_some()
+        {
+            return Some(Hint::Text(
+                "a bracket isn't closed: a `)` and what follows it are missing",
+            ));
+        }
         let open = scene.pending_at(Item::Exactly(Punctuator::CloseCurly))?;
-        return Some(Hint::Unclosed(scene.line(open)));
+        let unclosed = Hint::Unclosed("", scene.line(open));
+        return Some(by_layout(scene.so_far(), true, "", unclosed));
     }
     if scene.fits_mark(Punctuator::OpenCurly) && !scene.kinds.statement {
         return Some(Hint::Text("a `{` may be missing before it"));

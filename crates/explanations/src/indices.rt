@@ -3,7 +3,7 @@
 //! What many ask isn't inlined: the page's module would have a copy for each of them.
 
 use derivations::Located;
-use tokens::{Name, Token};
+use tokens::{Name, Punctuator, Token};
 
 /// Returns the token of an index: after the last one, the end.
 #[inline(never)]
@@ -29,6 +29,11 @@ pub fn is_name(tokens: &[Located], index: usize, name: &[u8]) -> bool {
         Some(other) => other.has_bytes(name),
         None => false,
     }
+}
+
+/// Reports whether a `(` is right behind the token of an index.
+pub fn is_called(tokens: &[Located], index: usize) -> bool {
+    token_at(tokens, index.saturating_add(1)) == Token::Punctuator(Punctuator::OpenRound)
 }
 
 /// Returns the token before the one of an index, with its position.

@@ -2,6 +2,7 @@
 //! No memory is asked for: the caller has the source's tokens, which `derivations` finds.
 #![tactic(auto)]
 
+mod assigning;
 mod branches;
 mod calls;
 mod carets;
@@ -10,20 +11,25 @@ mod constants;
 mod declarations;
 mod explaining;
 mod flow;
+mod foreign;
 mod functions;
 mod heads;
 mod hints;
 mod indices;
+mod layout;
+mod letters;
 mod lookalikes;
+mod marks;
+mod meanings;
 mod misnamed;
 mod notes;
 mod reach;
-mod reserved;
 mod scenes;
 mod searches;
 mod sizes;
 mod spelling;
 mod statements;
+mod steps;
 mod told;
 mod values;
 mod variables;

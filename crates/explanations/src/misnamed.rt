@@ -2,34 +2,139 @@
 
 use crate::comments::{nested, swallowed};
 use crate::explaining::{Found, add_met};
-use crate::functions::STRAY_CALL;
-use crate::heads::{is_behind_block, is_call};
+use crate::foreign::foreign_name;
+use crate::functions::on_stray_call;
+use crate::heads::is_call;
 use crate::hints::Hint;
 use crate::indices::name_at;
-use crate::lookalikes::{Lookalike, meant_by};
+use crate::lookalikes::meant_by;
 use crate::notes::Note;
-use crate::spelling::{is_near, is_same_but_for_case};
+use crate::spelling::{has_letters, is_near, is_same_but_for_case};
 use crate::told::text_of;
 use derivations::Located;
 use grammar::{Code, Intrinsic};
 use tokens::{Name, Punctuator, Token};
 
-/// Names that beginners call, with a hint on each.
-static CALLED: [(&str, &str); 14] = [
+/// Names that beginners call, in small letters and without `_`, with a hint on each.
+static CALLED: [(&str, &str); 79] = [
     ("fire", "the call is `cannon(degree, range)`"),
     ("shoot", "the call is `cannon(degree, range)`"),
+    ("shot", "the call is `cannon(degree, range)`"),
+    ("attack", "the call is `cannon(degree, range)`"),
+    ("launch", "the call is `cannon(degree, range)`"),
+    ("firecannon", "the call is `cannon(degree, range)`"),
+    ("shootcannon", "the call is `cannon(degree, range)`"),
     ("radar", "the call is `scan(degree, resolution)`"),
+    ("scanner", "the call is `scan(degree, resolution)`"),
+    ("sonar", "the call is `scan(degree, resolution)`"),
+    ("look", "the call is `scan(degree, resolution)`"),
+    ("detect", "the call is `scan(degree, resolution)`"),
+    ("search", "the call is `scan(degree, resolution)`"),
+    ("sense", "the call is `scan(degree, resolution)`"),
+    ("scanfor", "the call is `scan(degree, resolution)`"),
+    ("findenemy", "the call is `scan(degree, resolution)`"),
+    ("getrange", "the call is `scan(degree, resolution)`"),
     ("move", "the call is `drive(degree, speed)`"),
     ("go", "the call is `drive(degree, speed)`"),
+    ("ahead", "the call is `drive(degree, speed)`"),
+    ("accelerate", "the call is `drive(degree, speed)`"),
+    ("setspeed", "the call is `drive(degree, speed)`"),
+    ("moveto", "the call is `drive(degree, speed)`"),
+    ("setheading", "the call is `drive(degree, speed)`"),
     ("stop", "the call is `drive(degree, 0)`"),
+    ("brake", "the call is `drive(degree, 0)`"),
+    ("halt", "the call is `drive(degree, 0)`"),
+    (
+        "rotate",
+        "a robot turns as it drives: the call is `drive(degree, speed)`",
+    ),
+    (
+        "forward",
+        "a robot turns as it drives: the call is `drive(degree, speed)`",
+    ),
+    (
+        "turnleft",
+        "a robot turns as it drives: the call is `drive(degree, speed)`",
+    ),
+    (
+        "turnright",
+        "a robot turns as it drives: the call is `drive(degree, speed)`",
+    ),
+    (
+        "turnto",
+        "a robot turns as it drives: the call is `drive(degree, speed)`",
+    ),
+    (
+        "backward",
+        "a robot turns as it drives: the call is `drive(degree, speed)`",
+    ),
     ("x", "the call is `loc_x()`"),
+    ("getx", "the call is `loc_x()`"),
+    ("posx", "the call is `loc_x()`"),
+    ("xpos", "the call is `loc_x()`"),
+    ("positionx", "the call is `loc_x()`"),
+    ("locationx", "the call is `loc_x()`"),
     ("y", "the call is `loc_y()`"),
-    ("random", "the call is `rand(limit)`"),
+    ("gety", "the call is `loc_y()`"),
+    ("posy", "the call is `loc_y()`"),
+    ("ypos", "the call is `loc_y()`"),
+    ("positiony", "the call is `loc_y()`"),
+    ("locationy", "the call is `loc_y()`"),
     ("health", "the call is `damage()`"),
+    ("getdamage", "the call is `damage()`"),
+    ("life", "the call is `damage()`"),
+    ("lives", "the call is `damage()`"),
+    ("hitpoints", "the call is `damage()`"),
+    ("energy", "the call is `damage()`"),
+    ("gethealth", "the call is `damage()`"),
+    ("getspeed", "the call is `speed()`"),
+    ("velocity", "the call is `speed()`"),
+    ("getvelocity", "the call is `speed()`"),
+    ("random", "the call is `rand(limit)`"),
+    ("rnd", "the call is `rand(limit)`"),
+    ("randint", "the call is `rand(limit)`"),
+    ("randrange", "the call is `rand(limit)`"),
+    ("getrandom", "the call is `rand(limit)`"),
     ("print", "a robot writes nothing"),
     ("printf", "a robot writes nothing"),
+    ("println", "a robot writes nothing"),
+    ("echo", "a robot writes nothing"),
+    (
+        "wait",
+        "nothing waits by itself: a loop does, such as `while (speed() > 0) ;`",
+    ),
+    (
+        "sleep",
+        "nothing waits by itself: a loop does, such as `while (speed() > 0) ;`",
+    ),
+    (
+        "delay",
+        "nothing waits by itself: a loop does, such as `while (speed() > 0) ;`",
+    ),
+    (
+        "pause",
+        "nothing waits by itself: a loop does, such as `while (speed() > 0) ;`",
+    ),
     ("abs", "it isn't there: write it as a function of the file"),
+    ("fabs", "it isn't there: write it as a function of the file"),
     ("pow", "it isn't there: write it as a function of the file"),
+    ("min", "it isn't there: write it as a function of the file"),
+    ("max", "it isn't there: write it as a function of the file"),
+    ("sign", "it isn't there: write it as a function of the file"),
+    (
+        "round",
+        "it isn't there: write it as a function of the file",
+    ),
+    (
+        "floor",
+        "it isn't there: write it as a function of the file",
+    ),
+    ("ceil", "it isn't there: write it as a function of the file"),
+    ("exp", "it isn't there: write it as a function of the file"),
+    (
+        "atan2",
+        "it isn't there: write it as a function of the file",
+    ),
 ];
 
 /// Adds the name of a fault, and a hint on it. The functions that are defined are known by the indices of their names.
@@ -38,7 +143,7 @@ pub fn add_misnamed(note: &mut Note, found: &Found<'_>, defined: &[usize]) {
     let name = name_at(found.tokens, found.index).unwrap_or(Name::new());
     note.add("  hint: ");
     match on_stray_code(found) {
-        Some(hint) => hint.add(note),
+        Some(hint) => hint.add(note, found.source, found.tokens),
         None => add_reason(note, found, defined, &name),
     }
     note.push('\n');
@@ -72,11 +177,9 @@ fn on_stray_code(found: &Found<'_>) -> Option<Hint> {
     if !is_call(found.tokens, name) {
         return None;
     }
-    Some(Hint::Text(if is_behind_block(found.tokens, name) {
-        STRAY_CALL
-    } else {
-        "a call stands inside of a function"
-    }))
+    Some(on_stray_call(found.tokens, name).unwrap_or(Hint::Text(
+        "a call stands inside of a function",
+    )))
 }
 
 /// Returns the index of the name of the function whose head has the fault.
@@ -134,17 +237,24 @@ fn ends_in_brackets(tokens: &[Located]) -> bool {
 
 /// Adds which function may be meant by a name that none has.
 fn add_meant(note: &mut Note, found: &Found<'_>, defined: &[usize], name: &Name) {
-    if let Some(hint) = on_called(name) {
+    if let Some(line) = swallowed(found.source, name.as_bytes()) {
+        note.count(
+            "a comment that isn't closed on line ",
+            u64::from(line),
+            " has the function in it",
+        );
+    } else if let Some(hint) = on_called(name) {
         note.add(hint);
     } else if let Some(intrinsic) = near_intrinsic(name) {
         add_perhaps(note, intrinsic);
     } else if let Some(function) = near_function(found.tokens, defined, name.as_bytes()) {
         add_perhaps(note, text_of(&function));
     } else {
-        match meant_by(name.as_bytes()) {
-            Some(Lookalike::Word(word)) => Hint::Meant(word).add(note),
-            Some(Lookalike::Foreign(words)) => note.add(words),
-            None => add_unknown(note, found, name),
+        let foreign = foreign_name(found.source, found.tokens, found.index);
+        match (foreign, meant_by(name.as_bytes())) {
+            (Some(foreign), _) => foreign.add(note, found.source, found.tokens),
+            (None, Some(word)) => Hint::Meant(word).add(note, found.source, found.tokens),
+            (None, None) => add_unknown(note, found, name),
         }
     }
 }
@@ -159,7 +269,7 @@ fn add_perhaps(note: &mut Note, name: &str) {
 /// Returns the hint on a name that beginners call.
 fn on_called(name: &Name) -> Option<&'static str> {
     for (called, hint) in &CALLED {
-        if name.has_bytes(called.as_bytes()) {
+        if has_letters(name.as_bytes(), called.as_bytes()) {
             return Some(*hint);
         }
     }
@@ -176,16 +286,12 @@ fn near_intrinsic(name: &Name) -> Option<&'static str> {
     None
 }
 
-/// Adds why a name may be no function's: its function is in a comment, or it is a variable's.
+/// Adds why a name may be no function's: it is a variable's.
 fn add_unknown(note: &mut Note, found: &Found<'_>, name: &Name) {
-    if let Some(line) = swallowed(found.source, name.as_bytes()) {
-        note.count(
-            "a comment that isn't closed on line ",
-            u64::from(line),
-            " has the function in it",
-        );
-    } else if is_variable(found.tokens, name) {
+    if is_variable(found.tokens, name) {
         note.add("it is a variable: leave the brackets out, or call the function that is meant");
+    } else if name.has_bytes(b"turn") {
+        note.add("a robot turns as it drives: the call is `drive(degree, speed)`");
     } else {
         note.add("neither the file nor the robot has a function of this name");
     }

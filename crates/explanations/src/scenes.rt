@@ -2,7 +2,7 @@
 //!
 //! What many hints ask isn't inlined: the page's module would have a copy for each of them.
 
-use crate::indices::{before, follows, name_at, token_at, touches};
+use crate::indices::{before, follows, is_called, name_at, token_at, touches};
 use crate::wanted::{Kinds, has};
 use derivations::{Derivation, Item, Located, Pending, Symbol};
 use tokens::{Keyword, Name, Punctuator, Token};
@@ -43,6 +43,13 @@ impl<'a> Scene<'a> {
             fitting,
             kinds: Kinds::of(fitting),
         }
+    }
+
+    /// Returns the tokens up to the one that doesn't fit.
+    pub fn so_far(&self) -> &'a [Located] {
+        self.tokens
+            .get(..self.index.saturating_add(1))
+            .unwrap_or(self.tokens)
     }
 
     /// Returns the token that doesn't fit.
@@ -132,6 +139,21 @@ impl<'a> Scene<'a> {
     /// Reports whether no function is open.
     pub fn is_outside(&self) -> bool {
         self.levels == 0
+    }
+
+    /// Returns the index of the name with a `(` behind it that the token that doesn't fit belongs to, or that comes next in
+    /// its line.
+    pub fn head(&self) -> Option<usize> {
+        let line = self.line(self.index);
+        for (index, located) in self.tokens.iter().enumerate() {
+            if located.line == line
+                && matches!(located.token, Token::Name(_))
+                && is_called(self.tokens, index)
+            {
+                return Some(index);
+            }
+        }
+        None
     }
 
     /// Returns the name of the token of an index, if it is one.

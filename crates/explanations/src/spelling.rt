@@ -46,6 +46,20 @@ pub fn is_same_but_for_case(left: &[u8], right: &[u8]) -> bool {
     left.len() == right.len()
 }
 
+/// Reports whether a name has these small letters, but for capital ones and each `_`.
+pub fn has_letters(name: &[u8], letters: &[u8]) -> bool {
+    let mut count = 0usize;
+    for byte in name {
+        if *byte != b'_' {
+            match letters.get(count) {
+                Some(letter) if *letter == lower(*byte) => count = count.saturating_add(1),
+                _ => return false,
+            }
+        }
+    }
+    count == letters.len()
+}
+
 /// Returns the small letter of a capital one, and every other byte as it is.
 fn lower(byte: u8) -> u8
     ensures capital { 65 ≤ byte → byte ≤ 90 → result ≡ byte + 32 }

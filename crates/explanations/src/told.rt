@@ -1,5 +1,6 @@
 //! Tokens as texts.
 
+use crate::letters::shown_at;
 use crate::notes::Note;
 use derivations::{Located, spelled};
 use std::str;
@@ -23,11 +24,16 @@ pub fn add_token(note: &mut Note, source: &[u8], located: &Located) {
     }
 }
 
-/// Adds the character at a position of a source: one that isn't ASCII by its number in Unicode, and one that no terminal
-/// shows, or bytes that aren't UTF-8, as a byte.
+/// Adds the character at a position of a source: one that isn't ASCII and that no terminal shows by its number in Unicode,
+/// and a control or bytes that aren't UTF-8 as a byte.
 fn add_character(note: &mut Note, source: &[u8], at: usize) {
     let byte = source.get(at).copied().unwrap_or(0);
     match character_at(source, at) {
+        Some(character) if shown_at(source, at).is_some() => {
+            note.add("the character `");
+            note.push(character);
+            note.push('`');
+        }
         Some(character) if !character.is_ascii() => {
             note.add("the character U+");
             add_hexadecimal(note, u32::from(character));

@@ -1,9 +1,11 @@
 //! Warnings about operators and assignments that probably aren't meant as they are written.
 
 use crate::indices::{token_at, touches};
+use crate::meanings::Meaning;
+use crate::steps::is_degree;
 use crate::warnings::{Said, Subject, Warnings};
 use derivations::{Located, Node, NodeKind};
-use grammar::{Callee, Intrinsic, Op};
+use grammar::{Callee, Intrinsic, Op, StoreOp, Var};
 use tokens::{Punctuator, Token};
 
 /// What sine, cosine and tangent are multiplied by.
@@ -23,7 +25,18 @@ pub fn warn_of_operator(
     ) else {
         return;
     };
-    let words = on_sides(op, left, right).or(on_values(op, left_value, right_value));
+    let left_index = node.second.saturating_sub(1);
+    let words = on_sides(op, left, right)
+        .or(on_values(op, left_value, right_value))
+        .or(on_parts(op, left, right, left_value, right_value))
+        .or(on_bounds(op, subject.meanings.get(left_index), right_value))
+        .or(on_bounds(
+            turned(op),
+            subject.meanings.get(index.saturating_sub(1)),
+            left_value,
+        ))
+        .or(on_quotient(op, subject.meanings.get(left_index), right_value))
+        .or(on_circle(subject, op, node, right_value));
     if let Some(words) = words {
         out.tell(node.token, words);
     }
@@ -56,13 +69,16 @@ fn on_sides(op: Op, left: &Node, right: &Node) -> Option<&'static str> {
     }
 }
 
-/// Returns what is said of an operator by the values of its two sides: of a quotient that is 0 though neither is, and of
-/// a result that has more than 32 bits.
+/// Returns what is said of an operator by the values of its two sides: of a quotient that is 0 though neither is, of a
+/// remainder that changes nothing, and of a result that has more than 32 bits.
 fn on_values(op: Op, left: Option<i32>, right: Option<i32>) -> Option<&'static str> {
     let (left, right) = (i64::from(left?), i64::from(right?));
     let whole = match op {
         Op::Divide if left != 0 && left.unsigned_abs() < right.unsigned_abs() => {
             return Some("both are whole numbers, and so is the quotient: it is 0");
+        }
+        Op::Remainder if 0 < left && left < right => {
+            return Some("this remainder is the number before it: write `(a + b) % c`");
         }
         Op::Add => left.saturating_add(right),
         Op::Subtract => left.saturating_sub(right),
@@ -73,6 +89,132 @@ fn on_values(op: Op, left: Option<i32>, right: Option<i32>) -> Option<&'static s
     i32::try_from(whole).is_err().then_some(
         "this passes the greatest number, 2147483647, and goes on with the least",
     )
+}
+
+/// Returns what is said of an operator on a sine, a cosine or a tangent and a number: of a quotient that is hardly ever
+/// another number than 0, and of a comparison with a small number.
+fn on_parts(
+    op: Op,
+    left: &Node,
+    right: &Node,
+    left_value: Option<i32>,
+    right_value: Option<i32>,
+) -> Option<&'static str> {
+    let least = PARTS as i32;
+    match (left_value, right_value) {
+        (None, Some(value)) if is_wave(left) && op == Op::Divide && value >= least => Some(
+            "this quotient is hardly ever another number than 0: multiply first, and divide the product",
+        ),
+        (None, Some(value)) if is_wave(left) && is_small(op, value) => Some(SMALL),
+        (Some(value), None) if is_wave(right) && is_small(op, value) => Some(SMALL),
+        _ => None,
+    }
+}
+
+/// What is said of a sine that is compared with a small number.
+const SMALL: &str = "a sine, a cosine and a tangent are in 100,000ths: 1 is written 100000";
+
+/// Reports whether a node calls sine, cosine or tangent.
+fn is_wave(node: &Node) -> bool {
+    matches!(
+        node.kind,
+        NodeKind::Call(
+            Callee::Intrinsic(Intrinsic::Sin | Intrinsic::Cos | Intrinsic::Tan),
+            _
+        )
+    )
+}
+
+/// Reports whether an operator compares with a number that is small for 100,000ths, and isn't 0.
+fn is_small(op: Op, value: i32) -> bool {
+    let compares = is_order(op) || matches!(op, Op::Equal | Op::NotEqual);
+    compares && matches!(value, -10..=-1 | 1..=10)
+}
+
+/// Returns what is said of a comparison of what is meant so with a number, if it has always the same answer: of a damage
+/// and a speed only if that is no.
+fn on_bounds(op: Op, meaning: Meaning, value: Option<i32>) -> Option<&'static str> {
+    let (least, greatest) = meaning.bounds()?;
+    let value = value?;
+    let (least_holds, greatest_holds) = (holds(op, least, value)?, holds(op, greatest, value)?);
+    let is_within = least <= value && value <= greatest;
+    if least_holds != greatest_holds || is_within && matches!(op, Op::Equal | Op::NotEqual) {
+        return None;
+    }
+    match (meaning, least_holds) {
+        (Meaning::Damage, false) => Some(
+            "the damage is at least 0, and at most 99 while the robot lives: this is never so",
+        ),
+        (Meaning::Speed, false) => Some("a speed is at least 0 and at most 100: this is never so"),
+        (Meaning::Coordinate, false) => Some(
+            "a coordinate is at least 0 and at most 999: this is never so",
+        ),
+        (Meaning::Range, false) => Some(
+            "a range is at least 0 and at most 1414 metres: this is never so",
+        ),
+        (Meaning::Coordinate, true) => Some(
+            "a coordinate is at least 0 and at most 999: this is always so",
+        ),
+        _ => None,
+    }
+}
+
+/// Returns what is said of a quotient of what is meant so by a number, if it is always 0.
+fn on_quotient(op: Op, meaning: Meaning, value: Option<i32>) -> Option<&'static str> {
+    let (_, greatest) = meaning.bounds()?;
+    (op == Op::Divide && value? > greatest).then_some(
+        "this quotient is always 0: multiply first, and divide the product",
+    )
+}
+
+/// Returns the comparison by which the right side of another one compares with the left one.
+fn turned(op: Op) -> Op {
+    match op {
+        Op::Less => Op::Greater,
+        Op::LessOrEqual => Op::GreaterOrEqual,
+        Op::Greater => Op::Less,
+        Op::GreaterOrEqual => Op::LessOrEqual,
+        _ => op,
+    }
+}
+
+/// Reports whether a comparison holds of two numbers, if the operator is one.
+pub fn holds(op: Op, left: i32, right: i32) -> Option<bool> {
+    match op {
+        Op::Less => Some(left < right),
+        Op::LessOrEqual => Some(left <= right),
+        Op::Greater => Some(left > right),
+        Op::GreaterOrEqual => Some(left >= right),
+        Op::Equal => Some(left == right),
+        Op::NotEqual => Some(left != right),
+        _ => None,
+    }
+}
+
+/// Returns what is said of a remainder of a degree by nearly a whole circle, and of a comparison with a little more than one.
+fn on_circle(
+    subject: &Subject<'_>,
+    op: Op,
+    node: &Node,
+    value: Option<i32>,
+) -> Option<&'static str> {
+    let is_compared = is_order(op) || matches!(op, Op::Equal | Op::NotEqual);
+    let is_near = match value? {
+        300..=359 | 361 => op == Op::Remainder,
+        362..=400 => is_compared || op == Op::Remainder,
+        _ => false,
+    };
+    if !is_near {
+        return None;
+    }
+    for below in subject.tree.within(node.first, node.second) {
+        if let NodeKind::Fetch(var) = below.kind
+            && is_degree(subject.tree, node.first, var)
+        {
+            return Some("a whole circle is 360 degrees");
+        }
+    }
+    None
 }
 
 /// Reports whether the right side of an operator on bits is a comparison for equality without brackets, and the left
@@ -126,8 +268,31 @@ fn may_have_parts(tokens: &[Located]) -> bool {
     false
 }
 
-/// Warns of an assignment with `=-`.
-pub fn warn_of_store(out: &mut Warnings, subject: &Subject<'_>, node: &Node) {
+/// Returns what is said of an assignment that sets back what a step changed.
+fn on_old_value(step: StoreOp) -> &'static str {
+    if step == StoreOp::Add {
+        "this sets the old value back: write `a++` alone"
+    } else {
+        "this sets the old value back: write `a--` alone"
+    }
+}
+
+/// Warns of an assignment with `=-`, and of one that sets back what `++` or `--` changed.
+pub fn warn_of_store(
+    out: &mut Warnings,
+    subject: &Subject<'_>,
+    index: usize,
+    node: &Node,
+    var: Var,
+    op: StoreOp,
+) {
+    if let Some(right) = subject.tree.get(index.saturating_sub(1))
+        && let NodeKind::PostfixIncrement(changed, step) = right.kind
+        && changed == var
+        && op == StoreOp::Set
+    {
+        out.tell(node.token, on_old_value(step));
+    }
     let equals = node.token.saturating_add(1);
     let minus = equals.saturating_add(1);
     let tokens = subject.tokens;

@@ -24,6 +24,9 @@ pub fn warn_of_variables(out: &mut Warnings, subject: &Subject<'_>) {
     for body in subject.tree.bodies() {
         warn_of_body(out, subject, body);
     }
+    for body in subject.tree.bodies() {
+        warn_of_copies(out, subject.tree, body);
+    }
     for token in subject.declarations.hiding() {
         out.warn(
             *token,
@@ -50,7 +53,7 @@ fn warn_of_body(out: &mut Warnings, subject: &Subject<'_>, body: &Body) {
                 let token = token_of(subject.tree, read);
                 let said = Said::Variable(
                     " is read and never set, so it is always 0",
-                    meant(subject, &uses, token),
+                    meant_as_read(subject, &uses, token),
                 );
                 out.warn(token, said);
             }
@@ -63,6 +66,41 @@ fn warn_of_body(out: &mut Warnings, subject: &Subject<'_>, body: &Body) {
             _ => {}
         }
     }
+}
+
+/// Warns of each assignment to a parameter that nothing reads afterwards.
+fn warn_of_copies(out: &mut Warnings, tree: &SourceTree, body: &Body) {
+    for index in body.first..body.end {
+        if let Some(node) = tree.get(index)
+            && let NodeKind::Store(Var::Local(number), _) = node.kind
+            && usize::from(number) < body.parameters
+            && !tree.is_used(index)
+            && !is_read_behind(tree, body, index, number)
+        {
+            out.tell(
+                node.token,
+                "this sets a copy: what the caller has stays as it is; give the value back by `return`",
+            );
+        }
+    }
+}
+
+/// Reports whether a variable of a function may be read after the node of an index: behind it, or in a loop that has both.
+fn is_read_behind(tree: &SourceTree, body: &Body, index: usize, number: u8) -> bool {
+    let mut begin = index;
+    for node in tree.within(index, body.end) {
+        if node.kind == NodeKind::While && node.first < begin {
+            begin = node.first;
+        }
+    }
+    for (place, node) in tree.within(begin, body.end).iter().enumerate() {
+        let at = begin.saturating_add(place);
+        let is_below = begin == index && at <= index;
+        if node.kind == NodeKind::Fetch(Var::Local(number)) && !is_below {
+            return true;
+        }
+    }
+    false
 }
 
 /// Reports whether a variable is read before it is set, by the indices of the nodes, and no loop has both.
@@ -91,6 +129,18 @@ fn meant_as_set(subject: &Subject<'_>, uses: &Uses, token: usize) -> Meant {
     meant(subject, uses, token)
 }
 
+/// Returns what may be meant by the variable of a name's token that is never set: also that of another function, by a
+/// whole word.
+fn meant_as_read(subject: &Subject<'_>, uses: &Uses, token: usize) -> Meant {
+    match (meant(subject, uses, token), name_at(subject.tokens, token)) {
+        (Meant::Nothing, Some(name))
+            if name.as_bytes().len() > 2 && is_elsewhere(subject, token, &name) => {
+            Meant::Words("; that of another function is another one: declare it outside of both")
+        }
+        (found, _) => found,
+    }
+}
+
 /// Returns what may be meant by the name of a token: another variable, a call, or a truth value of other languages.
 fn meant(subject: &Subject<'_>, uses: &Uses, token: usize) -> Meant {
     let Some(name) = name_at(subject.tokens, token) else {
@@ -102,6 +152,7 @@ fn meant(subject: &Subject<'_>, uses: &Uses, token: usize) -> Meant {
     match near_variable(subject, uses, token, &name) {
         Some(other) => Meant::Name(other),
         None if intrinsic_named(&name).is_some() => Meant::Call,
+        None if is_output(&name) => Meant::Words("; a robot writes nothing"),
         None if is_truth(&name) => {
             Meant::Words("; write 1 for what is true, and 0 for what is false")
         }
@@ -114,6 +165,27 @@ fn is_declared_below(subject: &Subject<'_>, token: usize, name: &Name) -> bool {
     for external in subject.declarations.externals() {
         if *external > token && name_at(subject.tokens, *external) == Some(*name) {
             return true;
+        }
+    }
+    false
+}
+
+/// Reports whether a name is a channel of C++.
+fn is_output(name: &Name) -> bool {
+    name.has_bytes(b"cout") || name.has_bytes(b"endl") || name.has_bytes(b"cin")
+}
+
+/// Reports whether another function sets a variable of the name of a token.
+fn is_elsewhere(subject: &Subject<'_>, token: usize, name: &Name) -> bool {
+    for body in subject.tree.bodies() {
+        let is_here = body.token <= token && token <= body.closing;
+        for node in subject.tree.within(body.first, body.end) {
+            if !is_here
+                && set_by(node).is_some()
+                && name_at(subject.tokens, node.token) == Some(*name)
+            {
+                return true;
+            }
         }
     }
     false

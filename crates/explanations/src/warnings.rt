@@ -2,10 +2,12 @@
 
 use crate::branches::warn_of_branch;
 use crate::calls::warn_of_call;
+use crate::comments::{add_swallowing, warn_of_comments};
 use crate::constants::Constants;
 use crate::declarations::Declarations;
 use crate::flow::{warn_of_main, warn_of_recursion};
-use crate::indices::name_at;
+use crate::indices::{name_at, token_at};
+use crate::meanings::Meanings;
 use crate::notes::Note;
 use crate::reach::Reach;
 use crate::searches::fault_token;
@@ -16,6 +18,7 @@ use crate::variables::warn_of_variables;
 use arrayvec::ArrayVec;
 use derivations::{Located, Node, NodeKind, SourceTree};
 use grammar::{Diagnostic, Profile};
+use tokens::{Keyword, Punctuator, Token};
 
 /// The most warnings of a source: those that are found after this many are left out.
 const MOST_WARNINGS: usize = 1000;
@@ -31,6 +34,8 @@ pub struct Subject<'a> {
     pub tree: &'a SourceTree,
     /// The values of the tree's nodes.
     pub constants: &'a Constants,
+    /// What the tree's nodes mean.
+    pub meanings: &'a Meanings,
     /// What of the tree is never reached.
     pub reach: &'a Reach,
     /// Its declared variables.
@@ -55,6 +60,8 @@ pub enum Said {
     Variable(&'static str, Meant),
     /// How many arguments a function takes, and how many it is given.
     Arguments(usize, usize),
+    /// That the comment that begins on this line goes further than was meant.
+    Swallowing(u32),
 }
 
 /// What may be meant by the name of a variable.
@@ -96,7 +103,7 @@ impl Warning {
             note.position(located.line, located.column);
         }
         note.add("warning: ");
-        if !matches!(self.said, Said::Words(_)) {
+        if !matches!(self.said, Said::Words(_) | Said::Swallowing(_)) {
             add_name(&mut note, tokens, self.token);
         }
         match self.said {
@@ -106,6 +113,7 @@ impl Warning {
                 self.add_meant(&mut note, tokens, meant);
             }
             Said::Arguments(wanted, given) => add_arguments(&mut note, wanted, given),
+            Said::Swallowing(line) => add_swallowing(&mut note, line),
         }
         note.push('\n');
         note
@@ -192,6 +200,20 @@ impl Warnings {
         }
     }
 
+    /// Warns of each `else` whose branch is a `;` alone.
+    fn warn_of_empty_branches(&mut self, tokens: &[Located]) {
+        for (index, located) in tokens.iter().enumerate() {
+            let next = index.saturating_add(1);
+            let is_ended = token_at(tokens, next) == Token::Punctuator(Punctuator::Semicolon);
+            if located.token == Token::Keyword(Keyword::Else) && is_ended {
+                self.tell(
+                    next,
+                    "the `else` ends with this `;`: what follows it is always done",
+                );
+            }
+        }
+    }
+
     /// Warns of the node of an index.
     fn warn_of_node(&mut self, subject: &Subject<'_>, index: usize, node: &Node) {
         match node.kind {
@@ -199,7 +221,7 @@ impl Warnings {
                 warn_of_call(self, subject, index, node, callee, arguments);
             }
             NodeKind::Binary(op) => warn_of_operator(self, subject, index, node, op),
-            NodeKind::Store(..) => warn_of_store(self, subject, node),
+            NodeKind::Store(var, op) => warn_of_store(self, subject, index, node, var, op),
             NodeKind::Evaluate => warn_of_statement(self, subject, index, node),
             _ => {}
         }
@@ -217,21 +239,26 @@ impl Warnings {
 
 /// Finds the warnings about a source that compiles by this profile; the tokens are the source's. Those after the first
 /// thousand that are found are left out.
-pub fn warnings_of(tokens: &[Located], profile: Profile) -> Warnings {
-    warnings_up_to(tokens, profile, tokens.len())
+pub fn warnings_of(source: &[u8], tokens: &[Located], profile: Profile) -> Warnings {
+    warnings_up_to(source, tokens, profile, tokens.len())
 }
 
 /// Finds the warnings about what stands before the fault of a source, which `compile` found by the same profile; the
 /// tokens are the source's. Those that go by a whole function are about functions that end before the fault. They are at
 /// most a thousand, as those of `warnings_of`.
-pub fn warnings_before(tokens: &[Located], profile: Profile, fault: &Diagnostic) -> Warnings {
-    warnings_up_to(tokens, profile, fault_token(tokens, profile, fault))
+pub fn warnings_before(
+    source: &[u8],
+    tokens: &[Located],
+    profile: Profile,
+    fault: &Diagnostic,
+) -> Warnings {
+    warnings_up_to(source, tokens, profile, fault_token(tokens, profile, fault))
 }
 
 /// Finds the warnings about the tokens of a source before the one of an index, which is that of its fault if it has one.
 /// It isn't inlined, since the page's module is to be small.
 #[inline(never)]
-fn warnings_up_to(tokens: &[Located], profile: Profile, end: usize) -> Warnings {
+fn warnings_up_to(source: &[u8], tokens: &[Located], profile: Profile, end: usize) -> Warnings {
     let tree = SourceTree::of(tokens, profile);
     let constants = Constants::of(&tree);
     let subject = Subject {
@@ -239,6 +266,7 @@ fn warnings_up_to(tokens: &[Located], profile: Profile, end: usize) -> Warnings 
         profile,
         tree: &tree,
         constants: &constants,
+        meanings: &Meanings::of(&tree, &constants),
         reach: &Reach::of(&tree, &constants),
         declarations: &Declarations::of(tokens, profile),
     };
@@ -248,6 +276,8 @@ fn warnings_up_to(tokens: &[Located], profile: Profile, end: usize) -> Warnings 
     };
     warn_of_variables(&mut warnings, &subject);
     warnings.warn_of_nodes(&subject);
+    warnings.warn_of_empty_branches(tokens);
+    warn_of_comments(&mut warnings, source, tokens);
     warn_of_recursion(&mut warnings, &subject);
     warn_of_main(&mut warnings, &subject);
     let list = warnings.list.as_mut_slice();

@@ -72,14 +72,18 @@ fn explain_source(profile: Profile, source: &[u8], topic: Topic, sheet: &mut She
     match names_in(profile, source) {
         Ok(_) => {
             match topic {
-                Topic::Warnings => tell_warnings(&warnings_of(tokens, profile), tokens, sheet),
+                Topic::Warnings => tell_warnings(
+                    &warnings_of(source, tokens, profile),
+                    tokens,
+                    sheet,
+                ),
                 Topic::Turns => tell_turns(tokens, profile, sheet),
             }
             told(Explained::Good, sheet)
         }
         Err(ParseFault::Source(diagnostic)) => {
             if topic == Topic::Warnings {
-                let warnings = warnings_before(tokens, profile, &diagnostic);
+                let warnings = warnings_before(source, tokens, profile, &diagnostic);
                 tell_warnings(&warnings, tokens, sheet);
             }
             let note = explain(source, tokens, profile, &diagnostic);

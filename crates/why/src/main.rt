@@ -4,7 +4,6 @@
 ghost use Rattle.std.specs.Prelude.{◌≡◌, Err};
 ghost use Rattle.grammar.specs.Compiled.{compiled};
 
-mod parts;
 mod recoveries;
 mod room_warnings;
 mod source_files;
@@ -127,7 +126,7 @@ fn tell_all_warnings(
     file: &SourceFile<'_>,
     tokens: &[Located],
 ) -> Result<bool, Fault> {
-    let warnings = warnings_of(tokens, file.profile);
+    let warnings = warnings_of(file.source, tokens, file.profile);
     tell_warnings(output, file, tokens, &warnings)?;
     let lacks = add_want_of_room(output.text(), alloc, file)?;
     Ok(lacks || !warnings.list().is_empty())
@@ -144,7 +143,7 @@ fn tell_fault(
     requires { compiled file.now.profile file.now.source.now ≡ Err fault.now }
 {
     if wish.lint {
-        let warnings = warnings_before(tokens, file.profile, fault);
+        let warnings = warnings_before(file.source, tokens, file.profile, fault);
         tell_warnings(output, file, tokens, &warnings)?;
     }
     let note = explain(file.source, tokens, file.profile, fault);

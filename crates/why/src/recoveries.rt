@@ -1,19 +1,12 @@
-//! The faults of a source after its first one: what has a fault is left out, and the rest is compiled again.
+//! The faults of a source after its first one, explained.
 
-use crate::parts::{PartKind, part_at};
 use crate::source_files::SourceFile;
-use derivations::{Located, compile, locate};
-use explanations::{explain_left, fault_token};
-use grammar::{Code, Diagnostic, ParseFault, Profile};
+use derivations::locate;
+use explanations::explain_left;
+use grammar::Diagnostic;
+use recovery::{Lines, MOST_BYTES, MOST_FAULTS, Rest};
 use std::alloc::{AllocError, Global};
-use tokens::{MemoryFeed, Token, WINDOW_BYTES};
 use tools::{Draft, Fault, Text};
-
-/// The most faults of a file that are explained.
-const MOST_FAULTS: usize = 20;
-
-/// The most bytes of a source of which later faults are looked for: each token takes 64 bytes of memory, in three lists.
-const MOST_BYTES: usize = 262_144;
 
 /// Adds the explanations of the faults after the first one, which `compile` found, or that the source is too large. The
 /// only fault is that memory is refused.
@@ -28,7 +21,7 @@ pub fn add_later_faults(
         text.push_str(": over 262144 bytes: no later fault is looked for\n")?;
         return Ok(());
     }
-    let mut rest = Rest::of(alloc, file)?;
+    let mut rest = Rest::of(alloc, file.source, file.profile)?;
     let mut fault = *first;
     for _ in 1..MOST_FAULTS {
         let Some(lines) = rest.leave_out(&fault)? else {
@@ -37,122 +30,29 @@ pub fn add_later_faults(
         let Some(next) = rest.fault() else {
             break;
         };
-        rest.add(text, file, &next, lines)?;
+        add_fault(text, alloc, file, &rest, &next, lines)?;
         fault = next;
     }
     Ok(())
 }
 
-/// The first and the last line of a part.
-type Lines = (u32, u32);
-
-/// What is left of a source without the parts with faults: these are blank.
-#[derive(Drop)]
-struct Rest {
+/// Adds the explanation of the first fault of what is left, and which lines were left out before it.
+fn add_fault(
+    text: &mut String,
     alloc: Global,
-    bytes: Vec<u8>,
-    profile: Profile,
-    lacks_heads: bool,
-}
-
-impl Rest {
-    /// Begins with all of a source.
-    fn of(alloc: Global, file: &SourceFile<'_>) -> Result<Rest, AllocError> {
-        Ok(Rest {
-            alloc,
-            bytes: Vec::from_slice(alloc, file.source)?,
-            profile: file.profile,
-            lacks_heads: false,
-        })
-    }
-
-    /// Leaves out the part with a fault, the first one of what is left, and returns its lines, if something follows it.
-    fn leave_out(&mut self, fault: &Diagnostic) -> Result<Option<Lines>, AllocError> {
-        let tokens = locate(self.alloc, self.bytes.as_slice())?;
-        let at = fault_token(tokens.as_slice(), self.profile, fault);
-        let Some(met) = tokens.as_slice().get(at) else {
-            return Ok(None);
-        };
-        // of what follows a lexical error no tokens are known yet
-        let clean = self.cleaned(met)?;
-        let tokens = locate(self.alloc, clean.as_slice())?;
-        Ok(self.blank_part(tokens.as_slice(), at))
-    }
-
-    /// Returns what is left, with a `;` for each byte that begins no token, from a fault's token on, and for that token if
-    /// it is a lexical error.
-    fn cleaned(&self, met: &Located) -> Result<Vec<u8>, AllocError> {
-        let mut clean = Vec::from_slice(self.alloc, self.bytes.as_slice())?;
-        let is_error = matches!(met.token, Token::Fault(_));
-        for (index, byte) in clean.iter_mut().enumerate().skip(met.start) {
-            if is_foreign(*byte) || is_error && index == met.start {
-                *byte = b';';
-            } else if is_error && index < met.end {
-                *byte = b' ';
-            }
-        }
-        Ok(clean)
-    }
-
-    /// Makes the part with the token of an index blank, and returns its lines.
-    fn blank_part(&mut self, tokens: &[Located], at: usize) -> Option<Lines> {
-        let part = part_at(tokens, at)?;
-        let (first, behind) = (tokens.get(part.first)?, tokens.get(part.end)?);
-        let last = tokens.get(part.end.saturating_sub(1))?;
-        self.blank(first.start, behind.start);
-        match part.kind {
-            PartKind::Body => {}
-            PartKind::Unclosed => self.close_at(last.start),
-            PartKind::Outside => self.lacks_heads = true,
-        }
-        Some((first.line, last.line))
-    }
-
-    /// Makes the bytes from one index on up to another one blank, but for ends of lines.
-    fn blank(&mut self, start: usize, end: usize) {
-        for (index, byte) in self.bytes.iter_mut().enumerate().skip(start) {
-            if index < end && *byte != b'\n' {
-                *byte = b' ';
-            }
-        }
-    }
-
-    /// Puts a closing brace at an index.
-    fn close_at(&mut self, index: usize) {
-        if let Some(byte) = self.bytes.as_mut_slice().get_mut(index) {
-            *byte = b'}';
-        }
-    }
-
-    /// Returns the first fault of what is left, if there is one: a function that isn't there may be one that was left
-    /// out.
-    fn fault(&self) -> Option<Diagnostic> {
-        let mut feed = MemoryFeed::new(self.bytes.as_slice(), WINDOW_BYTES);
-        match compile(self.profile, &mut feed) {
-            Err(ParseFault::Source(fault)) if !self.lacks_heads || !is_absence(fault.code) => {
-                Some(fault)
-            }
-            _ => None,
-        }
-    }
-
-    /// Adds the explanation of the first fault of what is left, and which lines were left out before it.
-    fn add(
-        &self,
-        text: &mut String,
-        file: &SourceFile<'_>,
-        fault: &Diagnostic,
-        lines: Lines,
-    ) -> Result<(), AllocError> {
-        let tokens = locate(self.alloc, self.bytes.as_slice())?;
-        let note = explain_left(file.source, tokens.as_slice(), self.profile, fault);
-        let mut draft = Draft::new(self.alloc);
-        draft.add(file.path);
-        draft.add(":");
-        draft.add(note.as_str());
-        add_lines(&mut draft, lines);
-        draft.move_behind(text)
-    }
+    file: &SourceFile<'_>,
+    rest: &Rest,
+    fault: &Diagnostic,
+    lines: Lines,
+) -> Result<(), AllocError> {
+    let tokens = locate(alloc, rest.bytes())?;
+    let note = explain_left(file.source, tokens.as_slice(), file.profile, fault);
+    let mut draft = Draft::new(alloc);
+    draft.add(file.path);
+    draft.add(":");
+    draft.add(note.as_str());
+    add_lines(&mut draft, lines);
+    draft.move_behind(text)
 }
 
 /// Adds how a fault was found.
@@ -165,17 +65,4 @@ fn add_lines(draft: &mut Draft, (first, last): Lines) {
         draft.number(u64::from(last));
     }
     draft.add("\n");
-}
-
-/// Reports whether a fault is that a function isn't there.
-fn is_absence(code: Code) -> bool {
-    matches!(code, Code::FunctionNotDefined | Code::NoMainFunction)
-}
-
-/// Reports whether a byte begins no token, and is neither a space nor the end of a source.
-fn is_foreign(byte: u8) -> bool {
-    matches!(
-        byte,
-        0..=8 | 14..=25 | 27..=31 | b'"'..=b'$' | b'\'' | b'.' | b':' | b'?'..=b'@' | b'['..=b']' | b'`' | 127..=255
-    )
 }

@@ -97,7 +97,7 @@ fn types_at(tokens: &[Located], index: usize) -> usize {
 }
 
 /// Reports whether the head of a function begins at an index.
-fn is_head_at(tokens: &[Located], index: usize) -> bool {
+pub fn is_head_at(tokens: &[Located], index: usize) -> bool {
     let end = index.saturating_add(MOST_OF_HEAD);
     is_head(tokens.get(..end).unwrap_or(tokens), index)
 }

@@ -1,0 +1,182 @@
+//! Degrees that go on by steps: whether a variable is one, and by how much it goes on.
+
+use crate::constants::Constants;
+use crate::variables::set_by;
+use crate::warnings::Subject;
+use derivations::{Body, Node, NodeKind, SourceTree};
+use grammar::{Callee, Intrinsic, Op, StoreOp, Var};
+
+/// Returns the function that the node of an index is in.
+pub fn body_at(tree: &SourceTree, index: usize) -> Option<&Body> {
+    for body in tree.bodies() {
+        if body.first <= index && index < body.end {
+            return Some(body);
+        }
+    }
+    None
+}
+
+/// Reports whether a variable is somewhere the degree of a scan, a shot or a drive, in the function that the node of an
+/// index is in.
+pub fn is_degree(tree: &SourceTree, index: usize, var: Var) -> bool {
+    let Some(body) = body_at(tree, index) else {
+        return false;
+    };
+    for at in body.first..body.end {
+        if let Some(node) = tree.get(at)
+            && takes_degree(node)
+            && degree_of(tree, at, node) == Some(var)
+        {
+            return true;
+        }
+    }
+    false
+}
+
+/// Reports whether a node is a call that takes a degree first.
+fn takes_degree(node: &Node) -> bool {
+    matches!(
+        node.kind,
+        NodeKind::Call(
+            Callee::Intrinsic(Intrinsic::Scan | Intrinsic::Cannon | Intrinsic::Drive),
+            _
+        )
+    )
+}
+
+/// Returns the variable that is the first argument of the call of an index, if it is one alone.
+pub fn degree_of(tree: &SourceTree, index: usize, node: &Node) -> Option<Var> {
+    match tree.get(tree.outermost(node.first, index))?.kind {
+        NodeKind::Fetch(var) => Some(var),
+        _ => None,
+    }
+}
+
+/// Returns the greatest resolution by which a function looks at the degree of a variable, if all are known.
+fn resolution_of(tree: &SourceTree, constants: &Constants, body: &Body, var: Var) -> Option<i32> {
+    let mut greatest = 0;
+    for at in body.first..body.end {
+        if let Some(node) = tree.get(at)
+            && node.kind == NodeKind::Call(Callee::Intrinsic(Intrinsic::Scan), 2)
+            && degree_of(tree, at, node) == Some(var)
+        {
+            let resolution = constants.get(at.saturating_sub(1))?;
+            if resolution > greatest {
+                greatest = resolution;
+            }
+        }
+    }
+    Some(greatest)
+}
+
+/// Returns the least step by which a function changes a variable, if all that it sets besides are numbers.
+fn step_of(tree: &SourceTree, constants: &Constants, body: &Body, var: Var) -> Option<i32> {
+    let mut least: Option<i32> = None;
+    for at in body.first..body.end {
+        let Some(node) = tree.get(at) else {
+            continue;
+        };
+        let step = match node.kind {
+            NodeKind::Store(own, StoreOp::Add | StoreOp::Subtract) if own == var => {
+                constants.get(at.saturating_sub(1))?
+            }
+            NodeKind::Store(own, StoreOp::Set) if own == var => {
+                let value = at.saturating_sub(1);
+                if constants.get(value).is_some() {
+                    continue;
+                }
+                sum_of(tree, constants, value, var)?
+            }
+            NodeKind::Store(own, _)
+            | NodeKind::PrefixIncrement(own, _)
+            | NodeKind::PostfixIncrement(own, _)
+                if own == var => {
+                return None;
+            }
+            _ => continue,
+        };
+        least = match least {
+            Some(other) if other < step => Some(other),
+            _ => Some(step),
+        };
+    }
+    least
+}
+
+/// Returns what is added to a variable in the sum of an index, of which a remainder may be taken.
+fn sum_of(tree: &SourceTree, constants: &Constants, index: usize, var: Var) -> Option<i32> {
+    let node = tree.get(index)?;
+    let left = node.second.saturating_sub(1);
+    match node.kind {
+        NodeKind::Binary(Op::Remainder) => {
+            let sum = tree.get(left)?;
+            added(tree, constants, left, sum, var)
+        }
+        _ => added(tree, constants, index, node, var),
+    }
+}
+
+/// Returns what the node of an index adds to a variable, or takes from it.
+fn added(
+    tree: &SourceTree,
+    constants: &Constants,
+    index: usize,
+    node: &Node,
+    var: Var,
+) -> Option<i32> {
+    let left = tree.get(node.second.saturating_sub(1))?;
+    let changes = matches!(node.kind, NodeKind::Binary(Op::Add | Op::Subtract));
+    if changes && left.kind == NodeKind::Fetch(var) {
+        return constants.get(index.saturating_sub(1));
+    }
+    None
+}
+
+/// Returns the value of the node of an index, if it is known, or is a variable's that its function sets to one number alone.
+pub fn only_value(subject: &Subject<'_>, index: usize) -> Option<i32> {
+    let (node, value) = subject.valued(index)?;
+    let NodeKind::Fetch(var) = node.kind else {
+        return value;
+    };
+    let body = body_at(subject.tree, index)?;
+    let is_own = matches!(var, Var::Local(number) if usize::from(number) >= body.parameters);
+    if !is_own {
+        return None;
+    }
+    let mut only = None;
+    for at in body.first..body.end {
+        if let Some(node) = subject.tree.get(at)
+            && set_by(node) == Some(var)
+        {
+            let number = subject.constants.get(at)?;
+            if only.is_some() && only != Some(number) {
+                return None;
+            }
+            only = Some(number);
+        }
+    }
+    only
+}
+
+/// Reports whether gaps are left between the looks of a scan of an index: its degree goes on by more than all looks see.
+pub fn leaves_gaps(
+    tree: &SourceTree,
+    constants: &Constants,
+    index: usize,
+    node: &Node,
+    most: i32,
+) -> bool {
+    let (Some(var), Some(body)) = (degree_of(tree, index, node), body_at(tree, index)) else {
+        return false;
+    };
+    match (
+        resolution_of(tree, constants, body, var),
+        step_of(tree, constants, body, var),
+    ) {
+        (Some(resolution), Some(step)) => {
+            let seen = if resolution > most { most } else { resolution };
+            step > seen.saturating_mul(2).saturating_add(1)
+        }
+        _ => false,
+    }
+}

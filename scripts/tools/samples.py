@@ -1,0 +1,35 @@
+"""The sample robots: where they are, and on which level of the ladder each stands."""
+
+from __future__ import annotations
+
+import os
+import re
+
+from .faults import Fault, unreadable
+
+HERE = os.path.dirname(os.path.realpath(__file__))
+# The robots' folder in the repository, and where this is installed.
+PLACES = (os.path.normpath(os.path.join(HERE, "..", "..", "robots")), os.path.normpath(os.path.join(HERE, "..", "..")))
+PAGE = "README.md"
+# A row of the ladder: a level, and a robot with a link.
+ROW = re.compile(r"^\| (\d+) \| \[(\w+\.r)\]", re.MULTILINE)
+
+
+def ladder() -> list[tuple[str, int]]:
+    """Each sample's path and level, in the order of the ladder."""
+    pages = [os.path.join(place, PAGE) for place in PLACES]
+    path = next((page for page in pages if os.path.exists(page)), pages[0])
+    try:
+        with open(path, encoding="utf-8") as file:
+            rows = ROW.findall(file.read())
+    except OSError as why:
+        unreadable(path, why)
+    return [(os.path.join(os.path.dirname(path), name), int(level)) for level, name in rows]
+
+
+def of_level(level: int) -> list[str]:
+    """The samples of a level."""
+    found = [path for path, it in ladder() if it == level]
+    if not found:
+        raise Fault(f"no sample is of level {level}; there are {', '.join(map(str, sorted({it for _, it in ladder()})))}")
+    return found

@@ -1,0 +1,138 @@
+"""Sources of a kind, with what is to be said of each: braces that lack, values that come from another question, letters of any width."""
+
+from __future__ import annotations
+
+import random
+import re
+import unicodedata
+from dataclasses import dataclass
+
+# What a question answers, as a warning calls it.
+ANSWERS = {"scan(9, 5)": "range", "speed()": "speed", "damage()": "damage", "loc_x()": "coordinate", "loc_y()": "coordinate"}
+# A call with a place for a value, what the place is for, and what is surely no such thing.
+PLACES = [
+    ("cannon(@, 90);", "degree", {"range", "speed", "damage", "coordinate"}),
+    ("drive(@, 50);", "degree", {"range", "speed", "damage", "coordinate"}),
+    ("look = scan(@, 5); cannon(9, look);", "degree", {"range", "speed", "damage", "coordinate"}),
+    ("cannon(9, @);", "range", {"speed", "damage"}),
+    ("drive(9, @);", "speed", {"coordinate"}),
+    ("look = scan(9, @); cannon(9, look);", "resolution", {"range", "speed", "damage", "coordinate"}),
+]
+# How a row of the table of languages begins in the code, and its parts.
+A_ROW = re.compile(r'\(\s*"((?:[^"\\]|\\.)*)",\s*"((?:[^"\\]|\\.)*)",\s*"([^"]*)",\s*"((?:[^"\\]|\\.)*)",\s*Line::(\w+),?\s*\)')
+
+
+@dataclass
+class Row:
+    """A construct of another language: its word or mark, what stands behind that, the language, and what is said of it."""
+
+    looks: str
+    behind: str
+    language: str
+    says: str
+
+    def shown(self) -> str:
+        """How a page shows it."""
+        behind = "" if self.behind == "@" else self.behind
+        between = " " if self.looks[-1].isalnum() and re.match(r'[\w"<]', behind) else ""
+        return f"`{self.looks}{between}{behind}`"
+
+    def source(self) -> str:
+        """A source that has it, in a statement."""
+        behind = "thing" if self.behind == "@" else self.behind
+        between = " " if self.looks[-1].isalnum() else ""
+        return f"main() {{\n  while (1) {{\n    drive(0, 50);\n    {self.looks}{between}{behind}\n  }}\n}}\n"
+
+    def hint(self) -> str:
+        """How its hint begins."""
+        return ("" if self.language == "C" else f"`{self.looks}` is {self.language}: ") + self.says
+
+
+def rows_of(code: str) -> list[Row]:
+    """The rows of the table of languages in the code."""
+    return [Row(*(part.replace('\\"', '"') for part in found[:4])) for found in A_ROW.findall(code)]
+
+
+def block(random_: random.Random, margin: str, unit: str, is_own_line: bool, depth: int) -> list[str]:
+    """The lines of a block's inside: statements, and some blocks, whose braces end lines or stand in their own."""
+    lines = []
+    for _ in range(random_.randrange(1, 4)):
+        lines.append(f"{margin}{random_.choice(('drive(a, 50);', 'a = scan(a, 10);', 'cannon(a, 300);', 'a += 20;'))}")
+        if depth < 4 and random_.random() < 0.5:
+            head = f"{margin}{random_.choice(('while (speed() > 50)', 'if (a > 90)', 'while (1)'))}"
+            lines += [head, f"{margin}{{"] if is_own_line else [f"{head} {{"]
+            lines += [*block(random_, margin + unit, unit, is_own_line, depth + 1), f"{margin}}}"]
+    return lines
+
+
+def laid_out(random_: random.Random) -> str:
+    """A robot of some functions whose indentation shows its blocks."""
+    unit, is_own_line, lines = random_.choice(("  ", "    ", "\t", " ")), random_.random() < 0.5, []
+    for head in [*(f"{random_.choice(('', 'int '))}turn{number}(a)" for number in range(random_.randrange(3))), "main()"]:
+        lines += [head, "{"] if is_own_line else [f"{head} {{"]
+        lines += [*block(random_, unit, unit, is_own_line, 0), "}", ""]
+    return "\n".join(lines)
+
+
+def without_brace(source: str) -> list[tuple[str, int, int]]:
+    """Each source that lacks one `}` that begins a line, with the line of its `{`, and the line that stands behind it then. The last
+    one of a function isn't left out, since no line of the function is behind it."""
+    lines = source.split("\n")
+    made: list[tuple[str, int, int]] = []
+    opened: list[int] = []
+    for number, line in enumerate(lines):
+        bare = re.sub(r"/\*.*?\*/", "", line)
+        for mark in re.findall(r"[{}]", bare):
+            begin = opened.pop() if mark == "}" else number + 1
+            opened += [begin] if mark == "{" else []
+            if mark == "}" and opened and bare.strip() == "}":
+                made.append(("\n".join(lines[:number] + lines[number + 1:]), begin, number + 1))
+    return made
+
+
+def with_brace(source: str) -> list[tuple[str, int]]:
+    """Each source with one `}` too many, at the end of a block's line that is followed by another one of the block, and its line."""
+    lines = source.split("\n")
+    made = []
+    for number, (line, behind) in enumerate(zip(lines, lines[1:])):
+        margin = line[:len(line) - len(line.lstrip())]
+        if margin and line.endswith(";") and behind.startswith(margin) and re.match(r"\w", behind[len(margin):]):
+            made.append(("\n".join(lines[:number + 1] + [margin + "}"] + lines[number + 1:]), number + 2))
+    return made
+
+
+def followed(random_: random.Random) -> tuple[str, str | None]:
+    """A robot that passes an answer on, through variables and functions, to a place of a call; and what is said of it there."""
+    question, answer = random_.choice(list(ANSWERS.items()))
+    place, wanted, refused = random_.choice(PLACES)
+    declared, functions, statements, value = "", "", [], question
+    for number in range(random_.randrange(4)):
+        kind = random_.randrange(3)
+        if kind == 0:
+            declared += f"int outer{number};\n"
+        if kind == 1:
+            functions += f"pass{number}(a) {{ return a; }}\n"
+        name = f"outer{number}" if kind == 0 else f"inner{number}"
+        statements.append(f"{name} = {f'pass{number}({value})' if kind == 1 else value};")
+        value = name
+    if random_.randrange(2):
+        functions += f"use(a) {{ {place.replace('@', 'a')} }}\n"
+        statements.append(f"use({value});")
+    else:
+        statements.append(place.replace("@", value))
+    body = "\n    ".join(statements)
+    words = f"this is a {answer}" if answer in refused and answer != wanted else None
+    return f"{declared}{functions}main() {{\n  while (1) {{\n    {body}\n  }}\n}}\n", words
+
+
+def columns(text: str) -> int:
+    """How many columns a text takes, by the widths of Unicode."""
+    return sum(2 if unicodedata.east_asian_width(character) in "WF" else 1 for character in text)
+
+
+def lettered(random_: random.Random) -> tuple[str, int]:
+    """A line with letters of any alphabet in comments, and a fault; and the columns before the fault."""
+    alphabets = "äöüßéñøœ", "αβγδωΩ", "абвгджэюя", "日本語漢字", "한국말", "ひらがなカタカナ", "“”–…€"
+    text = "".join(f"/*{''.join(random_.choice(random_.choice(alphabets)) for _ in range(random_.randrange(1, 6)))}*/" for _ in range(random_.randrange(1, 4)))
+    before = f"main() {{ {text} a = 1 "
+    return f"{before}2; }}", columns(before)

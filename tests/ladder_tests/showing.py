@@ -1,0 +1,161 @@
+"""What pages show: lost pairs, rungs, films, the audit, and when the table is another one."""
+
+from __future__ import annotations
+
+import os
+import re
+import tempfile
+import time
+from dataclasses import fields, replace
+from typing import Iterator
+
+from ladder import films, serving
+from ladder.live import Fought, Live, Row
+from ladder.organisers import climbed_by
+from ladder.reasons import lost_pairs
+from leagues import seasons
+from leagues.results import keep
+from leagues.schedules import Schedule
+from leagues.store import opened
+
+from .base import SHOOTER, Base, Ladder, other
+
+WON, LOST, TIED = "15:0:100", "15:100:0", "300:0:0"
+# What `mine` did in the first seat and in the second: it is even with one, lost more against two others, and won against the last.
+FOUGHT = {"even": (f"{WON},{LOST}", f"{WON},{LOST}"), "strong": ("20:100:0,50:100:30,90:0:100", "40:10:100"), "strongest": ("9:100:0,8:100:0", f"{WON},{WON}"),
+          "weak": (f"{WON},{TIED}", f"{LOST},{TIED}")}
+
+
+class Showing(Base):
+    """Tests of what is shown, mostly by results that are made up."""
+
+    _RULES = ("-l5000", "-m", "4")
+
+    def lost_pairs_come_worst_first(self) -> Iterator[str]:
+        """The worst match is that in which the other was hurt least, and of these the shortest."""
+        ladder = self._made("lost")
+        self._fought(ladder, FOUGHT)
+        with opened(ladder.folder) as store:
+            found = [(it.opponents, it.won, it.tied, it.lost, [(one.number, one.seat, one.cycles) for one in it.worst]) for it in lost_pairs(store, "mine")]
+        wanted = [(("strongest",), 0, 0, 4, [(2, 0, 8), (1, 0, 9)]), (("strong",), 1, 0, 3, [(1, 0, 20), (1, 1, 40)])]
+        if found != wanted:
+            yield f"{found}, not {wanted}"
+
+    def a_lost_match_is_told_of_its_robot(self) -> Iterator[str]:
+        """The page has the number of damage by its own shots, which the loser alone has, with names in place of hashes."""
+        ladder = self._made("told")
+        ladder.add("idle", other(1))
+        token = self._begun(ladder)
+        ladder.ask("PUT", "/robots/mine", SHOOTER, token=token)
+        ladder.run("play", "--quiet")
+        text = ladder.ask("GET", "/robots/mine", token=token).text
+        told = re.search('<pre class="sum">(.*?)</pre>', text, re.DOTALL)
+        if "Against <bdi>idle</bdi>" not in text or not told or "mine" not in told[1] or re.search("[0-9a-f]{64}", told[1]):
+            yield f"{told and told[1]} in {text[:2000]}"
+        elif "shots" not in told[1]:
+            yield f"it isn't told of the robot that shot: {told[1]}"
+
+    def films_and_sources_have_no_origin(self) -> Iterator[str]:
+        """So no script in them has a cookie, or reaches anything. A match that doesn't count by the rules of now has no film."""
+        ladder = self._made("films-origin")
+        ladder.add("idle", other(1))
+        token = self._begun(ladder)
+        ladder.ask("PUT", "/robots/mine", SHOOTER, token=token)
+        ladder.run("play", "--quiet")
+        for path, start in (("/replays/1/1", "sandbox allow-scripts;"), ("/robots/mine/versions/1", "sandbox;")):
+            answer = ladder.ask("GET", path, token=token)
+            policy = answer.heads.get("content-security-policy", "")
+            if answer.status != 200 or not policy.startswith(start) or "default-src 'none'" not in policy or "allow-same-origin" in policy:
+                yield f"{path}: {answer.status} {answer.heads}"
+        for words, wanted in (("", ["/"]), ("?play=1", [])):
+            if (found := re.findall('<a [^>]*href="([^"]*)"', ladder.ask("GET", f"/replays/1/1{words}").text)) != wanted:
+                yield f"a film{words} leads to {found}"
+        ladder.run("rules", "-l", "4000")
+        if (status := ladder.ask("GET", "/replays/1/1").status) != 404:
+            yield f"a match that doesn't count by these rules: {status}"
+
+    def a_rung_is_four_of_five_from_either_seat(self) -> Iterator[str]:
+        """Against each robot of a level that plays here; of two levels here, and of three nobody plays."""
+        four, three = [WON] * 4 + [LOST], [WON] * 3 + [LOST, TIED]
+        all_ = [WON] * 5
+        for at, (wanderer, runner, leader, wanted) in enumerate(((four, four, all_, (True, True)), (four, three, four, (False, True)), (three, four, four, (False, True)),
+                                                                (all_, all_, three, (True, False)))):
+            for seat in (0, 1):
+                ladder = self._made(f"rung{at}{seat}")
+                sides = {name: tuple(",".join(it if side == seat else all_) if side == 0 else ",".join(map(turned, it if side == seat else all_)) for side in (0, 1))
+                         for name, it in (("wanderer", wanderer), ("runner", runner), ("leader", leader))}
+                self._fought(ladder, sides)
+                with opened(ladder.folder) as store:
+                    found = climbed_by(store)["mine"]
+                if found != (*wanted, False, False, False):
+                    yield f"{at} from seat {seat + 1}: {found}"
+
+    def what_was_done_last_stands_first(self) -> Iterator[str]:
+        ladder = self._new("audit")
+        for name in ("Ann", "Bob"):
+            ladder.post("/organiser/invite", {"name": name}, token=ladder.organiser)
+        part = ladder.ask("GET", "/organiser", token=ladder.organiser).text.partition("Audit")[2]
+        found = re.findall("<bdi>(Ann|Bob)</bdi>", part)
+        if found != ["Bob", "Ann"]:
+            yield f"{found}"
+
+    def the_tag_is_another_one_if_anything_is(self) -> Iterator[str]:
+        row = Row(1, 1, "a", 2, 1, 0, 1, "1.500", 3.0, 2.0, 4.0)
+        it = Live("1", 2, 3, (row,), (Fought("h", "1", 1, ("a", "b")),))
+        others = [replace(it, **{one.name: value}) for one, value in zip(fields(it), ("2", 9, 9, (), ()))]
+        others += [replace(it, rows=(replace(row, **{one.name: "x" if isinstance(getattr(row, one.name), str) else 9}),)) for one in fields(row)]
+        tags = [one.tag for one in (it, *others)]
+        if len({*tags}) != len(tags) or replace(it).tag != it.tag:
+            yield f"{tags}"
+
+    def of_films_the_newest_are_kept(self) -> Iterator[str]:
+        folder, kept = self._at("films"), films.KEPT
+        films.KEPT = 3
+        try:
+            for at in range(5):
+                films.keep(f"{folder}/{at}.html", b"x")
+                os.utime(f"{folder}/{at}.html", (at, at))
+        finally:
+            films.KEPT = kept
+        if (found := sorted(os.listdir(folder))) != ["2.html", "3.html", "4.html"]:
+            yield f"{found}"
+
+    def sources_that_a_killed_server_left_are_removed(self) -> Iterator[str]:
+        """Old ones, which no other server looks at, and nothing else."""
+        folder, before = self._at("temporary"), tempfile.tempdir
+        for name, age in (("crobots-ladder-old", 700), ("crobots-ladder-young", 500), ("other", 700)):
+            os.makedirs(f"{folder}/{name}")
+            os.utime(f"{folder}/{name}", (time.time() - age, time.time() - age))
+        try:
+            tempfile.tempdir = folder
+            serving.clean()
+        finally:
+            tempfile.tempdir = before
+        if (found := sorted(os.listdir(folder))) != ["crobots-ladder-young", "other"]:
+            yield f"{found}"
+
+    def _fought(self, ladder: Ladder, sides: dict[str, tuple[str, ...]]) -> None:
+        """Keeps what `mine` and others did: results in the first seat, and in the second one."""
+        ladder.add("mine", other(0))
+        for at, name in enumerate(sides, 1):
+            ladder.add(name, other(at))
+        with opened(ladder.folder) as store, store.change():
+            season = seasons.season(store)
+            schedule = Schedule(seasons.field(store, season))
+            names = [it.robot for it in schedule.field.robots]
+            for group in schedule.groups():
+                for seats, seed in schedule.seatings(group):
+                    pair = [names[at] for at in seats]
+                    if "mine" in pair:
+                        seat = pair.index("mine")
+                        keep(store, season.rules, schedule.seated(seats, seed), 1, sides[pair[1 - seat]][seat], "2026-03-01")
+
+    def _begun(self, ladder: Ladder) -> str:
+        ladder.begin()
+        return ladder.author("Ann")
+
+
+def turned(result: str) -> str:
+    """A result as it is from the other seat."""
+    cycles, first, second = result.split(":")
+    return f"{cycles}:{second}:{first}"
