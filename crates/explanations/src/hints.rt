@@ -417,7 +417,7 @@ fn on_commas(scene: &Scene<'_>) -> Option<Hint> {
 pub fn on_headed_colons(scene: &Scene<'_>) -> Option<Hint> {
     let met = scene.tokens.get(scene.index)?;
     let is_colon = spelling_of(scene.source, met) == ":";
-    if !is_colon || !scene.is_behind_head() {
+    if !is_colon || !scene.is_outside() || !scene.fits_mark(Punctuator::OpenCurly) {
         return None;
     }
     Some(Hint::Head("no `:` stands behind the head of a function", scene.head()?))

@@ -57,12 +57,6 @@ stretch_in (Film stretch skipped) = stretch
 stretch_in (Moment target) = None
 stretch_in (Run target) = None
 
--- what is reported is of a robot, and no film
-abbrev pub IsInside : Subject → Type 0
-IsInside (Film stretch skipped) = ⊥
-IsInside (Moment target) = Unit {0}
-IsInside (Run target) = Unit {0}
-
 -- the last cycle of a stretch
 abbrev pub last_of : Stretch → ℕ
 last_of stretch = 15 * (stretch.from + stretch.windows)

@@ -61,6 +61,7 @@ pub extern "C" fn film(
     faults: &mut Sheet,
 ) -> u32
     ensures film { IsFilm order.now robots.now result text.new faults.new }
+    ensures full { result ≡ 4 → OneIsFull text.new faults.new }
     ensures codes { IsOfFilm result }
     ensures accepted { IsAccepted order.now robots.now → IsOfRun result }
     ensures refused { result ≢ 2 → IsAccepted order.now robots.now }
@@ -84,6 +85,7 @@ pub extern "C" fn film_windows(
     faults: &mut Sheet,
 ) -> u32
     ensures film { IsFilm order.now robots.now result text.new faults.new }
+    ensures full { result ≡ 4 → OneIsFull text.new faults.new }
     ensures shows { IsOfStretch order.now robots.now result }
     ensures codes { IsOfWindows result }
     ensures accepted { IsAccepted order.now robots.now → IsOfShown result }

@@ -1,6 +1,6 @@
 //! What is reported of the matches of robots in memory: films and moments, and where instructions come from.
 
-ghost use Rattle.std.specs.Prelude.{◌≡◌, ◌≢◌, ℕ, ◌<◌, All, IfErr, IfOk, IfSome, IsSome, List, None, Some, false, length, map};
+ghost use Rattle.std.specs.Prelude.{◌≡◌, ◌≢◌, ℕ, ◌<◌, ◌/◌, true, All, IfErr, IfOk, IfSome, IsSome, List, None, Some, false, length, map};
 ghost use Rattle.grammar.specs.Tree.{File};
 ghost use Rattle.code.specs.Codes.{AreProgramsOf};
 ghost use Rattle.battles.specs.Battle.{battle};
@@ -10,7 +10,8 @@ ghost use Rattle.series.specs.Compiling.{SourceFile};
 ghost use Rattle.series.specs.Pieces.{on_both};
 ghost use Rattle.series.specs.CompiledFiles.{Compiles};
 ghost use Rattle.series.specs.SourceContents.{AreSources};
-ghost use Rattle.page.specs.Films.{FilmsRobots, IsInside, Shows, stretch_in};
+ghost use Rattle.page.specs.Asking.{film_asks, is_ahead};
+ghost use Rattle.page.specs.Films.{FilmsRobots, Shows, stretch_in};
 ghost use Rattle.page.specs.Running.{AreFresh, IsAccepted, OneIsFull};
 ghost use Rattle.page.specs.Sheets.{IsFull, contents_of, refused};
 
@@ -47,7 +48,7 @@ pub fn tell_robots(
     ensures whole { stretch_in subject.now ≡ None → IfSome result (λ ran. IfOk ran (λ shown. shown ≢ Shown.GoesOn)) }
     ensures accepted { IsAccepted order.now robots.now → IsSome result }
     ensures refused { IsSome result → IsAccepted order.now robots.now }
-    ensures full { IsInside subject.now → IfSome result (λ ran. IfErr ran (λ _. OneIsFull film.new faults.new)) }
+    ensures full { IfSome result (λ ran. IfErr ran (λ _. OneIsFull film.new faults.new)) }
 {
     film.clear();
     faults.clear();
@@ -75,7 +76,7 @@ pub fn tell_robots(
 fn taken(shown: Option<Shown>, sheet: &Sheet) -> Result<Shown, RunFault>
     ensures shown { IfOk result (λ whole. (shown ≡ Some whole) × (refused sheet.now ≡ 0)) }
     ensures stopped { IfErr result (λ fault. fault ≡ RunFault.Write) }
-    ensures full { IsSome shown → IfErr result (λ _. IsFull sheet.now) }
+    ensures full { (shown ≡ None → IsFull sheet.now) → IfErr result (λ _. IsFull sheet.now) }
 {
     match shown {
         Some(whole) if !sheet.is_full() => Ok(whole),
@@ -142,20 +143,21 @@ fn tell_match(
 ) -> Option<Shown>
     requires { 0 < length programs.now }
     ensures made { IfSome result (λ shown. shown ≢ Shown.Faulty) }
-    ensures inside { IsInside subject.now → IsSome result }
+    ensures full { result ≡ None → IsFull sheet.new }
     ensures whole { stretch_in subject.now ≡ None → IfSome result (λ shown. shown ≢ Shown.GoesOn) }
     ensures shows { (files : List File) → AreProgramsOf programs.now settings.now.profile files
         → IfSome result (Shows (stretch_in subject.now) (battle (robots_of settings.now.profile files) settings.now.seed
         settings.now.first settings.now.limit).cycles) }
 {
     match *subject {
-        Subject::Film(stretch, skipped) => {
-            let functions = functions_of(settings.profile(), robots);
-            let places = places_of(programs, robots);
-            let (functions, places) = (functions.as_slice(), places.as_slice());
-            let film = Film::new(sheet, functions, places, stretch, skipped);
-            film_match(settings, programs, film, stretch)
-        }
+        Subject::Film(stretch, skipped) => film_match(
+            settings,
+            programs,
+            robots,
+            stretch,
+            skipped,
+            sheet,
+        ),
         Subject::Moment(target) => {
             tell_moment(settings, programs, target, sheet);
             Some(Shown::Over)
@@ -167,13 +169,15 @@ fn tell_match(
     }
 }
 
-/// Plays the first match of these programs, and writes its film: of a stretch, or of all of it. `None` if it was cut
-/// off, since the sheet is full.
+/// Plays the first match of these programs, and writes its film on a blank sheet: of a stretch, or of all of it, without
+/// some of its first rows. `None` if it was cut off, since the sheet is full.
 fn film_match(
     settings: &Settings<'_>,
     programs: &Programs,
-    mut film: Film<'_>,
+    robots: &[RobotFile],
     stretch: Option<Stretch>,
+    skipped: u32,
+    sheet: &mut Sheet,
 ) -> Option<Shown>
     requires { 0 < length programs.now }
     ensures made { IfSome result (λ shown. shown ≢ Shown.Faulty) }
@@ -181,7 +185,12 @@ fn film_match(
     ensures shows { (files : List File) → AreProgramsOf programs.now settings.now.profile files
         → IfSome result (Shows stretch (battle (robots_of settings.now.profile files) settings.now.seed settings.now.first
         settings.now.limit).cycles) }
+    ensures full { result ≡ None → IsFull sheet.new }
 {
+    let functions = functions_of(settings.profile(), robots);
+    let places = places_of(programs, robots);
+    let (functions, places) = (functions.as_slice(), places.as_slice());
+    let mut film = Film::new(sheet, functions, places, stretch, skipped);
     let ending = play_programs(settings, programs, &mut film);
     let shown = shown_by(stretch, ending)?;
     if shown == Shown::Over {
@@ -196,6 +205,8 @@ fn shown_by(stretch: Option<Stretch>, ending: PlayEnd) -> Option<Shown>
     ensures made { IfSome result (λ shown. shown ≢ Shown.Faulty) }
     ensures whole { stretch ≡ None → IfSome result (λ shown. shown ≢ Shown.GoesOn) }
     ensures shows { (last : ℕ) → EndsAt last ending → IfSome result (Shows stretch last) }
+    ensures cut { result ≡ None → (ending.is_over ≡ false)
+        × (is_ahead stretch (ending.cycles / UPDATE_CYCLES) ≡ true) }
 {
     let Some(stretch) = stretch else {
         return ending.is_over.then_some(Shown::Over);
@@ -211,8 +222,12 @@ fn shown_by(stretch: Option<Stretch>, ending: PlayEnd) -> Option<Shown>
 #[tactic(auto, using(crate::proofs::FilmedRobots::two_paired))]
 fn play_programs(settings: &Settings<'_>, programs: &Programs, film: &mut Film<'_>) -> PlayEnd
     requires { 0 < length programs.now }
-    ensures { (files : List File) → AreProgramsOf programs.now settings.now.profile files
+    ensures battle { (files : List File) → AreProgramsOf programs.now settings.now.profile files
         → IsPlayed (robots_of settings.now.profile files) settings.now.seed settings.now.first settings.now.limit result }
+    ensures sheet { film.new.camera.rows.sheet.ghost_name ≡ film.old.camera.rows.sheet.ghost_name }
+    ensures stretch { film.new.camera.rows.stretch ≡ film.old.camera.rows.stretch }
+    ensures cut { result.is_over ≡ false → film_asks film.new.camera.rows.stretch (result.cycles / UPDATE_CYCLES)
+        (refused film.new.camera.rows.sheet.now) ≡ false }
 {
     let (seed, number, limit) = (settings.seed(), settings.first(), settings.limit());
     let mut pilots = pilots_of(programs);

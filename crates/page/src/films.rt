@@ -1,7 +1,7 @@
 //! Films of matches: what there is to see of one, row by row.
 
-ghost use Rattle.std.specs.Prelude.{◌≡◌, ◌<◌, ◌≤◌, length};
-ghost use Rattle.page.specs.Asking.{film_asks};
+ghost use Rattle.std.specs.Prelude.{◌≡◌, ◌<◌, ◌≤◌, ◌/◌, length};
+ghost use Rattle.page.specs.Asking.{film_asks, kept_by};
 ghost use Rattle.page.specs.Sheets.{refused};
 
 use crate::missiles::FiredMissile;
@@ -54,7 +54,9 @@ impl SheetRows<'_> {
     }
 
     /// Writes a row, unless it is one of the first ones that are left out.
-    fn put(&mut self, cycle: u32, robot: usize, event: &Event<'_>) {
+    fn put(&mut self, cycle: u32, robot: usize, event: &Event<'_>)
+        ensures { kept_by self.new ≡ kept_by self.old }
+    {
         if self.skipped > 0 {
             self.skipped -= 1;
             return;
@@ -64,6 +66,8 @@ impl SheetRows<'_> {
 }
 
 impl Listener for SheetRows<'_> {
+    ghost keeps = { kept_by };
+
     /// Writes a row of an event, if the film shows what happens now.
     fn tell(&mut self, cycle: u32, robot: usize, event: &Event<'_>) {
         if self.is_told() {
@@ -102,7 +106,8 @@ impl<'a> Film<'a> {
         stretch: Option<Stretch>,
         skipped: u32,
     ) -> Film<'a>
-        ensures { result.camera.rows.stretch ≡ stretch }
+        ensures stretch { result.camera.rows.stretch ≡ stretch }
+        ensures sheet { result.camera.rows.sheet.ghost_name ≡ sheet.entry.ghost_name }
     {
         add_columns(sheet);
         let rows = SheetRows {
@@ -136,25 +141,31 @@ impl<'a> Film<'a> {
     }
 
     /// Writes where the robots are at a border of the stretch, and which missiles are in the air at its start.
-    fn tell_border(&mut self, cycle: u32, arena: &Arena) {
-        let rows = &mut self.camera.rows;
-        let Some(stretch) = rows.stretch else {
+    fn tell_border(&mut self, cycle: u32, arena: &Arena)
+        ensures { kept_by self.new.camera.rows ≡ kept_by self.old.camera.rows }
+    {
+        let updates = self.camera.rows.updates;
+        let Some(stretch) = self.camera.rows.stretch else {
             return;
         };
-        if !stretch.is_bordered(rows.updates) {
+        if !stretch.is_bordered(updates) {
             return;
         }
         for robot in 0..arena.robot_count() {
             let stance = Stance::of(cycle, robot, arena);
-            rows.put(cycle, robot, &Event::stance("stands", &stance));
+            self.camera
+                .rows
+                .put(cycle, robot, &Event::stance("stands", &stance));
         }
-        if rows.updates == stretch.from {
+        if updates == stretch.from {
             self.tell_missiles();
         }
     }
 
     /// Writes which missiles are in the air.
-    fn tell_missiles(&mut self) {
+    fn tell_missiles(&mut self)
+        ensures { kept_by self.new.camera.rows ≡ kept_by self.old.camera.rows }
+    {
         for slot in 0..MOST_BURSTS {
             let missile = self.missiles[slot];
             let rows = &mut self.camera.rows;
@@ -168,6 +179,7 @@ impl<'a> Film<'a> {
     fn shoot(&mut self, turn: Turn, question: Exchange, arena: &Arena)
         requires inside { turn.robot < length arena.now.robots }
         requires cycle { turn.cycle ≤ MOST_CYCLES }
+        ensures { kept_by self.new.camera.rows ≡ kept_by self.old.camera.rows }
     {
         if question.reply == 0 {
             return;
@@ -181,7 +193,9 @@ impl<'a> Film<'a> {
     }
 
     /// Keeps a missile that is fired, in the place of one that has burst: of each robot two are in the air at most.
-    fn keep(&mut self, missile: FiredMissile) {
+    fn keep(&mut self, missile: FiredMissile)
+        ensures { self.new.camera ≡ self.old.camera }
+    {
         for slot in 0..MOST_BURSTS {
             if !self.missiles[slot].flies(self.camera.rows.updates) {
                 self.missiles[slot] = missile;
@@ -192,7 +206,9 @@ impl<'a> Film<'a> {
 }
 
 impl Watcher for Film<'_> {
-    ghost asks_more = { λ film. film_asks film.camera.rows.stretch film.camera.rows.updates
+    ghost keeps = { λ film. kept_by film.camera.rows };
+
+    ghost asks_more = { λ film cycle. film_asks film.camera.rows.stretch (cycle / UPDATE_CYCLES)
         (refused film.camera.rows.sheet.now) };
 
     fn begins(&mut self, arena: &Arena) {
@@ -238,11 +254,11 @@ impl Watcher for Film<'_> {
     }
 
     /// Reports whether the stretch isn't past, and the sheet isn't full.
-    fn wants_more(&self) -> bool {
+    fn wants_more(&self, cycle: u32) -> bool {
         let rows = &self.camera.rows;
         let is_past = match &rows.stretch {
             None => false,
-            Some(stretch) => stretch.is_past(rows.updates),
+            Some(stretch) => stretch.is_past(cycle / UPDATE_CYCLES),
         };
         !is_past && rows.sheet.refused() == 0
     }

@@ -76,7 +76,7 @@ impl<'a> Events<'a> {
 }
 
 impl Watcher for Events<'_> {
-    ghost asks_more = { λ events. is_ok events.camera.rows.state };
+    ghost asks_more = { λ events _. is_ok events.camera.rows.state };
 
     fn begins(&mut self, arena: &Arena) {
         if self.camera.rows.is_film {
@@ -130,7 +130,7 @@ impl Watcher for Events<'_> {
         self.camera.rows.pass();
     }
 
-    fn wants_more(&self) -> bool {
+    fn wants_more(&self, _: u32) -> bool {
         self.camera.rows.are_fine()
     }
 }

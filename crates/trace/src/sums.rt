@@ -121,7 +121,7 @@ impl Watcher for Sums<'_> {
         }
     }
 
-    fn wants_more(&self) -> bool {
+    fn wants_more(&self, _: u32) -> bool {
         true
     }
 }

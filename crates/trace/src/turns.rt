@@ -63,7 +63,7 @@ impl<'a> Turns<'a> {
 }
 
 impl Watcher for Turns<'_> {
-    ghost asks_more = { λ turns. is_ok turns.rows.state };
+    ghost asks_more = { λ turns _. is_ok turns.rows.state };
 
     fn begins(&mut self, _: &Arena) {}
 
@@ -91,7 +91,7 @@ impl Watcher for Turns<'_> {
 
     fn updated(&mut self, _: u32, _: &Arena) {}
 
-    fn wants_more(&self) -> bool {
+    fn wants_more(&self, _: u32) -> bool {
         self.rows.are_fine()
     }
 }

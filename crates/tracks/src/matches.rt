@@ -173,7 +173,7 @@ impl Watcher for Recording {
         self.watch(arena, cycle / UPDATE_CYCLES);
     }
 
-    fn wants_more(&self) -> bool {
+    fn wants_more(&self, _: u32) -> bool {
         true
     }
 }

@@ -16,7 +16,8 @@ pub trait FilmRows: Listener {
     fn follows(&self, cycle: u32, robot: usize) -> bool;
 
     /// Takes an event of an earlier cycle, which goes before those of the last update.
-    fn tell_before(&mut self, cycle: u32, robot: usize, event: &Event<'_>);
+    fn tell_before(&mut self, cycle: u32, robot: usize, event: &Event<'_>)
+        ensures { keeps self.new ≡ keeps self.old };
 }
 
 /// What films a match: it is given what robots do, looks at them after each update, and gives rows to what takes them.
@@ -41,13 +42,17 @@ impl<R: FilmRows> Camera<R> {
     }
 
     /// Films where the robots are at the start.
-    pub fn begin(&mut self, arena: &Arena) {
+    pub fn begin(&mut self, arena: &Arena)
+        ensures { R.keeps self.new.rows ≡ R.keeps self.old.rows }
+    {
         self.robots = arena.robot_count();
         self.look(0, arena);
     }
 
     /// Films what is seen of the robots after the update of a cycle: their deaths, and where their runs end and begin.
-    pub fn look(&mut self, cycle: u32, arena: &Arena) {
+    pub fn look(&mut self, cycle: u32, arena: &Arena)
+        ensures { R.keeps self.new.rows ≡ R.keeps self.old.rows }
+    {
         for robot in 0..self.robots.min(arena.robot_count()) {
             self.look_at(cycle, robot, arena);
         }
@@ -56,6 +61,7 @@ impl<R: FilmRows> Camera<R> {
     /// Films what is seen of a robot after the update of a cycle.
     fn look_at(&mut self, cycle: u32, robot: usize, arena: &Arena)
         requires { robot < length arena.now.robots }
+        ensures { R.keeps self.new.rows ≡ R.keeps self.old.rows }
     {
         let Some(seen) = self.seen.get_mut(robot) else {
             return;
@@ -69,7 +75,9 @@ impl<R: FilmRows> Camera<R> {
     }
 
     /// Films where a robot is, if a run ends or begins there.
-    fn follow(&mut self, robot: usize, stance: Stance) {
+    fn follow(&mut self, robot: usize, stance: Stance)
+        ensures { R.keeps self.new.rows ≡ R.keeps self.old.rows }
+    {
         let Some(seen) = self.seen.get_mut(robot) else {
             return;
         };
@@ -94,6 +102,7 @@ impl<R: FilmRows> Camera<R> {
         arena: &Arena,
     )
         requires { robot < length arena.now.robots }
+        ensures { R.keeps self.new.rows ≡ R.keeps self.old.rows }
     {
         let [degree, range] = arguments;
         let event = if reply == 0 {
@@ -106,7 +115,9 @@ impl<R: FilmRows> Camera<R> {
     }
 
     /// Films a scan, by these arguments and this reply, if it is the robot's first one since the last update.
-    pub fn scan(&mut self, cycle: u32, robot: usize, arguments: [i32; 2], reply: i32) {
+    pub fn scan(&mut self, cycle: u32, robot: usize, arguments: [i32; 2], reply: i32)
+        ensures { R.keeps self.new.rows ≡ R.keeps self.old.rows }
+    {
         let Some(seen) = self.seen.get_mut(robot) else {
             return;
         };
@@ -125,7 +136,9 @@ impl<R: FilmRows> Camera<R> {
         cause: &'n str,
         function: &'n str,
         line: u32,
-    ) {
+    )
+        ensures { R.keeps self.new.rows ≡ R.keeps self.old.rows }
+    {
         let line = Field::Number(i64::from(line));
         let fields = [Field::Text(cause), Field::Text(function), line];
         self.rows
@@ -133,7 +146,9 @@ impl<R: FilmRows> Camera<R> {
     }
 
     /// Films where the robots' ways end, and their damages after a cycle, as events of this kind.
-    pub fn end(&mut self, cycle: u32, kind: &'static str) {
+    pub fn end(&mut self, cycle: u32, kind: &'static str)
+        ensures { R.keeps self.new.rows ≡ R.keeps self.old.rows }
+    {
         for robot in 0..self.robots.min(MOST_ROBOTS) {
             let seen = self.seen[robot];
             if let Some(end) = seen.run.end() {

@@ -1,6 +1,6 @@
 //! Events of a match: the kind of each, and what is said of it.
 
-ghost use Rattle.std.specs.Prelude.{◌≡◌, ◌≤◌, length, map};
+ghost use Rattle.std.specs.Prelude.{◌≡◌, ◌≤◌, ℕ, List, [], length, map};
 ghost use Rattle.watching.specs.Losses.{loss_numbers, loss_word, number_of};
 
 use crate::runs::Stance;
@@ -96,13 +96,18 @@ impl<'a> Event<'a> {
     }
 }
 
-/// Takes the events of a match, one by one.
+/// Takes the events of a match, one by one. `keeps` has numbers of it that no call changes, as where it writes to.
 pub trait Listener {
+    ghost keeps: { Self → List ℕ } = { λ _. [] };
+
     /// Takes an event of a robot in a cycle.
-    fn tell(&mut self, cycle: u32, robot: usize, event: &Event<'_>);
+    fn tell(&mut self, cycle: u32, robot: usize, event: &Event<'_>)
+        ensures { keeps self.new ≡ keeps self.old };
 
     /// Takes what the update does that follows this cycle: the bursts, and what each robot loses.
-    fn tell_update(&mut self, cycle: u32, arena: &Arena) {
+    fn tell_update(&mut self, cycle: u32, arena: &Arena)
+        ensures { keeps self.new ≡ keeps self.old }
+    {
         for burst in &arena.due() {
             self.tell(cycle, burst.robot(), &Event::burst(burst));
         }

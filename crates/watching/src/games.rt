@@ -108,6 +108,7 @@ impl Game {
             → AreRobotsOf (exes_of (codes_of pilots.old)) robots
             → HasCome (codes_of pilots.old) robots s pilots.old self.old → W.told watcher.old sights → W.told watcher.new
             (sights ++ cycle_sights robots (self.old.ending.cycles + 1) (state_after robots s self.old.ending.cycles)) }
+        ensures kept { W.keeps watcher.new ≡ W.keeps watcher.old }
     {
         self.take_turns(pilots, watcher);
         self.end_cycle(watcher);
@@ -129,6 +130,7 @@ impl Game {
             → HasCome (codes_of pilots.old) robots s pilots.old self.old → W.told watcher.old sights → W.told watcher.new
             (sights ++ turns_sights robots (self.old.ending.cycles + 1) (state_after robots s self.old.ending.cycles)
             (length robots)) }
+        ensures kept { W.keeps watcher.new ≡ W.keeps watcher.old }
     {
         let cycle = self.ending.cycles + 1;
         turns(pilots, &mut self.arena, watcher, cycle);
@@ -153,6 +155,7 @@ impl Game {
         ensures ends { EndsWell self.new }
         ensures told { (f : Field) (sights : List Sight) → RepresentsField self.old.arena f → W.told watcher.old sights
             → W.told watcher.new (sights ++ update_sights (self.old.ending.cycles + 1) f) }
+        ensures kept { W.keeps watcher.new ≡ W.keeps watcher.old }
     {
         let cycle = self.ending.cycles + 1;
         let is_decided = update_after(&mut self.arena, watcher, cycle);
@@ -184,7 +187,8 @@ pub fn play<W: Watcher>(
     requires limit { limit ≤ MOST_CYCLES }
     ensures battle { (robots : List Behaviour) → AreRobotsOf (exes_of (codes_of pilots.old)) robots
         → IsPlayed robots seed number limit result }
-    ensures whole { result.is_over ≡ false → W.asks_more watcher.new ≡ false }
+    ensures whole { result.is_over ≡ false → W.asks_more watcher.new result.cycles ≡ false }
+    ensures kept { W.keeps watcher.new ≡ W.keeps watcher.old }
     ensures told { (robots : List Behaviour) (sights : List Sight) → AreRobotsOf (exes_of (codes_of pilots.old)) robots
         → W.told watcher.old sights → let opening = first_state (length robots) seed number in
         W.told watcher.new (sights ++ Begins opening.field ∷ [] ++ sights_of robots opening result.cycles) }
@@ -215,7 +219,8 @@ fn play_on<W: Watcher>(game: &mut Game, pilots: &mut [Pilot<'_>], watcher: &mut 
     ensures battle { (robots : List Behaviour) (s : BattleState) → AreRobotsOf (exes_of (codes_of pilots.old)) robots
         → HasCome (codes_of pilots.old) robots s pilots.old game.old
         → HasCome (codes_of pilots.old) robots s pilots.new game.new }
-    ensures whole { game.new.ending.is_over ≡ false → W.asks_more watcher.new ≡ false }
+    ensures whole { game.new.ending.is_over ≡ false → W.asks_more watcher.new game.new.ending.cycles ≡ false }
+    ensures kept { W.keeps watcher.new ≡ W.keeps watcher.old }
     ensures told { (robots : List Behaviour) (s : BattleState) (sights : List Sight)
         → AreRobotsOf (exes_of (codes_of pilots.old)) robots
         → HasCome (codes_of pilots.old) robots s pilots.old game.old → W.told watcher.old sights
@@ -226,7 +231,8 @@ fn play_on<W: Watcher>(game: &mut Game, pilots: &mut [Pilot<'_>], watcher: &mut 
 {
     while !game.ending().is_over {
         game.cycle(pilots, watcher);
-        if game.ending().cycles % UPDATE_CYCLES == 0 && !watcher.wants_more() {
+        let cycle = game.ending().cycles;
+        if cycle % UPDATE_CYCLES == 0 && !watcher.wants_more(cycle) {
             return;
         }
     }
@@ -244,6 +250,7 @@ fn update_after<W: Watcher>(arena: &mut Arena, watcher: &mut W, cycle: u32) -> b
     ensures between { cycle % UPDATE_CYCLES ≢ 0 → (arena.new.updates ≡ arena.old.updates) × (result ≡ false) }
     ensures told { (f : Field) (sights : List Sight) → RepresentsField arena.old f → W.told watcher.old sights
         → W.told watcher.new (sights ++ update_sights cycle f) }
+    ensures kept { W.keeps watcher.new ≡ W.keeps watcher.old }
 {
     cycle % UPDATE_CYCLES == 0 && decides(arena, watcher, cycle)
 }
@@ -261,6 +268,7 @@ fn turns<W: Watcher>(pilots: &mut [Pilot<'_>], arena: &mut Arena, watcher: &mut 
     ensures told { (robots : List Behaviour) (s : BattleState) (sights : List Sight)
         → AreRobotsOf (exes_of (codes_of pilots.old)) robots → HavePlayed (codes_of pilots.old) pilots.old arena.old s
         → W.told watcher.old sights → W.told watcher.new (sights ++ turns_sights robots cycle s (length robots)) }
+    ensures kept { W.keeps watcher.new ≡ W.keeps watcher.old }
 {
     for robot in 0..pilots.len() {
         pilots[robot].turn(Turn { cycle, robot }, arena, watcher);
@@ -276,6 +284,7 @@ fn decides<W: Watcher>(arena: &mut Arena, watcher: &mut W, cycle: u32) -> bool
     ensures updates { arena.new.updates ≡ arena.old.updates + 1 }
     ensures told { (f : Field) (sights : List Sight) → RepresentsField arena.old f → W.told watcher.old sights
         → W.told watcher.new (sights ++ Updates cycle f ∷ Updated cycle (moved f) ∷ []) }
+    ensures kept { W.keeps watcher.new ≡ W.keeps watcher.old }
 {
     watcher.updates(cycle, arena);
     arena.update();

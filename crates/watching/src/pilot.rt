@@ -85,6 +85,7 @@ impl<'a> Pilot<'a> {
         ensures told { (sights : List Sight) (f : Field) (trace : List ℤ) → RepresentsField arena.old f
             → IsReached self.old.state self.old.code trace → W.told watcher.old sights
             → W.told watcher.new (sights ++ turn_sights turn.cycle turn.robot (want_code self.old.code trace) f trace) }
+        ensures kept { W.keeps watcher.new ≡ W.keeps watcher.old }
     {
         if !arena.alive(turn.robot) {
             return;
@@ -113,6 +114,7 @@ impl<'a> Pilot<'a> {
         ensures restarts { IsReached self.new.state self.old.code [] }
         ensures told { (sights : List Sight) → W.told watcher.old sights
             → W.told watcher.new (sights ++ Restarts turn.cycle turn.robot ∷ []) }
+        ensures kept { W.keeps watcher.new ≡ W.keeps watcher.old }
     {
         if let Some(cause) = self.machine.cause(self.program) {
             watcher.restarts(turn, self, cause);

@@ -18,5 +18,5 @@ returns-clause-accepted c accepted =
 
 pub returns-clause-full : goal.returns-clause-full
 returns-clause-full c is =
-    film_full c.tell_robots.result c.tell_robots.new.film c.tell_robots.new.faults (c.tell_robots.ensures.full tt)
+    film_full c.tell_robots.result c.tell_robots.new.film c.tell_robots.new.faults c.tell_robots.ensures.full
     (sym c.film_code.ensures ∙ is)

@@ -70,9 +70,9 @@ returns-clause-films c =
     ])
 
 pub returns-clause-full : goal.returns-clause-full
-returns-clause-full c = λ inside.
-    let some : IsSome c.match-mode.shown = elim c.match-mode.branch [
-      | in-Listing w ↦ rw w.shown-is refl
-      | in-Matches w ↦ rw w.shown-is (w.tell_match-shown.ensures.inside inside)
-    ] in
-    one_is_full c.taken.result c.match-mode.film _ (c.taken.ensures.full some)
+returns-clause-full c =
+    one_is_full c.taken.result c.match-mode.film _
+    (c.taken.ensures.full (λ none. elim c.match-mode.branch [
+      | in-Listing w ↦ absurd (cc (w.shown-is, none))
+      | in-Matches w ↦ w.tell_match-shown.ensures.full (sym w.shown-is ∙ none)
+    ]))

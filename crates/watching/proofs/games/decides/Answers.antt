@@ -8,5 +8,5 @@ pub returns-clause-told : goal.returns-clause-told
 returns-clause-told g c = λ f sights stands told.
     two_told (g.W.Watcher.told c.updated.new.self) sights (Updates c.args.cycle f ∷ [])
     (Updated c.args.cycle (moved f) ∷ [])
-    (c.updated.ensures (sights ++ Updates c.args.cycle f ∷ []) (moved f) (c.update.ensures.stands f stands)
-    (c.updates.ensures sights f stands told))
+    (c.updated.ensures.told (sights ++ Updates c.args.cycle f ∷ []) (moved f) (c.update.ensures.stands f stands)
+    (c.updates.ensures.told sights f stands told))

@@ -25,4 +25,4 @@ returns-clause-told g c = λ robots sights are told.
     let stands = rw (c.new-game.ensures.begins, state_none robots opening) at come.played.field in
     rw c.ending.ensures.ending
     ((rw c.new-game.ensures.codes at (c.play_on.ensures.told robots opening (sights ++ Begins opening.field ∷ []))) are
-    come (c.begins.ensures sights opening.field (rw c.arena.ensures stands) told))
+    come (c.begins.ensures.told sights opening.field (rw c.arena.ensures stands) told))

@@ -9,6 +9,7 @@ loop-game-init g c = record {
   codes = refl;
   limit = refl;
   ends = c.requires.ends;
+  kept = refl;
   battle = λ robots s are come. come;
   told = λ robots s sights are come told.
       rw (c.requires.begins, none_played robots s) (none_told (g.W.Watcher.told c.args.watcher.now) sights told);
@@ -20,6 +21,7 @@ loop-game-preserved g c = record {
   codes = c.cycle.ensures.codes ∙ c.loop-game.invariant.codes;
   limit = c.cycle.ensures.next.limit ∙ c.loop-game.invariant.limit;
   ends = c.cycle.ensures.ends;
+  kept = c.cycle.ensures.kept ∙ c.loop-game.invariant.kept;
   battle = λ robots s are come.
       (rw c.loop-game.invariant.codes at (c.cycle.ensures.battle robots s)) are
       (c.loop-game.invariant.battle robots s are come);

@@ -16,6 +16,7 @@ invariant-loop-game g l = record {
   battle : (robots : List Behaviour) (s : BattleState) → AreRobotsOf (exes_of (codes_of l.initial.pilots)) robots
       → HasCome (codes_of l.initial.pilots) robots s l.initial.pilots l.initial.game
       → HasCome (codes_of l.initial.pilots) robots s l.pilots l.game;
+  kept : g.W.Watcher.keeps l.watcher ≡ g.W.Watcher.keeps l.initial.watcher;
   told : (robots : List Behaviour) (s : BattleState) (sights : List Sight)
       → AreRobotsOf (exes_of (codes_of l.initial.pilots)) robots
       → HasCome (codes_of l.initial.pilots) robots s l.initial.pilots l.initial.game

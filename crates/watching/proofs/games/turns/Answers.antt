@@ -16,6 +16,7 @@ loop-robot-init g c = record {
   updates = refl;
   codes = refl;
   pilots = refl;
+  kept = refl;
   state = λ robots s are played. rw (turns_none robots s) played;
   told = λ robots s sights are played told.
       rw (none_seen robots c.args.cycle s) (none_told (g.W.Watcher.told c.args.watcher.now) sights told);
@@ -39,6 +40,7 @@ loop-robot-preserved g c = record {
             let same = c.turn.ensures.dead dead in (ap (λ (seat : Pilot). seat.state) same.0, same.1);
         lives = c.turn.ensures.lives;
       }) (c.loop-robot.invariant.state robots s are played);
+  kept = c.turn.ensures.kept ∙ c.loop-robot.invariant.kept;
   told = λ robots s sights are played told.
       let i = c.loop-robot.robot in
       let now = turns robots i s in

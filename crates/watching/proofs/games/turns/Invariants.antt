@@ -15,6 +15,7 @@ invariant-loop-robot g l = record {
   state : (robots : List Behaviour) (s : BattleState) → AreRobotsOf (exes_of (codes_of l.initial.pilots)) robots
       → HavePlayed (codes_of l.initial.pilots) l.initial.pilots l.initial.arena s
       → HavePlayed (codes_of l.initial.pilots) l.pilots l.arena (turns robots l.robot s);
+  kept : g.W.Watcher.keeps l.watcher ≡ g.W.Watcher.keeps l.initial.watcher;
   told : (robots : List Behaviour) (s : BattleState) (sights : List Sight)
       → AreRobotsOf (exes_of (codes_of l.initial.pilots)) robots
       → HavePlayed (codes_of l.initial.pilots) l.initial.pilots l.initial.arena s

@@ -24,7 +24,7 @@ returns-in-Quiet-clause-told g c = λ sights f trace stands at told.
     live_told (g.W.Watcher.told c.turn.new.self) sights turn.cycle turn.robot Quiet
     (want_code c.args.self.now.code trace) f trace (sym (c.alive.ensures.stands f stands) ∙ c.if-not-alive.false) wants
     (none_told (g.W.Watcher.told c.turn.new.self) (sights ++ Runs turn.cycle turn.robot trace ∷ [])
-    (c.turn.ensures sights trace at told))
+    (c.turn.ensures.told sights trace at told))
 
 pub returns-in-Restart-clause-told : goal.returns-in-Restart-clause-told
 returns-in-Restart-clause-told g c = λ sights f trace stands at told.
@@ -34,7 +34,7 @@ returns-in-Restart-clause-told g c = λ sights f trace stands at told.
     c.in-Restart.ensures.code at in
     live_told (g.W.Watcher.told c.restart.new.watcher) sights turn.cycle turn.robot Restart
     (want_code c.args.self.now.code trace) f trace (sym (c.alive.ensures.stands f stands) ∙ c.if-not-alive.false) wants
-    (c.restart.ensures.told (sights ++ Runs turn.cycle turn.robot trace ∷ []) (c.turn.ensures sights trace at told))
+    (c.restart.ensures.told (sights ++ Runs turn.cycle turn.robot trace ∷ []) (c.turn.ensures.told sights trace at told))
 
 pub returns-in-Ask-clause-told : goal.returns-in-Ask-clause-told
 returns-in-Ask-clause-told g c = λ sights f trace stands at told.
@@ -47,6 +47,6 @@ returns-in-Ask-clause-told g c = λ sights f trace stands at told.
     (want_code c.args.self.now.code trace) f trace (sym (c.alive.ensures.stands f stands) ∙ c.if-not-alive.false) wants
     (rw (← c.ask-reply.ensures.reply f stands)
     (rw (to_z-of_z w32 c.ask-reply.result fits) at
-    (c.asked.ensures (sights ++ Runs turn.cycle turn.robot trace ∷ [])
+    (c.asked.ensures.told (sights ++ Runs turn.cycle turn.robot trace ∷ [])
     (answer f turn.robot c.in-Ask.intrinsic c.in-Ask.arguments).1 (c.ask-reply.ensures.stands f stands)
-    (c.turn.ensures sights trace at told))))
+    (c.turn.ensures.told sights trace at told))))
