@@ -7,7 +7,7 @@ from collections import defaultdict
 from dataclasses import dataclass, replace
 from typing import Iterable, Iterator, Sequence
 
-from sites.facts import Battle, Facts, Pair, Place, Program, Robot, Score, Seat, Settings, Standing, Table, Verdict, Version
+from sites.facts import Battle, Facts, Pair, Place, Program, Robot, Score, Seat, Settings, Standing, Sums, Table, Verdict, Version
 from sites.facts import Season as SiteSeason
 from sites.gathering import Gathering
 from sites.notables import DEAD
@@ -44,7 +44,7 @@ class Words:
     archive: str
     verify: str
     page: str
-    sums: dict[str, str]
+    sums: dict[str, Sums]
     copied: dict[str, str]
     hash: str = ""
 
@@ -138,7 +138,7 @@ def robots(store: Store, happened: Sequence[Entry], season: Season, lost: Lost, 
         gone = own[-1].day if own[-1].what == WITHDRAW else ""
         battles = tuple(battle for _, battle in lost.get(robot, ()))
         yield Robot(robot, names.get(robot, robot), tuple(versions(store, own, shown)), authors[robot], gone,
-                    words.sums.get(robot, ""), battles, words.copied.get(robot, ""))
+                    words.sums.get(robot, Sums()), battles, words.copied.get(robot, ""))
 
 
 def versions(store: Store, own: Sequence[Entry], shown: set[str]) -> Iterator[Version]:

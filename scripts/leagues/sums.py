@@ -7,6 +7,7 @@ from concurrent.futures import ThreadPoolExecutor
 from typing import Sequence
 
 from replays.main import TRACE
+from sites.facts import Sums
 from tools.faults import Fault
 from tools.programs import found
 from tournaments.settings import Group
@@ -18,8 +19,8 @@ from .schedules import Schedule
 Seat = tuple[Group, int, int]
 
 
-def sums(schedule: Schedule, results: Results, folder: str, many: int, jobs: int) -> dict[str, str]:
-    """Of each robot what the program says of at most `many` of its matches; nothing if the program isn't there."""
+def sums(schedule: Schedule, results: Results, folder: str, many: int, jobs: int) -> dict[str, Sums]:
+    """Of each robot what the program sums up of at most `many` of its matches; nothing if the program isn't there."""
     try:
         trace = found(TRACE) if many else ""
     except Fault:
@@ -37,7 +38,7 @@ def sums(schedule: Schedule, results: Results, folder: str, many: int, jobs: int
     with ThreadPoolExecutor(jobs) as pool:
         said = {at: [pool.submit(summed, trace, schedule, folder, it) for it in spread(seats, many)]
                 for at, seats in played.items()}
-        return {robots[at].robot: "".join(it.result() for it in texts) for at, texts in said.items()}
+        return {robots[at].robot: joined([it.result() for it in them]) for at, them in said.items()}
 
 
 def spread(them: Sequence[Seat], many: int) -> list[Seat]:
@@ -45,12 +46,21 @@ def spread(them: Sequence[Seat], many: int) -> list[Seat]:
     return [them[at * len(them) // many] for at in range(many)] if len(them) > many else [*them]
 
 
-def summed(trace: str, schedule: Schedule, folder: str, it: Seat) -> str:
-    """What the program says of a robot in the first match of a seating; nothing if it fails."""
+def joined(them: Sequence[Sums]) -> Sums:
+    """The sums of all these matches."""
+    return Sums("".join(it.text for it in them), "".join(it.objects for it in them))
+
+
+def summed(trace: str, schedule: Schedule, folder: str, it: Seat) -> Sums:
+    """What the program sums up of a robot in the first match of a seating; nothing if it fails."""
     seats, seed, seat = it
     rules = schedule.field.rules
     files = [f"{folder}/{schedule.field.robots[at].sha256}" for at in seats]
-    options = [f"-l{rules.cycles}", f"-s{seed}", f"-p{rules.profile}"]
-    words = [trace, "--sum", f"--robot={seat + 1}", *options, "--", *files]
+    words = [f"--robot={seat + 1}", f"-l{rules.cycles}", f"-s{seed}", f"-p{rules.profile}", "--", *files]
+    return Sums(written([trace, "--sum", *words]), written([trace, "--json", *words]))
+
+
+def written(words: Sequence[str]) -> str:
+    """What a program writes; nothing if it fails."""
     ran = subprocess.run(words, stdin=subprocess.DEVNULL, capture_output=True, text=True, errors="replace", check=False)
     return ran.stdout if not ran.returncode else ""

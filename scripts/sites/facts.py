@@ -81,6 +81,14 @@ class Battle:
 
 
 @dataclass(frozen=True)
+class Sums:
+    """What `crobots-trace` sums up of a robot, match by match: as `--sum` tells it, and as the objects of `--json`."""
+
+    text: str = ""
+    objects: str = ""
+
+
+@dataclass(frozen=True)
 class Robot:
     """A robot with all its versions, the last of which plays. It has an id that no other robot ever has."""
 
@@ -90,8 +98,8 @@ class Robot:
     author: str = ""
     # the day from which on it doesn't play any more
     withdrawn: str = ""
-    # what `crobots-trace --sum` says of it
-    sums: str = ""
+    # what it did in some of its matches
+    sums: Sums = Sums()
     # matches that it lost; if they have days, its last ones, the last one first
     lost: tuple[Battle, ...] = ()
     # the robot of another author that had the same code before

@@ -145,12 +145,12 @@ def opponent(lookup: Lookup, pair: Pair, up: str) -> list[str]:
 
 def summed(it: Robot) -> Markup:
     """Its shots and what hurt it."""
-    if not it.sums:
+    if not it.sums.objects:
         return Markup("")
-    many, said = sums.matches(it.sums), "What crobots-trace says"
-    text = scrolling(tag("pre", block(it.sums.splitlines())), said, "listing")
+    many, said = sums.matches(it.sums.objects), "What crobots-trace says"
+    text = scrolling(tag("pre", block(it.sums.text.splitlines())), said, "listing")
     return section("Shots and damage", sentence(f"In {counted(many, 'match')}:") if many else Markup(""),
-                   listed(sums.rows(it.sums)), tag("details", tag("summary", said), text))
+                   listed(sums.rows(it.sums.objects)), tag("details", tag("summary", said), text))
 
 
 def lost(lookup: Lookup, replays: Replays, it: Robot, up: str) -> Markup:

@@ -1,39 +1,37 @@
-"""Adds up what `crobots-trace --sum` says of a robot in some matches: its shots, its hits, and what hurt it."""
+"""Adds up what `crobots-trace --json` counts of a robot in some matches: its shots, its hits, and what hurt it."""
 
 from __future__ import annotations
 
-import re
+import json
 from collections import Counter
 
-# An item that has no room goes on in the next line, below the first one.
-GOES_ON = re.compile(r"\n {14}(?=\S)")
-LINE = re.compile(r"^   (lost|took|shots) +(.+)$", re.MULTILINE)
-ITEM = re.compile(r"([0-9]+)(%?) (fired|refused|burst|hit|from|by its own shots|by shots|by walls|by collisions)\b")
-MATCH = re.compile(r"^Match [0-9]+: cycles = [0-9]+$", re.MULTILINE)
 TITLES = {
-    "fired": "Shots fired", "hit": "Shots that hit", "from": "Damage to others",
-    "by shots": "Damage by shots of others", "by its own shots": "Damage by its own shots",
-    "by walls": "Damage by walls", "by collisions": "Damage by collisions",
+    "fired": "Shots fired", "hit": "Shots that hit", "took": "Damage to others",
+    "shots": "Damage by shots of others", "own": "Damage by its own shots",
+    "walls": "Damage by walls", "collisions": "Damage by collisions",
 }
 
 
-def added(text: str) -> Counter[str]:
-    """The sums by what is summed up."""
+def added(objects: str) -> Counter[str]:
+    """The sums by what is summed up, of objects of which each is of a match and of one robot."""
     found: Counter[str] = Counter()
-    for line in LINE.finditer(GOES_ON.sub(" ", text)):
-        for number, _, what in ITEM.findall(line[2]):
-            found[what] += int(number)
+    for line in objects.splitlines():
+        for it in json.loads(line)["robots"]:
+            by = it["lost_by_shots_of"]
+            own = by[it["robot"] - 1]
+            found.update(fired=it["fired"], hit=it["hit"], took=sum(it["took_from"]), shots=sum(by) - own, own=own,
+                         walls=it["lost_by_walls"], collisions=it["lost_by_collisions"])
     return found
 
 
-def matches(text: str) -> int:
-    """How many matches a text is of."""
-    return len(MATCH.findall(text))
+def matches(objects: str) -> int:
+    """How many matches they are of."""
+    return objects.count("\n")
 
 
-def rows(text: str) -> list[tuple[str, str]]:
-    """The sums as rows, a match's mean beside each if it is of some."""
-    sums, many = added(text), matches(text)
+def rows(objects: str) -> list[tuple[str, str]]:
+    """The sums as rows, a match's mean beside each if there are several."""
+    sums, many = added(objects), matches(objects)
     return [(title, told(sums, what, many)) for what, title in TITLES.items() if sums[what] or what in ("fired", "hit")]
 
 

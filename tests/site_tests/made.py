@@ -5,7 +5,7 @@ from __future__ import annotations
 import hashlib
 from decimal import Decimal
 
-from sites.facts import (Battle, BySeat, Facts, Notable, Pair, Place, Program, Robot, Score, Seat, Settings, Standing,
+from sites.facts import (Battle, BySeat, Facts, Notable, Pair, Place, Program, Robot, Score, Seat, Settings, Standing, Sums,
                          Table, Version)
 
 SCRIPT = "<script>alert(1)</script>.r"
@@ -16,7 +16,7 @@ LATIN = b"/* caf\xe9 */ main() { }\n"
 PAGE = "https://example.org/crobots/"
 MATCHES = 10
 DAYS = ("2026-11-01", "2026-11-08", "2026-11-15")
-SUMS = """Match 1: cycles = 300
+SUMS = Sums(text="""Match 1: cycles = 300
   1) dead  damage 100% hunter.r
   2) alive damage   0% other.r
 
@@ -27,7 +27,8 @@ SUMS = """Match 1: cycles = 300
    shots      20 fired, 3 refused, 20 burst, 5 hit another robot
    line      cycles    %  text
       1         300  100  "shots 9 fired"
-"""
+""", objects='{"match": 1, "cycles": 300, "robots": [{"robot": 1, "name": "hunter.r", "lost_by_walls": 16, "lost_by_collisions": 4, '
+             '"lost_by_shots_of": [20, 60, 0, 0], "took_from": [0, 12, 0, 0], "fired": 20, "refused": 3, "burst": 20, "hit": 5}]}\n')
 
 
 def version(source: bytes, day: str = "") -> Version:
@@ -40,7 +41,7 @@ def robot(at: int, name: str) -> Robot:
     older = (version(SOURCE, "2026-10-01"),) if at % 3 == 0 else ()
     lost = (battle(NAMES[at - 1], name, 0, 100, 4000 + at),) if at else ()
     return Robot(name, name, (*older, version(last, "2026-11-10")), "Ada <Lovelace>" if at % 2 else "", "",
-                 SUMS * 2 if at == 0 else "", lost)
+                 Sums(SUMS.text * 2, SUMS.objects * 2) if at == 0 else Sums(), lost)
 
 
 def battle(one: str, other: str, damage: int, against: int, number: int) -> Battle:

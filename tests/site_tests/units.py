@@ -69,7 +69,7 @@ def results() -> Results:
     yield from axes()
     yield from days_of_changes()
     yield from addresses_of_pages()
-    yield "sums of two matches", dict(sums.rows(made.SUMS * 2)) == {
+    yield "sums of two matches", dict(sums.rows(made.SUMS.objects * 2)) == {
         "Shots fired": "20.0 a match", "Shots that hit": "5.0 a match (25.0 %)", "Damage to others": "12.0 % a match",
         "Damage by shots of others": "60.0 % a match", "Damage by its own shots": "20.0 % a match",
         "Damage by walls": "16.0 % a match", "Damage by collisions": "4.0 % a match"}

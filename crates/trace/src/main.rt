@@ -1,4 +1,4 @@
-//! Plays one match, and reports what happened in it: sums, events, questions, steps, a film, a moment, or changes of
+//! Plays a match, and reports what happened in it: sums, events, questions, steps, a film, a moment, or changes of
 //! variables.
 #![tactic(auto)]
 
@@ -12,12 +12,14 @@ mod insides;
 mod items;
 mod measured;
 mod misses;
+mod ranges;
 mod reports;
 mod requests;
 mod restarts;
 mod rows;
 mod stands;
 mod sums;
+mod sums_objects;
 mod tallies;
 mod tellers;
 mod turns;
@@ -26,7 +28,7 @@ mod watches;
 use crate::events::Events;
 use crate::requests::{FORM_OPTIONS, Form, Request, Task};
 use crate::stands::tell_moments;
-use crate::sums::Sums;
+use crate::sums::{tell_objects, tell_sums};
 use crate::tellers::tell;
 use crate::turns::Turns;
 use crate::watches::tell_changes;
@@ -39,8 +41,8 @@ use watching::{Pilot, pilots};
 /// The program's name, its line of wrong usage, and its options.
 const FRAME: ProgramFrame = ProgramFrame {
     name: "crobots-trace",
-    about: "Plays one match, and reports what each robot did and suffered.",
-    usage: "[-kMATCH] [-lCYCLES] [-sSEED] [-pPROFILE] [--robot N] [--from CYCLE] [--to CYCLE] [--columns N] [--sum | --events | --asks | --steps | --film | --inside | --at CYCLE | --watch NAMES] FILE..",
+    about: "Plays a match, and reports what each robot did and suffered.",
+    usage: "[-kMATCH] [-mMATCHES] [-lCYCLES] [-sSEED] [-pPROFILE] [--robot N] [--from CYCLE] [--to CYCLE] [--columns N] [--sum | --json | --events | --asks | --steps | --film | --inside | --at CYCLE | --watch NAMES] FILE..",
     known: &[&MATCH_OPTIONS, &SPAN_OPTIONS, &FORM_OPTIONS],
 };
 
@@ -74,7 +76,8 @@ fn told(task: Task<'_>, pilots: &mut [Pilot<'_>]) -> Result<(), Fault>
 {
     let wish = &task.request.wish;
     match task.request.form {
-        Form::Sum => tell(Sums::new(task, pilots)?, wish, pilots),
+        Form::Sum => tell_sums(task, pilots),
+        Form::Objects => tell_objects(task, pilots),
         Form::Events | Form::Film | Form::Inside => tell(Events::new(task), wish, pilots),
         Form::Asks | Form::Steps => tell(Turns::new(task), wish, pilots),
         Form::At => tell_moments(task, pilots),

@@ -1,13 +1,13 @@
-//! The report of a match's sums.
+//! The report of the sums of matches.
 
 use crate::habits::{add_calls, add_directions, add_streak};
-use crate::items::{Items, percents};
+use crate::items::{Items, mean, percents};
 use crate::measured::add_measured;
 use crate::misses::add_misses;
+use crate::ranges::add_ranges;
 use crate::requests::Task;
 use crate::restarts::add_restarts;
 use crate::tallies::{RobotCounts, add, largest_first};
-use code::Intrinsic;
 use notes::{Note, NotedProgram, plain};
 use std::alloc::{AllocError, Global};
 use tools::{Draft, Text};
@@ -18,6 +18,43 @@ const MOST_TOLD: usize = 10;
 
 /// How many characters stand before the text of a line of a source.
 const TEXT_COLUMN: usize = 26;
+
+/// The matches of a report.
+#[derive(Clone, Copy)]
+pub struct Played {
+    /// The number of the first one.
+    first: u32,
+    /// The number of the last one.
+    last: u32,
+    /// How many there are.
+    count: u64,
+    /// Their cycles in all.
+    cycles: u64,
+}
+
+impl Played {
+    /// Makes none, of which this will be the first.
+    pub fn none(first: u32) -> Played {
+        Played {
+            first,
+            last: first,
+            count: 0,
+            cycles: 0,
+        }
+    }
+
+    /// Adds the match of this number.
+    pub fn add(&mut self, number: u32, cycles: u32) {
+        self.last = number;
+        self.count = self.count.saturating_add(1);
+        self.cycles = self.cycles.saturating_add(u64::from(cycles));
+    }
+
+    /// Reports whether there are more than one.
+    pub fn are_several(self) -> bool {
+        self.count > 1
+    }
+}
 
 /// A robot of the report: what was counted of it, and what gives these counts their lines and names.
 #[derive(Clone, Copy)]
@@ -32,54 +69,83 @@ pub struct Subject<'a> {
     pub columns: usize,
 }
 
-/// Adds the report: the match and how each robot ended, as crobots has it, and then each robot in the span.
-pub fn add_report(
-    text: &mut Draft,
-    task: Task<'_>,
-    cycles: u32,
-    tallies: &[RobotCounts],
-) -> Result<(), AllocError> {
-    let request = task.request;
-    let mut subjects = Vec::new(text.alloc());
+/// Returns the robots of a match, by what was counted of each.
+pub fn subjects_of<'a>(
+    alloc: Global,
+    task: Task<'a>,
+    tallies: &'a [RobotCounts],
+) -> Result<Vec<Subject<'a>>, AllocError> {
+    let mut subjects = Vec::new(alloc);
     for (robot, tally) in tallies.iter().enumerate() {
         if let Some(noted) = task.sources.robot(robot) {
             subjects.push(Subject {
                 number: robot.saturating_add(1),
                 tally,
                 noted,
-                columns: request.columns,
+                columns: task.request.columns,
             })?;
         }
     }
-    writeln!(text, "Match {}: cycles = {cycles}", request.wish.first());
+    Ok(subjects)
+}
+
+/// Adds the report: the match and how each robot ended, as crobots has it, or the matches and how often each robot was
+/// alive; and then each robot in the span.
+pub fn add_report(
+    text: &mut Draft,
+    task: Task<'_>,
+    played: Played,
+    tallies: &[RobotCounts],
+) -> Result<(), AllocError> {
+    let subjects = subjects_of(text.alloc(), task, tallies)?;
+    let (first, last, cycles) = (played.first, played.last, played.cycles);
+    if played.are_several() {
+        writeln!(text, "Matches {first} to {last}: cycles = {cycles}");
+    } else {
+        writeln!(text, "Match {first}: cycles = {cycles}");
+    }
     for subject in &subjects {
-        add_end(text, subject);
+        add_end(text, subject, played);
     }
     for (robot, subject) in subjects.iter().enumerate() {
-        if request.span.has_robot(robot) {
-            add_robot(text, subject)?;
+        if task.request.span.has_robot(robot) {
+            add_robot(text, subject, played)?;
         }
     }
     Ok(())
 }
 
-/// Adds how a robot ended.
-fn add_end(text: &mut Draft, subject: &Subject<'_>) {
+/// Adds how a robot ended: of several matches how often it was alive, and its damage in the mean.
+fn add_end(text: &mut Draft, subject: &Subject<'_>, played: Played) {
     let (number, name) = (subject.number, &subject.noted.note.name);
     let (damage, death) = (subject.tally.damage, subject.tally.death);
+    if played.are_several() {
+        let (survived, count) = (subject.tally.survived, played.count);
+        let damage = mean(subject.tally.damages, count);
+        writeln!(
+            text,
+            "  {number}) alive in {survived} of {count}, damage {damage:>3}% {name}"
+        );
+        return;
+    }
     let state = if death.is_some() { "dead" } else { "alive" };
     writeln!(text, "  {number}) {state:<5} damage {damage:>3}% {name}");
 }
 
 /// Adds the part of the report on a robot.
-fn add_robot(text: &mut Draft, subject: &Subject<'_>) -> Result<(), AllocError> {
+fn add_robot(text: &mut Draft, subject: &Subject<'_>, played: Played) -> Result<(), AllocError> {
     add_name(text, subject);
     add_losses(text, subject)?;
     add_taken(text, subject)?;
     add_shots(text, subject)?;
     add_misses(text, &subject.tally.misses)?;
+    if played.are_several() {
+        add_ranges(text, subject.tally)?;
+    }
     add_restarts(text, subject)?;
-    add_streak(text, subject)?;
+    if !played.are_several() {
+        add_streak(text, subject)?;
+    }
     add_time(text, subject)?;
     add_calls(text, subject)?;
     add_directions(text, subject.tally)?;
@@ -136,12 +202,10 @@ fn add_taken(text: &mut Draft, subject: &Subject<'_>) -> Result<(), AllocError> 
 fn add_shots(text: &mut Draft, subject: &Subject<'_>) -> Result<(), AllocError> {
     let tally = subject.tally;
     let mut items = Items::new("shots", text, subject.columns);
-    if let Some(calls) = tally.calls.get(Intrinsic::Cannon as usize)
-        && calls.all > 0
-    {
-        let fired = calls.all.saturating_sub(calls.zero);
+    if let Some(shots) = tally.fired() {
+        let [fired, refused] = shots;
         write!(items.begin(), "{fired} fired");
-        write!(items.begin(), "{} refused", calls.zero);
+        write!(items.begin(), "{refused} refused");
         write!(items.begin(), "{} burst", tally.bursts);
         write!(items.begin(), "{} hit another robot", tally.hits);
     }
@@ -180,7 +244,7 @@ fn add_functions(text: &mut Draft, subject: &Subject<'_>) -> Result<(), AllocErr
 }
 
 /// Returns the cycles of each function of a robot's program.
-fn cycles_by_function(alloc: Global, subject: &Subject<'_>) -> Result<Vec<u64>, AllocError> {
+pub fn cycles_by_function(alloc: Global, subject: &Subject<'_>) -> Result<Vec<u64>, AllocError> {
     let noted = subject.noted;
     let mut counts = vec![in alloc; 0; noted.program.addresses().len()]?;
     for (address, spot) in subject.tally.spots.iter().enumerate() {

@@ -1,12 +1,18 @@
 //! What is asked for: a match, a form, and a span of it.
 
 use notes::Sources;
-use settings::{MOST_CYCLES, Settings};
-use tools::{Fault, Known, Options, Span, number_of, wish};
+use settings::{MATCHES_DEFAULT, MOST_CYCLES, MOST_MATCHES, Settings};
+use tools::{Fault, Known, Options, Span, Wrong, number_of, wish};
 
 /// The options that a form is asked for by.
-pub const FORM_OPTIONS: [Known; 9] = [
+pub const FORM_OPTIONS: [Known; 11] = [
     Known::Flag("sum", "sums of each robot, which is the default"),
+    Known::Flag("json", "the sums as an object of JSON, a line a match"),
+    Known::Valued(
+        "m",
+        "MATCHES",
+        "the sums of so many matches, one after the other (default 1)",
+    ),
     Known::Flag("events", "a row for each event"),
     Known::Flag("asks", "a row for each call of an intrinsic function"),
     Known::Flag("steps", "a row for each cycle of a robot"),
@@ -30,6 +36,8 @@ pub const FORM_OPTIONS: [Known; 9] = [
 pub enum Form {
     /// Sums of each robot.
     Sum,
+    /// Sums of each robot as an object of JSON.
+    Objects,
     /// A row for each event.
     Events,
     /// A row for each question.
@@ -66,8 +74,10 @@ const MOST_COLUMNS: u64 = 1000;
 /// What is asked for.
 #[derive(Drop)]
 pub struct Request<'a> {
-    /// The match.
+    /// The match, the first one of several.
     pub wish: Settings<'a>,
+    /// How many matches there are.
+    pub matches: u32,
     /// The form.
     pub form: Form,
     /// Which robot and which cycles are reported.
@@ -81,16 +91,20 @@ pub struct Request<'a> {
 }
 
 impl<'a> Request<'a> {
-    /// Reads what options ask for: a match, a span of it, and a form, sums by default. Two forms are wrong usage.
+    /// Reads what options ask for: a match, a span of it, and a form, sums by default. Two forms are wrong usage, and
+    /// several matches of another form than sums.
     pub fn read(options: &Options<'a>) -> Result<Request<'a>, Fault> {
         let wish = wish(options)?;
-        let form = options.only(&FORMS)?.unwrap_or(Form::Sum);
+        let form = form_of(options)?;
+        let (fewest, many) = (u64::from(MATCHES_DEFAULT), u64::from(MOST_MATCHES));
+        let matches = number_of(options, "m", fewest, many, fewest)?;
         let span = Span::read(options, wish.file_words().len().max(2))?;
         let at = number_of(options, "at", 0, u64::from(MOST_CYCLES), 0)? as u32;
         let (least, most) = (LEAST_COLUMNS, MOST_COLUMNS);
         let columns = number_of(options, "columns", least, most, least)?;
         Ok(Request {
             wish,
+            matches: matches as u32,
             form,
             span,
             at,
@@ -98,6 +112,34 @@ impl<'a> Request<'a> {
             columns: columns as usize,
         })
     }
+}
+
+/// Returns the form that options ask for: sums by default, as objects with `--json`. Of no other form there are objects or
+/// several matches.
+fn form_of(options: &Options<'_>) -> Result<Form, Fault> {
+    let form = options.only(&FORMS)?.unwrap_or(Form::Sum);
+    for name in ["json", "m"] {
+        if let Some(other) = other_form(options)
+            && options.has(name)
+        {
+            return Err(Fault::Wrong(Wrong::Both(name, other)));
+        }
+    }
+    Ok(if options.has("json") {
+        Form::Objects
+    } else {
+        form
+    })
+}
+
+/// Returns the name of the form that is asked for, if it is another one than sums.
+fn other_form(options: &Options<'_>) -> Option<&'static str> {
+    for (name, _) in &FORMS {
+        if *name != "sum" && options.has(name) {
+            return Some(*name);
+        }
+    }
+    None
 }
 
 /// A match that is to be reported.

@@ -1,6 +1,7 @@
 //! What is counted of a robot: the sums are made of that. Each cycle, call, restart, loss and burst is counted while
 //! the match is played.
 
+use crate::aims::Miss;
 use crate::clocks::Clock;
 use crate::misses::{MissCounts, Misses};
 use crate::restarts::{Crowd, crowd_of};
@@ -54,6 +55,12 @@ impl Calls {
     }
 }
 
+/// How many ranges are told apart: each has a hundred metres, the last one all that are longer.
+pub const RANGES: usize = 8;
+
+/// How many metres of range are one.
+const RANGE_METRES: u16 = 100;
+
 /// What is counted of a robot.
 #[derive(Drop)]
 pub struct RobotCounts {
@@ -81,6 +88,10 @@ pub struct RobotCounts {
     pub hits: u64,
     /// By how much these missed whom they were aimed at.
     pub misses: Misses,
+    /// How many of these bursts were aimed, by the range that was asked for.
+    pub aimed: [u64; RANGES],
+    /// How many of them took something from whom they were aimed at.
+    pub reached: [u64; RANGES],
     /// What walls took from it, in percent.
     pub walls: u64,
     /// What collisions took from it, in percent.
@@ -93,6 +104,10 @@ pub struct RobotCounts {
     pub damage: u8,
     /// The cycle after which it was dead.
     pub death: Option<u32>,
+    /// How many matches before it was alive at the end of.
+    pub survived: u64,
+    /// Its damage at the ends of the matches before in all, in percent.
+    pub damages: u64,
 }
 
 impl RobotCounts {
@@ -112,13 +127,36 @@ impl RobotCounts {
             bursts: 0,
             hits: 0,
             misses: [MissCounts::default(); 4],
+            aimed: [0; RANGES],
+            reached: [0; RANGES],
             walls: 0,
             collisions: 0,
             shots: [0; MOST_ROBOTS],
             taken: [0; MOST_ROBOTS],
             damage: 0,
             death: None,
+            survived: 0,
+            damages: 0,
         })
+    }
+
+    /// Ends a match: what follows is counted of the next one.
+    pub fn end_match(&mut self) {
+        self.survived = self
+            .survived
+            .saturating_add(u64::from(self.death.is_none()));
+        self.damages = self.damages.saturating_add(u64::from(self.damage));
+        self.damage = 0;
+        self.death = None;
+        self.streak = None;
+        self.clock.restart();
+    }
+
+    /// Counts an aimed shot by its range.
+    pub fn aim(&mut self, miss: &Miss) {
+        let range = usize::from(miss.range / RANGE_METRES).min(RANGES - 1);
+        add(&mut self.aimed, range, 1);
+        add(&mut self.reached, range, u64::from(miss.percent > 0));
     }
 
     /// Counts a cycle at an address.
@@ -203,6 +241,21 @@ impl RobotCounts {
         if !is_alive && self.death.is_none() {
             self.death = Some(cycle);
         }
+    }
+
+    /// Returns its shots: how many were fired, how many refused. None if it never asked to shoot.
+    pub fn fired(&self) -> Option<[u64; 2]> {
+        let calls = self.calls.get(Intrinsic::Cannon as usize)?;
+        (calls.all > 0).then_some([calls.all.saturating_sub(calls.zero), calls.zero])
+    }
+
+    /// Returns how often it restarted.
+    pub fn restarts(&self) -> u64 {
+        let mut all: u64 = 0;
+        for spot in self.spots.as_slice() {
+            all = all.saturating_add(spot.restarts);
+        }
+        all
     }
 
     /// Returns how many cycles the robot ran.
