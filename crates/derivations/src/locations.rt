@@ -73,8 +73,9 @@ fn count_tokens(source: &[u8]) -> usize {
     };
     let mut count: usize = 0;
     for _ in 0..MOST_SOURCE_BYTES + 2 {
+        let token = *cursor.peek();
         count = count.saturating_add(1);
-        if cursor.peek().token.is_last() || cursor.advance(&mut feed).is_err() {
+        if token.token.is_last() || cursor.advance(&mut feed).is_err() {
             break;
         }
     }

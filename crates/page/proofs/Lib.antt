@@ -2,4 +2,4 @@ mod ExplainingLemmas
 mod RunningLemmas
 mod FilmLemmas
 mod FilmedRobots
-mod CutFilms
+mod KeptFilms

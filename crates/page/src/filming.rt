@@ -151,12 +151,7 @@ fn tell_match(
 {
     match *subject {
         Subject::Film(stretch, skipped) => film_match(
-            settings,
-            programs,
-            robots,
-            stretch,
-            skipped,
-            sheet,
+            settings, programs, robots, stretch, skipped, sheet,
         ),
         Subject::Moment(target) => {
             tell_moment(settings, programs, target, sheet);
@@ -192,11 +187,13 @@ fn film_match(
     let (functions, places) = (functions.as_slice(), places.as_slice());
     let mut film = Film::new(sheet, functions, places, stretch, skipped);
     let ending = play_programs(settings, programs, &mut film);
-    let shown = shown_by(stretch, ending)?;
-    if shown == Shown::Over {
+    let shown = shown_by(stretch, ending);
+    if let Some(Shown::Over) = shown {
         film.end(ending.cycles);
     }
-    Some(shown)
+    // For the proof alone: what the sheet is when its loan ends.
+    let _sheet = &*film.into_sheet();
+    shown
 }
 
 /// Returns what is shown of a stretch of a match that was played so far, or of all of it: over, or going on. `None` if

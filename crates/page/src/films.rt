@@ -140,6 +140,16 @@ impl<'a> Film<'a> {
         }
     }
 
+    /// Takes the film apart, and returns the sheet.
+    pub fn into_sheet(self) -> &'a mut Sheet
+        ensures value { result.now ≡ self.entry.camera.rows.sheet.now }
+        ensures name { result.ghost_name ≡ self.entry.camera.rows.sheet.ghost_name }
+    {
+        let Film { camera, .. } = self;
+        let Camera { rows, .. } = camera;
+        rows.sheet
+    }
+
     /// Writes where the robots are at a border of the stretch, and which missiles are in the air at its start.
     fn tell_border(&mut self, cycle: u32, arena: &Arena)
         ensures { kept_by self.new.camera.rows ≡ kept_by self.old.camera.rows }
@@ -208,7 +218,7 @@ impl<'a> Film<'a> {
 impl Watcher for Film<'_> {
     ghost keeps = { λ film. kept_by film.camera.rows };
 
-    ghost asks_more = { λ film cycle. film_asks film.camera.rows.stretch (cycle / UPDATE_CYCLES)
+    ghost asks_more = { λ film cycle. film_asks film.camera.rows.stretch (cycle / 15)
         (refused film.camera.rows.sheet.now) };
 
     fn begins(&mut self, arena: &Arena) {

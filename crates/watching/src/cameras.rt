@@ -17,7 +17,7 @@ pub trait FilmRows: Listener {
 
     /// Takes an event of an earlier cycle, which goes before those of the last update.
     fn tell_before(&mut self, cycle: u32, robot: usize, event: &Event<'_>)
-        ensures { keeps self.new ≡ keeps self.old };
+        ensures { Self.keeps self.new ≡ Self.keeps self.old };
 }
 
 /// What films a match: it is given what robots do, looks at them after each update, and gives rows to what takes them.

@@ -2,7 +2,7 @@ use Rattle.std.proofs.Common.{◌≡◌, take, sym}
 use Rattle.watching.proofs.Playing.{plain_robots}
 use Rattle.battles.specs.Pairing.{paired, robots_of}
 use Rattle.watching.specs.Played.{codes_of}
-use Rattle.page.proofs.CutFilms.{same_name, same_stretch}
+use Rattle.page.proofs.KeptFilms.{same_name, same_stretch}
 use Rattle.page.proofs.filming.play_programs.Goals as goal
 
 pub returns-clause-battle : goal.returns-clause-battle

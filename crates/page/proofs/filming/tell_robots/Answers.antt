@@ -74,5 +74,5 @@ returns-clause-full c =
     one_is_full c.taken.result c.match-mode.film _
     (c.taken.ensures.full (λ none. elim c.match-mode.branch [
       | in-Listing w ↦ absurd (cc (w.shown-is, none))
-      | in-Matches w ↦ w.tell_match-shown.ensures.full (sym w.shown-is ∙ none)
+      | in-Matches w ↦ rw w.film-is (w.tell_match-shown.ensures.full (sym w.shown-is ∙ none))
     ]))
