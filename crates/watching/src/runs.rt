@@ -1,6 +1,6 @@
 //! Runs: pieces of a robot's way that are straight, at constant speed. Of each run a film has its two ends alone.
 
-ghost use Rattle.std.specs.Prelude.{◌≡◌, ◌<◌, Some, None, true, false, length};
+ghost use Rattle.std.specs.Prelude.{◌≡◌, ◌<◌, Some, None, true, false, is_some, length};
 ghost use Rattle.arena.specs.Field.{Field, robot_at};
 ghost use Rattle.arena.specs.Representing.{RepresentsField};
 ghost use Rattle.watching.specs.Runs.{is_alike, is_even, stance_of, way_of};
@@ -116,6 +116,7 @@ impl Run {
             → result.begin ≡ Some stance }
         ensures end { (last : Stance) → self.old.last ≡ Some last → is_alike last stance ≡ false
             → self.old.is_told ≡ false → result.end ≡ Some last }
+        ensures told { self.new.is_told ≡ is_some result.begin }
     {
         let last = self.last;
         match last {
@@ -135,6 +136,7 @@ impl Run {
         ensures way { (way : Displacement) → self.old.way ≡ Some way → is_even way (way_of last.now stance) ≡ false
             → self.new.way ≡ Some (way_of last.now stance) }
         ensures untold { self.new.is_told ≡ false }
+        ensures same { result.begin ≡ None }
     {
         let way = last.way_to(&stance);
         let before = self.way;
@@ -154,6 +156,7 @@ impl Run {
         ensures last { self.new.last ≡ Some stance }
         ensures told { result.begin ≡ Some stance }
         ensures end { self.old.is_told ≡ false → result.end ≡ self.old.last }
+        ensures shown { self.new.is_told ≡ true }
     {
         let end = self.end();
         self.last = Some(stance);

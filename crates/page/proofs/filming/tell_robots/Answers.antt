@@ -1,4 +1,4 @@
-use Rattle.std.proofs.Common.{◌≡◌, List, ℕ, IsSome, Ok, Some, map, Bor, ap, refl, sym, ◌∙◌, ◌≢◌, rules}
+use Rattle.std.proofs.Common.{◌≡◌, List, ℕ, Ok, Some, map, Bor, ap, sym, ◌∙◌, ◌≢◌, rules}
 use Rattle.series.specs.Compiling.{SourceFile}
 use Rattle.series.specs.Pieces.{Taken, on_both}
 use Rattle.series.specs.CompiledFiles.{Compiles}

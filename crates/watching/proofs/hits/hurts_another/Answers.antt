@@ -1,4 +1,4 @@
-use Rattle.std.proofs.Common.{◌≡◌, ◌∙◌, ap, arith, inl, inr, length, sym}
+use Rattle.std.proofs.Common.{◌∙◌, ap, arith, inl, inr, length, sym}
 use Rattle.std.proofs.lemmas.Bool.{cases_eq}
 use Rattle.watching.specs.Hits.{hurts_another}
 use Rattle.watching.proofs.Hitting.{hurting, none_below, one_below}
