@@ -11,10 +11,12 @@ import time
 import zipfile
 from contextlib import closing
 from typing import Callable, Iterator
+from unittest import mock
 
+from ladder.attempts import Attempts
 from leagues.store import opened
 
-from .base import IDLE, Answer, Base, Ladder, other
+from .base import IDLE, SECONDS, Answer, Base, Ladder, other
 
 TOP = os.path.join(os.path.dirname(os.path.abspath(__file__)), "..", "..")
 NOBODY, OTHER, AUTHOR, ORGANISER = "nobody", "another author", "the author", "the organiser"
@@ -163,7 +165,7 @@ class Authors(Base):
             if not found or found[1] not in wanted:
                 yield f"{words}: {ladder.said}"
                 continue
-            with closing(http.client.HTTPConnection(found[1], ladder.port, timeout=60)) as line:
+            with closing(http.client.HTTPConnection(found[1], ladder.port, timeout=SECONDS)) as line:
                 line.request("GET", "/tag")
                 if line.getresponse().status != 200:
                     yield f"{words}: {found[1]} doesn't answer"
@@ -183,6 +185,17 @@ class Authors(Base):
         found = [ladder.post("/join", {"token": f"guess{at}"}).status for at in range(21)]
         if found != [401] * 20 + [429] or ladder.post("/join", {"token": tokens[AUTHOR]}).status != 429:
             yield f"{found}"
+
+    def who_waited_a_minute_may_try_again(self) -> Iterator[str]:
+        """By a clock of the test: three attempts within a minute are many, each counts for a minute, and nobody's are another's."""
+        now, it = [1000.0], Attempts(3)
+        with mock.patch("ladder.attempts.time.monotonic", lambda: now[0]), mock.patch("ladder.attempts.SECONDS", 60.0):
+            for second, counts, wanted in ((0, 1, False), (10, 1, False), (20, 1, True), (59, 0, True), (61, 0, False), (62, 1, True), (71, 0, False), (200, 0, False)):
+                now[0] = 1000.0 + second
+                for _ in range(counts):
+                    it.count("one")
+                if (it.are_many("one"), it.are_many("another")) != (wanted, False):
+                    yield f"after {second} seconds: {it.are_many('one')}, {it.are_many('another')}"
 
     def an_old_session_is_none(self) -> Iterator[str]:
         """After thirty days a browser has to join again. A link has no such end."""

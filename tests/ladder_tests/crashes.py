@@ -2,10 +2,12 @@
 
 from __future__ import annotations
 
+import contextlib
 import http.client
 import os
 import random
 import signal
+import socket
 import threading
 import time
 from typing import Iterator
@@ -102,8 +104,21 @@ def kill(ladder: Ladder, child: int) -> None:
     """Kills a child, or all of it, and begins again then."""
     assert ladder.process
     if child:
-        os.kill(child, signal.SIGKILL)
+        # it may have ended by itself since it was looked for
+        with contextlib.suppress(ProcessLookupError):
+            os.kill(child, signal.SIGKILL)
         return
     ladder.process.kill()
     ladder.process.wait()
+    listens_no_more(ladder.port)
     ladder.serve()
+
+
+def listens_no_more(port: int) -> None:
+    """Waits until the children of a keeper that is gone have ended: one of them listens until then."""
+    end = time.monotonic() + SECONDS
+    while time.monotonic() < end:
+        with contextlib.suppress(OSError):
+            socket.create_server(("127.0.0.1", port)).close()
+            return
+        time.sleep(0.02)

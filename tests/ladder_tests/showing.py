@@ -123,7 +123,7 @@ class Showing(Base):
     def sources_that_a_killed_server_left_are_removed(self) -> Iterator[str]:
         """Old ones, which no other server looks at, and nothing else."""
         folder, before = self._at("temporary"), tempfile.tempdir
-        for name, age in (("crobots-ladder-old", 700), ("crobots-ladder-young", 500), ("other", 700)):
+        for name, age in (("crobots-ladder-old", 700), ("crobots-ladder-young", 0), ("other", 700)):
             os.makedirs(f"{folder}/{name}")
             os.utime(f"{folder}/{name}", (time.time() - age, time.time() - age))
         try:
