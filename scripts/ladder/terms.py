@@ -31,8 +31,9 @@ class Terms:
     # whether pages say the names of authors, and who may read sources
     names: bool = True
     readers: str = AUTHOR
-    # megabytes of the disk that stay free
+    # megabytes of the disk that stay free, and that the sources of an author may fill
     floor: int = 100
+    quota: int = 20
 
     def closed(self, day: str) -> str:
         """Why nothing is taken on a day; nothing if it is."""

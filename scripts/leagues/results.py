@@ -4,10 +4,11 @@ from __future__ import annotations
 
 from itertools import groupby
 from operator import itemgetter
-from typing import Iterator, NamedTuple, Sequence
+from typing import Collection, Iterator, NamedTuple, Sequence
 
 from tools.faults import FILE, Fault
 from tournaments.records import Match, match
+from tournaments.tallies import Score
 
 from .rules import Rules
 from .sequential import Count
@@ -64,7 +65,10 @@ class Results:
 
     def battles(self, where: Seated) -> list[Played]:
         """The matches of a seating, by their numbers; none if nothing of it was played."""
-        rows = self._store.database.execute(f"SELECT {FOUGHT} FROM battle WHERE seating = ? ORDER BY number", [self.number(where)])
+        return self._matches(self.number(where))
+
+    def _matches(self, seating: int | None) -> list[Played]:
+        rows = self._store.database.execute(f"SELECT {FOUGHT} FROM battle WHERE seating = ? ORDER BY number", [seating])
         return [Played(at, ended(cycles, damage), day) for at, cycles, *damage, day in rows]
 
     def counts(self, look: int) -> dict[int, dict[int, Count]]:
@@ -84,6 +88,19 @@ class Results:
         for seating, count, *dead in self._store.database.execute(query, self._by):
             damage = [DEAD if it else 0 for it in dead if it is not None]
             found.setdefault(seating, {})[Match(0, tuple(damage)).results] = count
+        return found
+
+    def scores(self, wanted: Collection[str]) -> dict[str, Score]:
+        """What robots with these bytes did, each against whomever it met: by the hashes of the bytes."""
+        found = {it: Score() for it in wanted}
+        for (hashes, _), number in self._numbers.items():
+            there = hashes.split(",")
+            if found.keys().isdisjoint(there):
+                continue
+            for _, it, _ in self._matches(number):
+                for sha256, letter in zip(there, it.results):
+                    if sha256 in found:
+                        found[sha256].add(letter, 1)
         return found
 
     def each(self) -> Iterator[tuple[int, list[Played]]]:

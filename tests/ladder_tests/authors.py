@@ -224,12 +224,14 @@ class Authors(Base):
             lambda: ladder.ask("PUT", "/robots/mine", IDLE, token=tokens[AUTHOR]), lambda: ladder.ask("PUT", "/robots/mine", other(1), token=tokens[AUTHOR]),
             lambda: ladder.post("/robots/mine/back", {"version": "1"}, token=tokens[AUTHOR]), lambda: ladder.post("/robots/mine/withdraw", token=tokens[AUTHOR]),
             lambda: ladder.post("/join", {"token": tokens[AUTHOR]}), lambda: ladder.post("/organiser/invite", {"name": "New"}, token=tokens[ORGANISER]),
-            lambda: ladder.post("/organiser/withdraw", {"name": "New"}, token=tokens[ORGANISER])]
+            lambda: ladder.post("/organiser/withdraw", {"name": "New"}, token=tokens[ORGANISER]),
+            lambda: ladder.post("/leave", cookie=cookie), lambda: ladder.post("/leave", cookie=cookie)]
+        cookie = ladder.joined(tokens[AUTHOR])
         first = ladder.rows("SELECT max(number) FROM ladder_audit")[0][0]
         statuses = [it().status for it in done]
         found = ladder.rows("SELECT who, what, of FROM ladder_audit WHERE number > ? ORDER BY number", first)
         wanted = [("Ann", "hand in", "mine"), ("Ann", "hand in", "mine"), ("Ann", "hand in", "mine"), ("Ann", "withdraw", "mine"), ("Ann", "join", ""),
-                  ("organiser", "invite", "New"), ("organiser", "withdraw link", "New")]
+                  ("organiser", "invite", "New"), ("organiser", "withdraw link", "New"), ("Ann", "leave", "")]
         if found != wanted:
             yield f"{statuses}: {found}"
         addresses = {it for it, in ladder.rows("SELECT address FROM ladder_audit WHERE number > ?", first)}
