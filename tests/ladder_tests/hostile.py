@@ -10,6 +10,7 @@ import socket
 import subprocess
 from typing import Iterator
 
+from harness import loaded
 from ladder import judging, players, serving
 from ladder.players import limited
 from tournaments.programs import program
@@ -19,6 +20,8 @@ from .base import IDLE, SECONDS, Base, Ladder, other
 # How many requests of each seed; by hand LADDER_REQUESTS makes them 100,000.
 REQUESTS = int(os.environ.get("LADDER_REQUESTS", "1200"))
 SEED = int(os.environ.get("LADDER_SEED", "1"))
+# How many sources are drawn; by hand LADDER_SOURCES makes them 2,000.
+SOURCES = int(os.environ.get("LADDER_SOURCES", "60"))
 METHODS = [b"GET", b"POST", b"PUT", b"HEAD", b"DELETE", b"PATCH", b"OPTIONS", b"TRACE", b"CONNECT", b"get", b"G\0T", b"\xff", b"", b"POST" * 99]
 PIECES = [b"", b"robots", b"mine", b"organiser", b"invite", b"withdraw", b"checklist.csv", b"join", b"leave", b"sign-up", b"replays", b"versions", b"back",
           b"1", b"0", b"-1", b"99999999999999999999999", b"..", b"%2e%2e", b"%2f", b"%00", b"%ff", b"%", b"etc/passwd", b"<script>", b"'--", b"\xc3\xa9", b"a" * 3000,
@@ -72,6 +75,28 @@ class Hostile(Base):
         whose = ladder.rows("SELECT count(*) FROM entry WHERE robot NOT IN (SELECT robot FROM ladder_owner JOIN ladder_author ON number = author WHERE name = 'Bob')")
         if whose != [(1,)]:
             yield f"{whose} entries are of others' robots"
+
+    def sources_of_strangers_are_taken_or_explained(self) -> Iterator[str]:
+        """At all limits of the language, whose answers are known; and drawn by the grammar, half of them spoiled, by the compiler's own answer."""
+        ladder, token = self._two("strangers")
+        ladder.terms(versions=1_000_000, quota=10_000)
+        known = [(it.source, not it.is_faulty) for it in loaded("hostile_sources").CASES if it.profile == 1 and len(it.source) < serving.BODY]
+        for at, (text, is_good) in enumerate([*known, *self._drawn(SOURCES)]):
+            answer = ladder.ask("PUT", "/robots/r", text, token=token)
+            wanted = 413 if len(text) > 65_536 else 200 if is_good else 422
+            if answer.status != wanted or not answer.text.strip():
+                yield f"source {at}, {text[:80]!r}: {answer.status} {answer.text[:200]}, not {wanted}"
+
+    def _drawn(self, count: int) -> Iterator[tuple[bytes, bool]]:
+        """Sources of the generator of random sources, and whether each compiles."""
+        made, chance, path = loaded("random_sources"), random.Random(SEED), self._at("drawn.r")
+        for _ in range(count):
+            text = made.Robots(chance).source().encode()
+            if chance.random() < 0.5:
+                text = made.spoiled(chance, text)
+            with open(path, "wb") as file:
+                file.write(text)
+            yield text, not subprocess.run(["crobots", "-c", path], env=self._environment, capture_output=True, check=False).returncode
 
     def no_name_becomes_a_script(self) -> Iterator[str]:
         """In each field that a stranger fills in, and on each page that shows it."""
