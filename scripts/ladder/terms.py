@@ -12,6 +12,8 @@ from leagues.store import Store
 from .schema import is_ready
 
 ALL, AUTHOR = "all", "author"
+# No ladder takes a source of more bytes.
+SIZE_MAX = 65_536
 
 
 @dataclass(frozen=True)
@@ -20,7 +22,7 @@ class Terms:
 
     robots: int = 3
     versions: int = 20
-    size: int = 65_536
+    size: int = SIZE_MAX
     opens: str = ""
     closes: str = ""
     grace: int = 0

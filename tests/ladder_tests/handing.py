@@ -85,6 +85,15 @@ class Handing(Base):
         if (again.status, again.text) != (200, "taken: r0, version 3\n"):
             yield f"the same bytes beyond the limit: {again.status} {again.text}"
 
+    def a_file_that_no_ladder_takes_isn_t_sent(self) -> Iterator[str]:
+        """Nobody listens there: one byte less is sent to nobody."""
+        link = "http://127.0.0.1:9/join#AAAAAAAAAAAAAAAAAAAAAA"
+        for size, said in ((65_536, "cannot reach http://127.0.0.1:9"), (65_537, "has 65537 bytes, and no ladder takes more than 65536"), (900_000, "has 900000 bytes")):
+            path = self._file("large.r", IDLE.ljust(size))
+            ran = subprocess.run([LEAGUE, "send", link, path], env=self._environment, capture_output=True, text=True, check=False)
+            if not ran.returncode or said not in ran.stderr or ran.stderr.count("\n") > 2:
+                yield f"{size} bytes: status {ran.returncode}, {ran.stderr}"
+
     def sources_of_an_author_fill_so_much(self) -> Iterator[str]:
         """Of a quota of one megabyte seventeen sources of 60,000 bytes, the last of which goes beyond; what was there may come back, and
         another author has a quota of his own."""
