@@ -13,6 +13,7 @@ from contextlib import closing
 from typing import Callable, Iterator
 from unittest import mock
 
+from ladder import serving
 from ladder.attempts import Attempts
 from leagues.store import opened
 
@@ -154,6 +155,20 @@ class Authors(Base):
         ladder.process.terminate()
         if rest := ladder.process.stdout.read():
             yield f"said again: {rest}"
+
+    def without_its_packages_only_serve_ends(self) -> Iterator[str]:
+        """With a module that can't be imported: it says which package to install, and all other commands of the ladder work."""
+        ladder = self._made("lacking")
+        for module, package in serving.NEEDED.items():
+            folder = self._at(f"without-{module}")
+            os.makedirs(folder)
+            with open(f"{folder}/{module}.py", "w", encoding="utf-8") as file:
+                file.write("raise ImportError('it is not here')\n")
+            it = Ladder(ladder.folder, self._environment | {"PYTHONPATH": folder})
+            if (said := it.run("serve", "--port", "0", status=2)) != f"league: serve needs {module}: apt-get install {package}\n":
+                yield said
+            for words in (("status",), ("table",), ("invite", "--author", "Ann"), ("terms", "--robots", "4"), ("final", "--announce")):
+                it.run(*words)
 
     def a_public_ladder_says_where_others_reach_it(self) -> Iterator[str]:
         """An address of this machine by which it has an own network, if it has one; else one that reaches no other machine."""

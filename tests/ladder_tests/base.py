@@ -74,10 +74,10 @@ class Ladder:
 
     folder: str
     environment: Mapping[str, str]
+    organiser: str = ""
     process: subprocess.Popen[str] | None = None
     server: Any = None
     port: int = 0
-    organiser: str = ""
     said: str = ""
 
     def run(self, command: str, *words: str, status: int = 0) -> str:
