@@ -9,7 +9,7 @@ from leagues import seasons
 from leagues.entries import WITHDRAW, entries, playing
 from leagues.facts import is_hidden
 from leagues.naming import names
-from leagues.results import Results
+from leagues.results import scores_of
 from leagues.rules import Rules
 from leagues.scores import mean
 from leagues.store import Store
@@ -160,7 +160,7 @@ def robot(site: Site, store: Store, who: Who | None, name: str, reasons: Iterabl
 def history(site: Site, store: Store, who: Who | None, name: str, may: bool) -> Markup:
     """The versions of a robot with their days and results."""
     found, rules = versions(store, name), seasons.season(store).rules
-    did = Results(store, rules).scores({it.sha256 for it in found})
+    did = scores_of(store, rules, {it.sha256 for it in found})
     rows = [[str(at), it.day, *results(did[it.sha256], rules), *version_links(site, store, who, name, at, may and at < len(found))]
             for at, it in enumerate(found, 1)]
     return section("Versions", table("Versions", VERSION_COLUMNS, rows[::-1]))

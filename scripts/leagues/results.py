@@ -65,11 +65,7 @@ class Results:
 
     def battles(self, where: Seated) -> list[Played]:
         """The matches of a seating, by their numbers; none if nothing of it was played."""
-        return self._matches(self.number(where))
-
-    def _matches(self, seating: int | None) -> list[Played]:
-        rows = self._store.database.execute(f"SELECT {FOUGHT} FROM battle WHERE seating = ? ORDER BY number", [seating])
-        return [Played(at, ended(cycles, damage), day) for at, cycles, *damage, day in rows]
+        return matches(self._store, self.number(where))
 
     def counts(self, look: int) -> dict[int, dict[int, Count]]:
         """Of each seating of two robots what the first one did, in each part of `look` matches."""
@@ -90,24 +86,31 @@ class Results:
             found.setdefault(seating, {})[Match(0, tuple(damage)).results] = count
         return found
 
-    def scores(self, wanted: Collection[str]) -> dict[str, Score]:
-        """What robots with these bytes did, each against whomever it met: by the hashes of the bytes."""
-        found = {it: Score() for it in wanted}
-        for (hashes, _), number in self._numbers.items():
-            there = hashes.split(",")
-            if found.keys().isdisjoint(there):
-                continue
-            for _, it, _ in self._matches(number):
-                for sha256, letter in zip(there, it.results):
-                    if sha256 in found:
-                        found[sha256].add(letter, 1)
-        return found
-
     def each(self) -> Iterator[tuple[int, list[Played]]]:
         """The matches of each seating, by their numbers."""
         rows = self._store.database.execute(f"SELECT {COLUMNS} {JOINED} ORDER BY seating, battle.number", self._by)
         for seating, battles in groupby(rows, itemgetter(0)):
             yield int(seating), [Played(at, ended(cycles, damage), day) for _, at, cycles, *damage, day in battles]
+
+
+def scores_of(store: Store, rules: Rules, wanted: Collection[str]) -> dict[str, Score]:
+    """What robots with these bytes did by some rules, each against whomever it met: by the hashes of the bytes. Of all seatings those that
+    have none of these aren't kept in memory."""
+    found = {it: Score() for it in wanted}
+    by = (rules.cycles, rules.profile, rules.program)
+    each = ((number, hashes.split(",")) for number, hashes in store.database.execute(f"SELECT number, hashes FROM seating WHERE {BY}", by))
+    for number, there in [it for it in each if not found.keys().isdisjoint(it[1])]:
+        for _, it, _ in matches(store, number):
+            for sha256, letter in zip(there, it.results):
+                if sha256 in found:
+                    found[sha256].add(letter, 1)
+    return found
+
+
+def matches(store: Store, seating: int | None) -> list[Played]:
+    """The matches of a seating by its number, in their order."""
+    rows = store.database.execute(f"SELECT {FOUGHT} FROM battle WHERE seating = ? ORDER BY number", [seating])
+    return [Played(at, ended(cycles, damage), day) for at, cycles, *damage, day in rows]
 
 
 def ended(cycles: int, damage: Sequence[int | None]) -> Match:
