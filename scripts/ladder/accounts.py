@@ -81,10 +81,12 @@ def join(store: Store, link: str, address: str) -> str:
         return token(store, SESSION, it.number)
 
 
-def leave(store: Store, session: str) -> None:
-    """Ends a session."""
+def leave(store: Store, session: str, address: str) -> None:
+    """Ends a session, if it is one."""
     with store.change():
-        store.run("UPDATE ladder_token SET ended = ? WHERE hash = ? AND kind = ? AND ended IS NULL", time.time(), hashed(session), SESSION)
+        if it := who(store, session, (SESSION,)):
+            store.run("UPDATE ladder_token SET ended = ? WHERE hash = ?", time.time(), hashed(session))
+            note(store, it.name, "leave", "", address)
 
 
 def organiser(store: Store) -> str:

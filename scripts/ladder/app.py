@@ -5,6 +5,7 @@ from __future__ import annotations
 import json
 import logging
 import os
+import sqlite3
 from typing import Callable
 
 from flask import Flask, Response, abort, redirect, request
@@ -17,7 +18,7 @@ from werkzeug.exceptions import HTTPException
 from . import accounts, films, handing, organisers, pages, reasons, trials, walls, workbench
 from .accounts import SESSION_SECONDS, Who
 from .frames import SCRIPT, STYLES, Site
-from .handing import FAULTY, MANY, TAKEN, Answer
+from .handing import FAULTY, FULL, MANY, TAKEN, Answer
 from .live import read
 from .requests import (COOKIE, FILM_POLICY, SOURCE_POLICY, address, answered, attempts, configured, html, is_from_here, organiser, origin, site, store,
                        wants_page, who, writer)
@@ -38,6 +39,7 @@ def made(it: Site) -> Flask:
     configured(app, it)
     app.request_class.max_form_parts = FORM_PARTS
     app.register_error_handler(HTTPException, failed)
+    app.register_error_handler(sqlite3.OperationalError, unwritten)
     for rule, does, methods in ROUTES:
         app.add_url_rule(rule, f"{rule} {methods}", does, methods=[methods])
     return app
@@ -49,6 +51,11 @@ def failed(why: HTTPException) -> Response:
         assert isinstance(why.response, Response)
         return why.response
     return Response(f"{why.code}: {why.name}\n", why.code, mimetype="text/plain")
+
+
+def unwritten(_: sqlite3.OperationalError) -> Response:
+    """What is answered if the database can't be written: nothing of the request was done."""
+    return Response(f"{FULL}: the league's disk is full, or can't be written now: ask the organiser\n", FULL, mimetype="text/plain")
 
 
 def index() -> Response:
@@ -173,7 +180,7 @@ def away(to: str) -> Response:
 
 def leave() -> Response:
     refuse_foreign()
-    accounts.leave(store(), request.cookies.get(COOKIE, ""))
+    accounts.leave(store(), request.cookies.get(COOKIE, ""), address())
     answer = away("")
     answer.delete_cookie(COOKIE, path=site().to(""), httponly=True, samesite="Strict", secure=is_secure())
     return answer
@@ -191,12 +198,12 @@ def sign_up() -> Response:
         it = accounts.invite(store(), name, "", "sign-up", address())
     except Fault as why:
         return answered(Answer(FAULTY, str(why)), None)
-    return html(pages.signed_up(site(), it.name, it.token))
+    return html(pages.signed_up(site(), it.name, it.token, origin()))
 
 
 def mine() -> Response:
     by = who()
-    return html(pages.mine(site(), store(), by)) if by else away("join")
+    return html(pages.mine(site(), store(), by, origin())) if by else away("join")
 
 
 def handed(name: str, text: bytes, by: Who) -> Response:

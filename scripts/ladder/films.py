@@ -15,6 +15,7 @@ from sites.films import WAY_BACK, film, order
 from sites.markup import tag
 from tools.output import replaced
 
+from .judging import LIMITING
 from .live import folder_of
 
 FOLDER = "replays"
@@ -45,7 +46,7 @@ def page(store: Store, seating: int, number: int) -> bytes | None:
         hashes = store.one("SELECT hashes FROM seating WHERE number = ?", seating)[0].split(",")
         called = [it.robot for it in battle.seats]
         made = film(order(Settings(rules.matches, rules.cycles, rules.seed, rules.profile), battle,
-                          [(name, source(store, sha256)) for name, sha256 in zip(called, hashes)]))
+                          [(name, source(store, sha256)) for name, sha256 in zip(called, hashes)]), LIMITING)
     if made:
         keep(path, made)
     return made or None

@@ -118,6 +118,7 @@ def allowed(store: Store, who: Who, robot: str) -> None:
     refuse_full(store, by)
     refuse_owner(store, who, robot, by)
     refuse_often(store, who, by)
+    refuse_much(store, who, by)
 
 
 def refuse_season(store: Store) -> None:
@@ -152,6 +153,14 @@ def refuse_often(store: Store, who: Who, by: Terms) -> None:
     many = done_of_late(store, who, HAND_IN)
     if not who.is_organiser and many >= by.versions:
         raise Refused(MANY, f"you handed in {many} versions within an hour, and at most {by.versions} are taken")
+
+
+def refuse_much(store: Store, who: Who, by: Terms) -> None:
+    """Refuses anything new of an author whose sources fill as much as an author's may."""
+    many = int(store.one("SELECT coalesce(sum(length(bytes)), 0) FROM source WHERE sha256 IN "
+                         "(SELECT sha256 FROM entry JOIN ladder_owner USING (robot) WHERE author = ?)", who.number)[0])
+    if not who.is_organiser and many >= by.quota * MEGABYTE:
+        raise Refused(FULL, f"your sources fill {by.quota} megabytes, and an author's fill at most so many: ask the organiser")
 
 
 def done_of_late(store: Store, who: Who, what: str) -> int:

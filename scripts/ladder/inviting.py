@@ -16,7 +16,7 @@ from .terms import terms as now
 
 CUT = "- " * 30
 ON, OFF = "shown", "hidden"
-NUMBERS = ("robots", "versions", "size", "grace", "trials", "sign_up", "floor")
+NUMBERS = ("robots", "versions", "size", "grace", "trials", "sign_up", "floor", "quota")
 
 
 def invite(given: argparse.Namespace) -> None:

@@ -14,6 +14,7 @@ from tools.output import replaced
 # hold of what runs here.
 SECONDS, PATIENCE, MEMORY = 10, 30, 1 << 20
 LIMITED = f'ulimit -t {SECONDS}; ulimit -v {MEMORY}; ulimit -f 0; ulimit -c 0; exec "$@"'
+LIMITING = ("sh", "-c", LIMITED, "sh")
 WORDS_MAX = 4000
 FILE = "robot.r"
 
@@ -30,7 +31,7 @@ class Programs:
 def ran(words: list[str]) -> subprocess.CompletedProcess[bytes]:
     """Runs a program with the limits."""
     try:
-        return subprocess.run(["sh", "-c", LIMITED, "sh", *words], stdin=subprocess.DEVNULL, capture_output=True, timeout=PATIENCE, check=False)
+        return subprocess.run([*LIMITING, *words], stdin=subprocess.DEVNULL, capture_output=True, timeout=PATIENCE, check=False)
     except (OSError, subprocess.TimeoutExpired) as why:
         raise Fault(f"{words[0]} can't be run, or doesn't end", PROGRAM) from why
 

@@ -49,6 +49,15 @@ function show(frame) {
   setTimeout(() => location.reload(), OFTEN);
 }
 
+/** Refuses a file that has more bytes than are taken, before it is sent: a server that refuses it may close before it was read. */
+function limit({file, source}) {
+  file.addEventListener("change", () => {
+    const size = file.files[0]?.size ?? 0;
+    file.setCustomValidity(size > source.maxLength ? `This file has ${size} bytes, and ${source.maxLength} are taken.` : "");
+    file.reportValidity();
+  });
+}
+
 /** Takes a file that is dropped on the form. */
 function drop(form) {
   form.addEventListener("dragover", (event) => { event.preventDefault(); form.classList.add("dropping"); });
@@ -57,6 +66,7 @@ function drop(form) {
     event.preventDefault();
     form.classList.remove("dropping");
     form.elements.file.files = event.dataTransfer.files;
+    form.elements.file.dispatchEvent(new Event("change"));
   });
 }
 
@@ -65,4 +75,7 @@ mark();
 const table = document.getElementById("table"), frame = document.getElementById("film"), form = document.querySelector("form.hand-in");
 if (table) poll(table, "");
 if (frame) show(frame);
-if (form) drop(form);
+if (form) {
+  limit(form.elements);
+  drop(form);
+}

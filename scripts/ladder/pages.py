@@ -7,12 +7,17 @@ from typing import Iterable, Mapping, Sequence
 
 from leagues import seasons
 from leagues.entries import WITHDRAW, entries, playing
+from leagues.facts import is_hidden
 from leagues.naming import names
+from leagues.results import scores_of
+from leagues.rules import Rules
+from leagues.scores import mean
 from leagues.store import Store
 from sites import charts
 from sites.frames import section, sentence
 from sites.markup import Markup, block, joined, name_of, tag
 from sites.tables import NAME, NUMBER, TEXT, command_line, table
+from tournaments.tallies import Score
 
 from . import seeds
 from .accounts import Who, owners
@@ -23,6 +28,8 @@ from .terms import ALL, Terms, terms
 
 COLUMNS = [("Rank", NUMBER), ("Robot", NAME), ("Played", NUMBER), ("Won", NUMBER), ("Tied", NUMBER), ("Lost", NUMBER), ("Points", NUMBER),
            ("Rating", NUMBER), ("95 %", TEXT)]
+VERSION_COLUMNS = [("Version", NUMBER), ("Day", TEXT), ("Played", NUMBER), ("Won", NUMBER), ("Tied", NUMBER), ("Lost", NUMBER), ("Points", NUMBER),
+                   ("Source", TEXT), ("", TEXT)]
 TEXTAREA_ROWS = 18
 # The tables that were made of late, each with its time, and for how many seconds one is taken again.
 KEPT = 2.0
@@ -90,9 +97,9 @@ def join(site: Site, sign_up: bool) -> str:
         "With your link", sentence("Your link brought you here. If nothing happens, copy what stands behind '#' in it."), by_hand), new)
 
 
-def signed_up(site: Site, name: str, token: str) -> str:
+def signed_up(site: Site, name: str, token: str, origin: str) -> str:
     """The link of somebody who signed up. It is shown once."""
-    link = f"{site.outside}{site.to('join')}#{token}"
+    link = f"{origin}{site.to('join')}#{token}"
     return page(site, None, "Your link", tag("h1", joined("Welcome, ", tag("bdi", name))), section(
         "Your link", sentence("Keep it: it is your key, and it is shown only now."), tag("p", tag("a", link, href=f"{site.to('join')}#{token}"))))
 
@@ -104,8 +111,8 @@ def told(site: Site, who: Who | None, answer: Answer, again: str = "") -> str:
                                                             tag("p", tag("a", "On", href=site.to("mine" if who else "")))), again)
 
 
-def mine(site: Site, store: Store, who: Who) -> str:
-    """An author's page."""
+def mine(site: Site, store: Store, who: Who, origin: str) -> str:
+    """An author's page. The origin is that by which it was asked for."""
     robots = own(store, who)
     rows = {it.robot: it for it in read(site.folder).rows}
     now = playing(entries(store))
@@ -113,7 +120,7 @@ def mine(site: Site, store: Store, who: Who) -> str:
                str(len(versions(store, robot))), rows[robot].points if robot in rows else ""] for robot in robots]
     return page(site, who, "My robots", tag("h1", "My robots"), hand_in(site, terms(store), robots[0] if robots else ""), section(
         "Robots", table("My robots", [("Robot", NAME), ("Rank", NUMBER), ("Versions", NUMBER), ("Points", NUMBER)], listed)
-        if listed else sentence("You have handed in nothing yet.")), by_command(site), tag("div", id="own", data_own=" ".join(robots)))
+        if listed else sentence("You have handed in nothing yet.")), by_command(f"{origin}{site.to('')}"), tag("div", id="own", data_own=" ".join(robots)))
 
 
 def hand_in(site: Site, by: Terms, robot: str, text: str = "") -> Markup:
@@ -126,9 +133,8 @@ def hand_in(site: Site, by: Terms, robot: str, text: str = "") -> Markup:
                                    kind="hand-in"), said)
 
 
-def by_command(site: Site) -> Markup:
-    """How a file is handed in without the page."""
-    at = f"{site.outside}{site.to('')}"
+def by_command(at: str) -> Markup:
+    """How a file is handed in without the page, to a ladder that is at this address."""
     return section("From an editor", command_line(["crobots-league", "send", "YOUR LINK", "mine.r"]),
                    command_line(["curl", "-T", "mine.r", "-H", "Authorization: Bearer YOUR TOKEN", f"{at}robots/"]))
 
@@ -137,7 +143,7 @@ def is_shown(store: Store, who: Who | None, robot: str) -> bool:
     """Whether somebody may see a robot's source."""
     if is_theirs(store, who, robot):
         return True
-    return terms(store).readers == ALL and not seasons.season(store).rules.hidden
+    return terms(store).readers == ALL and not is_hidden(seasons.season(store))
 
 
 def robot(site: Site, store: Store, who: Who | None, name: str, reasons: Iterable[Markup]) -> str:
@@ -152,18 +158,24 @@ def robot(site: Site, store: Store, who: Who | None, name: str, reasons: Iterabl
 
 
 def history(site: Site, store: Store, who: Who | None, name: str, may: bool) -> Markup:
-    """The versions of a robot with their days."""
-    found = versions(store, name)
-    rows = [version_row(site, store, who, name, number, day, may and number < len(found)) for number, day in
-            ((at, it.day) for at, it in enumerate(found, 1))]
-    return section("Versions", table("Versions", [("Version", NUMBER), ("Day", TEXT), ("Source", TEXT), ("", TEXT)], rows[::-1]))
+    """The versions of a robot with their days and results."""
+    found, rules = versions(store, name), seasons.season(store).rules
+    did = scores_of(store, rules, {it.sha256 for it in found})
+    rows = [[str(at), it.day, *results(did[it.sha256], rules), *version_links(site, store, who, name, at, may and at < len(found))]
+            for at, it in enumerate(found, 1)]
+    return section("Versions", table("Versions", VERSION_COLUMNS, rows[::-1]))
 
 
-def version_row(site: Site, store: Store, who: Who | None, name: str, number: int, day: str, may: bool) -> list[str]:
-    """A version: its source for those who may see it, and a button that takes it back."""
+def results(it: Score, rules: Rules) -> list[str]:
+    """The cells of what a version did."""
+    return [str(it.played), str(it.won), str(it.tied), str(it.lost), f"{mean(it, rules):.3f}" if it.played else ""]
+
+
+def version_links(site: Site, store: Store, who: Who | None, name: str, number: int, may: bool) -> list[str]:
+    """The source of a version for those who may see it, and a button that takes it back."""
     source = tag("a", "source", href=site.to(f"robots/{name}/versions/{number}")) if is_shown(store, who, name) else joined("not shown")
     again = form(site, f"robots/{name}/back", hidden("version", str(number)), tag("button", "Take back to it")) if may else joined("")
-    return [str(number), day, source, again]
+    return [source, again]
 
 
 def leaving(site: Site, store: Store, name: str) -> Markup:

@@ -18,8 +18,8 @@ from tools.faults import Fault
 from .frames import Site
 from .judging import ran, said
 
-# How many lost pairs are shown, and matches of each.
-PAIRS, MATCHES = 5, 2
+# How many matches of each lost pair are shown, and of how many pairs the worst one is summed up.
+MATCHES, SUMMED = 2, 5
 
 
 @dataclass(frozen=True)
@@ -55,7 +55,7 @@ def lost_pairs(store: Store, robot: str) -> list[Against]:
     schedule, results = Schedule(seasons.field(store, season)), Results(store, season.rules)
     at = next((place for place, it in enumerate(schedule.field.robots) if it.robot == robot), None)
     found = [against(schedule, results, group, at) for group in schedule.groups() if at is not None and at in group]
-    return sorted((it for it in found if it.lost > it.won), key=lambda it: (it.won - it.lost, it.opponents))[:PAIRS]
+    return sorted((it for it in found if it.lost > it.won), key=lambda it: (it.won - it.lost, it.opponents))
 
 
 def against(schedule: Schedule, results: Results, group: tuple[int, ...], at: int | None) -> Against:
@@ -87,10 +87,10 @@ def shown(site: Site, store: Store, robot: str) -> Iterator[Markup]:
         yield section("Why did I lose?", sentence("It lost no pair so far."))
         return
     called = names(store)
-    yield section("Why did I lose?", *(part for it in found for part in of_pair(site, store, it, called)))
+    yield section("Why did I lose?", *(part for at, it in enumerate(found) for part in of_pair(site, store, it, called, at < SUMMED)))
 
 
-def of_pair(site: Site, store: Store, it: Against, called: dict[str, str]) -> Iterator[Markup]:
+def of_pair(site: Site, store: Store, it: Against, called: dict[str, str], is_summed: bool) -> Iterator[Markup]:
     """A lost pair."""
     others = joined(*(part for one in it.opponents for part in (" ", name_of(called.get(one, one)))))
     yield tag("h3", joined("Against", others))
@@ -98,7 +98,7 @@ def of_pair(site: Site, store: Store, it: Against, called: dict[str, str]) -> It
     links = [tag("li", tag("a", f"match {one.number} from seat {one.seat + 1}, lost after {one.cycles} cycles",
                            href=site.to(f"replays/{one.seating}/{one.number}"))) for one in it.worst]
     yield tag("ul", *links, class_="links")
-    if it.worst and (text := summed(site, store, it.worst[0])):
+    if is_summed and it.worst and (text := summed(site, store, it.worst[0])):
         yield tag("pre", block(text.split("\n")), class_="sum")
 
 

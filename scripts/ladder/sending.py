@@ -12,6 +12,8 @@ from leagues.entries import read
 from tools.faults import FAULTY, FILE, Fault, plain
 from tools.output import show
 
+from .terms import SIZE_MAX
+
 SECONDS = 60
 ANSWER_MAX = 1 << 16
 
@@ -21,9 +23,12 @@ def send(given: argparse.Namespace) -> None:
     parts = urlsplit(given.url)
     if parts.scheme not in ("http", "https") or not parts.netloc or not parts.fragment:
         raise Fault(f"{given.url} is no link of an author, as http://host/join#TOKEN")
+    source = read(given.robot)
+    if len(source) > SIZE_MAX:
+        raise Fault(f"{given.robot} has {len(source)} bytes, and no ladder takes more than {SIZE_MAX}")
     name = given.id or os.path.basename(given.robot).removesuffix(".r")
     base = f"{parts.scheme}://{parts.netloc}{parts.path.removesuffix('join').rstrip('/')}"
-    asked = urllib.request.Request(f"{base}/robots/{quote(name, safe='')}", read(given.robot), method="PUT",
+    asked = urllib.request.Request(f"{base}/robots/{quote(name, safe='')}", source, method="PUT",
                                    headers={"Authorization": f"Bearer {parts.fragment}", "Content-Type": "text/plain"})
     show([f"{line}\n" for line in answered(asked, base)])
 

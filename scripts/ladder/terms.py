@@ -12,6 +12,8 @@ from leagues.store import Store
 from .schema import is_ready
 
 ALL, AUTHOR = "all", "author"
+# No ladder takes a source of more bytes.
+SIZE_MAX = 65_536
 
 
 @dataclass(frozen=True)
@@ -20,7 +22,7 @@ class Terms:
 
     robots: int = 3
     versions: int = 20
-    size: int = 65_536
+    size: int = SIZE_MAX
     opens: str = ""
     closes: str = ""
     grace: int = 0
@@ -31,8 +33,9 @@ class Terms:
     # whether pages say the names of authors, and who may read sources
     names: bool = True
     readers: str = AUTHOR
-    # megabytes of the disk that stay free
+    # megabytes of the disk that stay free, and that the sources of an author may fill
     floor: int = 100
+    quota: int = 20
 
     def closed(self, day: str) -> str:
         """Why nothing is taken on a day; nothing if it is."""

@@ -4,10 +4,11 @@ from __future__ import annotations
 
 from itertools import groupby
 from operator import itemgetter
-from typing import Iterator, NamedTuple, Sequence
+from typing import Collection, Iterator, NamedTuple, Sequence
 
 from tools.faults import FILE, Fault
 from tournaments.records import Match, match
+from tournaments.tallies import Score
 
 from .rules import Rules
 from .sequential import Count
@@ -64,8 +65,7 @@ class Results:
 
     def battles(self, where: Seated) -> list[Played]:
         """The matches of a seating, by their numbers; none if nothing of it was played."""
-        rows = self._store.database.execute(f"SELECT {FOUGHT} FROM battle WHERE seating = ? ORDER BY number", [self.number(where)])
-        return [Played(at, ended(cycles, damage), day) for at, cycles, *damage, day in rows]
+        return matches(self._store, self.number(where))
 
     def counts(self, look: int) -> dict[int, dict[int, Count]]:
         """Of each seating of two robots what the first one did, in each part of `look` matches."""
@@ -91,6 +91,26 @@ class Results:
         rows = self._store.database.execute(f"SELECT {COLUMNS} {JOINED} ORDER BY seating, battle.number", self._by)
         for seating, battles in groupby(rows, itemgetter(0)):
             yield int(seating), [Played(at, ended(cycles, damage), day) for _, at, cycles, *damage, day in battles]
+
+
+def scores_of(store: Store, rules: Rules, wanted: Collection[str]) -> dict[str, Score]:
+    """What robots with these bytes did by some rules, each against whomever it met: by the hashes of the bytes. Of all seatings those that
+    have none of these aren't kept in memory."""
+    found = {it: Score() for it in wanted}
+    by = (rules.cycles, rules.profile, rules.program)
+    each = ((number, hashes.split(",")) for number, hashes in store.database.execute(f"SELECT number, hashes FROM seating WHERE {BY}", by))
+    for number, there in [it for it in each if not found.keys().isdisjoint(it[1])]:
+        for _, it, _ in matches(store, number):
+            for sha256, letter in zip(there, it.results):
+                if sha256 in found:
+                    found[sha256].add(letter, 1)
+    return found
+
+
+def matches(store: Store, seating: int | None) -> list[Played]:
+    """The matches of a seating by its number, in their order."""
+    rows = store.database.execute(f"SELECT {FOUGHT} FROM battle WHERE seating = ? ORDER BY number", [seating])
+    return [Played(at, ended(cycles, damage), day) for at, cycles, *damage, day in rows]
 
 
 def ended(cycles: int, damage: Sequence[int | None]) -> Match:

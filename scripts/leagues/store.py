@@ -52,7 +52,9 @@ class Store:
         try:
             yield
         except BaseException:
-            self.database.execute("ROLLBACK")
+            # a disk that is full ends the transaction by itself
+            if self.database.in_transaction:
+                self.database.execute("ROLLBACK")
             raise
         self.database.execute("COMMIT")
 

@@ -321,7 +321,8 @@ class Words:
                 ("size", 65_536, "most bytes of a source (default 65536)"), ("grace", 366, "days of grace after the last day (default 0)"),
                 ("trials", 10_000, "how many trials against robots of others an author may have within an hour (default 0)"),
                 ("sign-up", 100_000, "how many authors there may be until nobody can sign up any more (default 0)"),
-                ("floor", 1_000_000, "megabytes of the disk that stay free (default 100)")):
+                ("floor", 1_000_000, "megabytes of the disk that stay free (default 100)"),
+                ("quota", 1_000_000, "megabytes that the sources of an author may fill (default 20)")):
             it.add_argument(f"--{name}", metavar="N", type=within(0, most), help=about)
         it.add_argument("--opens", metavar="YYYY-MM-DD", type=day, help="the first day of the hand-in")
         it.add_argument("--closes", metavar="YYYY-MM-DD", type=day, help="the last day of the hand-in")

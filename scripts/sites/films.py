@@ -59,12 +59,12 @@ def made(orders: Mapping[str, Order], jobs: int) -> Iterator[tuple[str, bytes]]:
                 yield place, text
 
 
-def film(it: Order) -> bytes:
-    """The page of a match; nothing if it can't be played."""
+def film(it: Order, before: Sequence[str] = ()) -> bytes:
+    """The page of a match, made by a child that these words run; nothing if it can't be played."""
     with tempfile.TemporaryDirectory(prefix="crobots-") as folder:
         files = [written(folder, seat, name, source) for seat, (name, source) in enumerate(it.robots)]
         python = [sys.executable, *(["-B"] if sys.dont_write_bytecode else []), "-c", REPLAY, LIBRARY]
-        ran = subprocess.run([*python, *it.options, *files], stdin=subprocess.DEVNULL, stdout=subprocess.PIPE,
+        ran = subprocess.run([*before, *python, *it.options, *files], stdin=subprocess.DEVNULL, stdout=subprocess.PIPE,
                              stderr=subprocess.DEVNULL, check=False)
         return b"" if ran.returncode else with_way_back(ran.stdout)
 

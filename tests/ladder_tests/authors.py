@@ -11,10 +11,13 @@ import time
 import zipfile
 from contextlib import closing
 from typing import Callable, Iterator
+from unittest import mock
 
+from ladder import serving
+from ladder.attempts import Attempts
 from leagues.store import opened
 
-from .base import IDLE, Answer, Base, Ladder, other
+from .base import IDLE, SECONDS, Answer, Base, Ladder, other
 
 TOP = os.path.join(os.path.dirname(os.path.abspath(__file__)), "..", "..")
 NOBODY, OTHER, AUTHOR, ORGANISER = "nobody", "another author", "the author", "the organiser"
@@ -153,6 +156,20 @@ class Authors(Base):
         if rest := ladder.process.stdout.read():
             yield f"said again: {rest}"
 
+    def without_its_packages_only_serve_ends(self) -> Iterator[str]:
+        """With a module that can't be imported: it says which package to install, and all other commands of the ladder work."""
+        ladder = self._made("lacking")
+        for module, package in serving.NEEDED.items():
+            folder = self._at(f"without-{module}")
+            os.makedirs(folder)
+            with open(f"{folder}/{module}.py", "w", encoding="utf-8") as file:
+                file.write("raise ImportError('it is not here')\n")
+            it = Ladder(ladder.folder, self._environment | {"PYTHONPATH": folder})
+            if (said := it.run("serve", "--port", "0", status=2)) != f"league: serve needs {module}: apt-get install {package}\n":
+                yield said
+            for words in (("status",), ("table",), ("invite", "--author", "Ann"), ("terms", "--robots", "4"), ("final", "--announce")):
+                it.run(*words)
+
     def a_public_ladder_says_where_others_reach_it(self) -> Iterator[str]:
         """An address of this machine by which it has an own network, if it has one; else one that reaches no other machine."""
         known = subprocess.run(["hostname", "-I"], capture_output=True, text=True, check=False).stdout.split()
@@ -163,7 +180,7 @@ class Authors(Base):
             if not found or found[1] not in wanted:
                 yield f"{words}: {ladder.said}"
                 continue
-            with closing(http.client.HTTPConnection(found[1], ladder.port, timeout=60)) as line:
+            with closing(http.client.HTTPConnection(found[1], ladder.port, timeout=SECONDS)) as line:
                 line.request("GET", "/tag")
                 if line.getresponse().status != 200:
                     yield f"{words}: {found[1]} doesn't answer"
@@ -183,6 +200,17 @@ class Authors(Base):
         found = [ladder.post("/join", {"token": f"guess{at}"}).status for at in range(21)]
         if found != [401] * 20 + [429] or ladder.post("/join", {"token": tokens[AUTHOR]}).status != 429:
             yield f"{found}"
+
+    def who_waited_a_minute_may_try_again(self) -> Iterator[str]:
+        """By a clock of the test: three attempts within a minute are many, each counts for a minute, and nobody's are another's."""
+        now, it = [1000.0], Attempts(3)
+        with mock.patch("ladder.attempts.time.monotonic", lambda: now[0]), mock.patch("ladder.attempts.SECONDS", 60.0):
+            for second, counts, wanted in ((0, 1, False), (10, 1, False), (20, 1, True), (59, 0, True), (61, 0, False), (62, 1, True), (71, 0, False), (200, 0, False)):
+                now[0] = 1000.0 + second
+                for _ in range(counts):
+                    it.count("one")
+                if (it.are_many("one"), it.are_many("another")) != (wanted, False):
+                    yield f"after {second} seconds: {it.are_many('one')}, {it.are_many('another')}"
 
     def an_old_session_is_none(self) -> Iterator[str]:
         """After thirty days a browser has to join again. A link has no such end."""
@@ -211,12 +239,14 @@ class Authors(Base):
             lambda: ladder.ask("PUT", "/robots/mine", IDLE, token=tokens[AUTHOR]), lambda: ladder.ask("PUT", "/robots/mine", other(1), token=tokens[AUTHOR]),
             lambda: ladder.post("/robots/mine/back", {"version": "1"}, token=tokens[AUTHOR]), lambda: ladder.post("/robots/mine/withdraw", token=tokens[AUTHOR]),
             lambda: ladder.post("/join", {"token": tokens[AUTHOR]}), lambda: ladder.post("/organiser/invite", {"name": "New"}, token=tokens[ORGANISER]),
-            lambda: ladder.post("/organiser/withdraw", {"name": "New"}, token=tokens[ORGANISER])]
+            lambda: ladder.post("/organiser/withdraw", {"name": "New"}, token=tokens[ORGANISER]),
+            lambda: ladder.post("/leave", cookie=cookie), lambda: ladder.post("/leave", cookie=cookie)]
+        cookie = ladder.joined(tokens[AUTHOR])
         first = ladder.rows("SELECT max(number) FROM ladder_audit")[0][0]
         statuses = [it().status for it in done]
         found = ladder.rows("SELECT who, what, of FROM ladder_audit WHERE number > ? ORDER BY number", first)
         wanted = [("Ann", "hand in", "mine"), ("Ann", "hand in", "mine"), ("Ann", "hand in", "mine"), ("Ann", "withdraw", "mine"), ("Ann", "join", ""),
-                  ("organiser", "invite", "New"), ("organiser", "withdraw link", "New")]
+                  ("organiser", "invite", "New"), ("organiser", "withdraw link", "New"), ("Ann", "leave", "")]
         if found != wanted:
             yield f"{statuses}: {found}"
         addresses = {it for it, in ladder.rows("SELECT address FROM ladder_audit WHERE number > ?", first)}

@@ -19,7 +19,7 @@ from dataclasses import dataclass, replace
 from types import TracebackType
 from typing import Any, Mapping
 
-from ladder import accounts, schema
+from ladder import accounts, attempts, schema
 from ladder.frames import Site
 from ladder.judging import Programs
 from ladder.serving import options
@@ -32,8 +32,14 @@ LEAGUE = os.path.join(HERE, "..", "..", "scripts", "league")
 NAMES = ("crobots", "crobots-why", "crobots-trace")
 # A robot that shoots itself at once, one that stands still, and one with a fault.
 SHOOTER, IDLE, BAD = "main(){while(1)cannon(0,0);}", "main(){while(1);}", "main(){\nbreak; }"
-SECONDS = 120
+# For an answer, on a machine that has much else to do.
+SECONDS = 600
+# It is about noon here: so no day ends while tests run, and programs that they run have this zone, too.
+os.environ["TZ"] = f"NOON{time.gmtime().tm_hour - 12:+d}"
+time.tzset()
 TODAY = datetime.date.today().isoformat()
+# Who guesses waits as long as tests may take; that it is a minute, another test says.
+attempts.SECONDS = 86400.0
 
 
 def installed(folder: str, programs: list[str]) -> None:
@@ -68,10 +74,10 @@ class Ladder:
 
     folder: str
     environment: Mapping[str, str]
+    organiser: str = ""
     process: subprocess.Popen[str] | None = None
     server: Any = None
     port: int = 0
-    organiser: str = ""
     said: str = ""
 
     def run(self, command: str, *words: str, status: int = 0) -> str:
@@ -170,7 +176,7 @@ class Ladder:
         return self.post("/join", {"token": token}).cookie
 
     def rows(self, query: str, *values: Any) -> list[tuple[Any, ...]]:
-        with closing(sqlite3.connect(os.path.join(self.folder, "league.db"))) as database:
+        with closing(sqlite3.connect(os.path.join(self.folder, "league.db"), timeout=SECONDS)) as database:
             return database.execute(query, values).fetchall()
 
     def written(self) -> dict[str, list[tuple[Any, ...]]]:

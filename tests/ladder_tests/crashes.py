@@ -2,10 +2,12 @@
 
 from __future__ import annotations
 
+import contextlib
 import http.client
 import os
 import random
 import signal
+import socket
 import threading
 import time
 from typing import Iterator
@@ -43,6 +45,24 @@ class Crashes(Base):
         yield from lost(ladder, answers)
         yield from self._verified(ladder)
 
+    def a_second_ladder_of_a_league_waits_for_its_turn(self) -> Iterator[str]:
+        """Both take robots, and one plays. When it is killed, the other one plays on; nothing is played twice."""
+        one = self._made("two")
+        one.terms(robots=10, readers="all")
+        one.serve()
+        two = self._ladders["second"] = Ladder(one.folder, self._environment, organiser="known")
+        two.serve()
+        token = one.author("Ann")
+        for at, (ladder, matches) in enumerate(((one, 0), (two, 40), (one, 120), (two, 240))):
+            if at == 3:
+                kill_all(one)
+            answer = ladder.ask("PUT", f"/robots/r{at}", other(at), token=token)
+            if answer.status != 200:
+                yield f"robot {at}: {answer.status} {answer.text}"
+            two.settled(matches)
+        two.end()
+        yield from self._verified(two)
+
     def _verified(self, ladder: Ladder) -> Iterator[str]:
         """All matches of today's versions are there once, older ones have none beyond; the league plays on, and its archive is right."""
         ladder.run("play", "--quiet")
@@ -52,8 +72,9 @@ class Crashes(Base):
         wanted = {f"{one},{two}" for one in today for two in today if one != two}
         if len(counts) < len(played) or any(counts.get(it) != 20 for it in wanted) or max(counts.values(), default=0) > 20:
             yield f"{len(today)} robots: {len(played)} seatings, {sorted(counts.values())} matches"
-        ladder.run("publish", self._at("site"), "--replays=0", "--sums=0")
-        archive = next(os.path.join(folder, name) for folder, _, names in os.walk(self._at("site")) for name in names if name.endswith(".zip"))
+        site = f"{ladder.folder}-site"
+        ladder.run("publish", site, "--replays=0", "--sums=0")
+        archive = next(os.path.join(folder, name) for folder, _, names in os.walk(site) for name in names if name.endswith(".zip"))
         said = Ladder(archive, self._environment).verified()
         if "no differences" not in said:
             yield said
@@ -102,8 +123,27 @@ def kill(ladder: Ladder, child: int) -> None:
     """Kills a child, or all of it, and begins again then."""
     assert ladder.process
     if child:
-        os.kill(child, signal.SIGKILL)
+        # it may have ended by itself since it was looked for
+        with contextlib.suppress(ProcessLookupError):
+            os.kill(child, signal.SIGKILL)
         return
+    kill_all(ladder)
+    ladder.serve()
+
+
+def kill_all(ladder: Ladder) -> None:
+    """Kills the keeper, and waits until its children have ended."""
+    assert ladder.process
     ladder.process.kill()
     ladder.process.wait()
-    ladder.serve()
+    listens_no_more(ladder.port)
+
+
+def listens_no_more(port: int) -> None:
+    """Waits until the children of a keeper that is gone have ended: one of them listens until then."""
+    end = time.monotonic() + SECONDS
+    while time.monotonic() < end:
+        with contextlib.suppress(OSError):
+            socket.create_server(("127.0.0.1", port)).close()
+            return
+        time.sleep(0.02)

@@ -7,9 +7,15 @@ import hashlib
 import html
 import os
 import re
+import sqlite3
 import subprocess
 import threading
 from typing import Iterator
+from unittest import mock
+
+from leagues import entries
+from leagues.store import connected, opened
+from tools.faults import Fault
 
 from .base import BAD, IDLE, LEAGUE, SHOOTER, Base, Ladder, other
 
@@ -78,6 +84,29 @@ class Handing(Base):
         again = ladder.ask("PUT", "/robots/r0", other(6), token=token)
         if (again.status, again.text) != (200, "taken: r0, version 3\n"):
             yield f"the same bytes beyond the limit: {again.status} {again.text}"
+
+    def a_file_that_no_ladder_takes_isn_t_sent(self) -> Iterator[str]:
+        """Nobody listens there: one byte less is sent to nobody."""
+        link = "http://127.0.0.1:9/join#AAAAAAAAAAAAAAAAAAAAAA"
+        for size, said in ((65_536, "cannot reach http://127.0.0.1:9"), (65_537, "has 65537 bytes, and no ladder takes more than 65536"), (900_000, "has 900000 bytes")):
+            path = self._file("large.r", IDLE.ljust(size))
+            ran = subprocess.run([LEAGUE, "send", link, path], env=self._environment, capture_output=True, text=True, check=False)
+            if not ran.returncode or said not in ran.stderr or ran.stderr.count("\n") > 2:
+                yield f"{size} bytes: status {ran.returncode}, {ran.stderr}"
+
+    def sources_of_an_author_fill_so_much(self) -> Iterator[str]:
+        """Of a quota of one megabyte seventeen sources of 60,000 bytes, the last of which goes beyond; what was there may come back, and
+        another author has a quota of his own."""
+        ladder = self._new("quota")
+        ann, bob = ladder.author("Ann"), ladder.author("Bob")
+        ladder.terms(versions=1000, quota=1)
+        found = [ladder.ask("PUT", f"/robots/r{at % 2}", f"/*{at:02}{'x' * 59_977}*/{IDLE}", token=ann) for at in range(18)]
+        if [it.status for it in found] != [200] * 17 + [507] or "your sources fill 1 megabytes" not in found[-1].text:
+            yield f"{[it.status for it in found]}: {found[-1].text}"
+        others = [ladder.ask("PUT", "/robots/r0", f"/*16{'x' * 59_977}*/{IDLE}", token=ann), ladder.ask("PUT", "/robots/bob", IDLE, token=bob),
+                  ladder.ask("PUT", "/robots/org", IDLE, token=ladder.organiser)]
+        if [it.status for it in others] != [200] * 3 or len(f"/*00{'x' * 59_977}*/{IDLE}") != 60_000:
+            yield f"{[(it.status, it.text) for it in others]}"
 
     def days_of_a_hand_in(self) -> Iterator[str]:
         ladder = self._new("days")
@@ -168,8 +197,52 @@ class Handing(Base):
         if answer.status != wanted or wanted == 507 and ladder.written() != before:
             yield f"{answer.status} {answer.text}"
 
+    def a_disk_that_fills_up_takes_nothing(self) -> Iterator[str]:
+        """The database can't grow: whoever writes hears it in words, nothing is changed, and readers see the table. Then it is taken."""
+        ladder = self._made("grown")
+        ladder.terms()
+        token, text = ladder.author("Ann"), f"/*{'x' * 60_000}*/{IDLE}"
+
+        def small(path: str) -> sqlite3.Connection:
+            database = connected(path)
+            database.execute(f"PRAGMA max_page_count = {database.execute('PRAGMA page_count').fetchone()[0]}")
+            return database
+
+        with mock.patch("ladder.requests.connected", small):
+            ladder.begin()
+            before = ladder.written()
+            for answer in (ladder.ask("PUT", "/robots/r", text, token=token), ladder.post("/robots", {"robot": "r", "source": text}, token=token)):
+                if answer.status != 507 or "the league's disk is full" not in answer.text:
+                    yield f"{answer.status} {answer.text}"
+            if ladder.written() != before or ladder.ask("GET", "/").status != 200:
+                yield "rows were changed, or readers see nothing"
+        try:
+            with opened(ladder.folder) as store, store.change():
+                store.run(f"PRAGMA max_page_count = {store.one('PRAGMA page_count')[0]}")
+                entries.add(store, "r", "", text.encode(), TODAY.isoformat())
+            yield "a command takes it"
+        except Fault as why:
+            yield from [] if "full" in str(why) else [f"a command: {why}"]
+        ladder.begin()
+        if (answer := ladder.ask("PUT", "/robots/r", text, token=token)).text != "taken: r, version 1\n":
+            yield f"then: {answer.status} {answer.text}"
+
+    def pages_say_where_the_ladder_is(self) -> Iterator[str]:
+        """By the address by which it was asked: in what is typed into a terminal, and in the link of who signs up."""
+        ladder = self._new("where")
+        ladder.terms(sign_up=5)
+        text = ladder.post("/sign-up", {"name": "Ann"}, Accept="text/html").text
+        link = re.search(f">({ladder.here}/join#([A-Za-z0-9_-]{{22}}))<", text)
+        if not link:
+            yield f"no link: {text[-600:]}"
+            return
+        said = html.unescape(re.sub("<[^>]*>", "", ladder.ask("GET", "/mine", token=link[2]).text))
+        command = re.search("curl -T mine.r -H .Authorization: Bearer YOUR TOKEN. (\\S+/robots/)", said)
+        if not command or command[1] != f"{ladder.here}/robots/":
+            yield f"{command} in {said}"
+
     def who_keeps_sources_back_shows_none(self) -> Iterator[str]:
-        """Each of the rules: sources of others are shown only if the season and the terms say so."""
+        """Each of the rules: sources of others are shown only if the season and the terms say so, or the season has ended and they say so."""
         for season, term, wanted in (("shown", "all", 200), ("shown", "author", 404), ("hidden", "all", 404), ("hidden", "author", 404)):
             ladder = self._new(f"{season}{term}", f"--sources={season}")
             ladder.terms(readers=term)
@@ -178,6 +251,10 @@ class Handing(Base):
             found = [ladder.ask("GET", "/robots/r/versions/1", token=it) for it in (ann, bob, "")]
             if [it.status for it in found] != [200, wanted, wanted]:
                 yield f"{season}, {term}: {[it.status for it in found]}"
+            ladder.run("season", "end", "--unfinished")
+            ended, after = [ladder.ask("GET", "/robots/r/versions/1", token=it).status for it in (ann, bob)], 200 if term == "all" else 404
+            if ended != [200, after]:
+                yield f"{season}, {term}, after the season: {ended}"
             if found[0].text != IDLE or not found[0].heads["content-type"].startswith("text/plain") or "attachment" not in found[0].heads["content-disposition"]:
                 yield f"{found[0]}"
             ladder.end()

@@ -2,24 +2,26 @@
 
 from __future__ import annotations
 
+import contextlib
 import html.parser
 import os
 import random
 import socket
 import subprocess
-import time
 from typing import Iterator
 
-from ladder import judging, players
+from harness import loaded
+from ladder import judging, players, serving
 from ladder.players import limited
 from tournaments.programs import program
 
-from .base import IDLE, Base, Ladder, other
+from .base import IDLE, SECONDS, Base, Ladder, other
 
 # How many requests of each seed; by hand LADDER_REQUESTS makes them 100,000.
 REQUESTS = int(os.environ.get("LADDER_REQUESTS", "1200"))
 SEED = int(os.environ.get("LADDER_SEED", "1"))
-SECONDS = 10
+# How many sources are drawn; by hand LADDER_SOURCES makes them 2,000.
+SOURCES = int(os.environ.get("LADDER_SOURCES", "60"))
 METHODS = [b"GET", b"POST", b"PUT", b"HEAD", b"DELETE", b"PATCH", b"OPTIONS", b"TRACE", b"CONNECT", b"get", b"G\0T", b"\xff", b"", b"POST" * 99]
 PIECES = [b"", b"robots", b"mine", b"organiser", b"invite", b"withdraw", b"checklist.csv", b"join", b"leave", b"sign-up", b"replays", b"versions", b"back",
           b"1", b"0", b"-1", b"99999999999999999999999", b"..", b"%2e%2e", b"%2f", b"%00", b"%ff", b"%", b"etc/passwd", b"<script>", b"'--", b"\xc3\xa9", b"a" * 3000,
@@ -74,6 +76,28 @@ class Hostile(Base):
         if whose != [(1,)]:
             yield f"{whose} entries are of others' robots"
 
+    def sources_of_strangers_are_taken_or_explained(self) -> Iterator[str]:
+        """At all limits of the language, whose answers are known; and drawn by the grammar, half of them spoiled, by the compiler's own answer."""
+        ladder, token = self._two("strangers")
+        ladder.terms(versions=1_000_000, quota=10_000)
+        known = [(it.source, not it.is_faulty) for it in loaded("hostile_sources").CASES if it.profile == 1 and len(it.source) < serving.BODY]
+        for at, (text, is_good) in enumerate([*known, *self._drawn(SOURCES)]):
+            answer = ladder.ask("PUT", "/robots/r", text, token=token)
+            wanted = 413 if len(text) > 65_536 else 200 if is_good else 422
+            if answer.status != wanted or not answer.text.strip():
+                yield f"source {at}, {text[:80]!r}: {answer.status} {answer.text[:200]}, not {wanted}"
+
+    def _drawn(self, count: int) -> Iterator[tuple[bytes, bool]]:
+        """Sources of the generator of random sources, and whether each compiles."""
+        made, chance, path = loaded("random_sources"), random.Random(SEED), self._at("drawn.r")
+        for _ in range(count):
+            text = made.Robots(chance).source().encode()
+            if chance.random() < 0.5:
+                text = made.spoiled(chance, text)
+            with open(path, "wb") as file:
+                file.write(text)
+            yield text, not subprocess.run(["crobots", "-c", path], env=self._environment, capture_output=True, check=False).returncode
+
     def no_name_becomes_a_script(self) -> Iterator[str]:
         """In each field that a stranger fills in, and on each page that shows it."""
         ladder = self._new("scripts")
@@ -100,35 +124,44 @@ class Hostile(Base):
                 yield f"{path}: {heads}"
 
     def large_bodies_aren_t_read(self) -> Iterator[str]:
-        """A body that is too large is refused by its length, before it is sent."""
+        """A body that is too large is refused by its length: nothing of it is ever sent here."""
         ladder, token = self._two("large")
         head = f"PUT /robots/x HTTP/1.1\r\nHost: a\r\nAuthorization: Bearer {token}\r\nContent-Length: 1000000000\r\n\r\n".encode()
-        began = time.monotonic()
-        answer = sent(ladder.port, head)
-        if not answer.startswith(b"HTTP/1.1 413") or time.monotonic() - began > SECONDS:
+        answer = sent(ladder.port, head, is_whole=False)
+        if not answer.startswith(b"HTTP/1.1 413"):
             yield f"{answer[:80]!r}"
         parts = {f"f{at}": "x" for at in range(200)}
         if (status := ladder.post("/robots", parts, token=token).status) != 413:
             yield f"200 parts: {status}"
 
     def large_heads_are_refused(self) -> Iterator[str]:
+        """By its bytes, whether it ends or not. What comes after so many isn't read: who sends more may lose the answer by it, and has none
+        but this one."""
         ladder, _ = self._two("large-heads")
-        found = [sent(ladder.port, b"GET / HTTP/1.1\r\nHost: a\r\nX: " + b"y" * count + b"\r\n\r\n")[8:12] for count in (15_000, 17_000)]
-        if found != [b" 200", b" 431"]:
-            yield f"{found}"
+        for size, ends, wanted in ((serving.HEAD - 1, True, {b" 200"}), (serving.HEAD, True, {b" 431"}), (serving.HEAD, False, {b" 431"}),
+                                   (serving.HEAD + 1000, True, {b" 431", b""}), (20 * serving.HEAD, False, {b" 431", b""})):
+            answer = sent(ladder.port, head(size, ends), is_whole=ends)
+            if answer[8:12] not in wanted:
+                yield f"{size} bytes, {'with' if ends else 'without'} an end: {answer[:80]!r}"
 
     def slow_clients_stop_nobody(self) -> Iterator[str]:
-        """Sixty clients that never end their request, on eight threads: a reader is answered."""
-        ladder, _ = self._two("slow")
-        them = [socket.create_connection(("127.0.0.1", ladder.port)) for _ in range(60)]
-        for it in them:
-            it.sendall(b"POST /join HTTP/1.1\r\nContent-Length: 900\r\n\r\nx")
-        began = time.monotonic()
-        status = ladder.ask("GET", "/").status
-        if status != 200 or time.monotonic() - began > SECONDS:
-            yield f"{status} after {time.monotonic() - began:.1f}"
-        for it in them:
-            it.close()
+        """Sixty clients that don't end their request, on eight threads: a reader is answered, and they are, too, when they go on."""
+        before = serving.IDLE
+        try:
+            serving.IDLE = 10 * SECONDS
+            ladder, _ = self._two("slow")
+        finally:
+            serving.IDLE = before
+        with contextlib.ExitStack() as stack:
+            them = [stack.enter_context(socket.create_connection(("127.0.0.1", ladder.port), timeout=SECONDS)) for _ in range(60)]
+            for it in them:
+                it.sendall(b"POST /join HTTP/1.1\r\nHost: a\r\nContent-Length: 2\r\n\r\nx")
+            if (status := ladder.ask("GET", "/").status) != 200:
+                yield f"a reader: {status}"
+            for at, it in enumerate(them):
+                it.sendall(b"x")
+                if not (answer := it.recv(1000)).startswith(b"HTTP/1.1 403"):
+                    yield f"client {at}: {answer[:80]!r}"
 
     def what_runs_has_limits(self) -> Iterator[str]:
         """Compiler and player: of the processor's time, of memory, of files. A program that writes a file is stopped."""
@@ -190,16 +223,23 @@ def request(chance: random.Random) -> bytes:
     return asked
 
 
-def sent(port: int, asked: bytes) -> bytes:
-    """The beginning of what is answered; nothing if there is no answer."""
+def head(size: int, ends: bool) -> bytes:
+    """A head of so many bytes, with its end or without."""
+    begin, end = b"GET / HTTP/1.1\r\nHost: a\r\nX: ", b"\r\n\r\n" if ends else b""
+    return begin + b"y" * (size - len(begin) - len(end)) + end
+
+
+def sent(port: int, asked: bytes, is_whole: bool = True) -> bytes:
+    """The beginning of what is answered; nothing if there is no answer, or it was lost as the server closed before all was read. What
+    isn't whole might go on."""
     with socket.create_connection(("127.0.0.1", port), timeout=SECONDS) as line:
-        try:
+        with contextlib.suppress(OSError):
             line.sendall(asked)
-            if b"Content-Length: 1000000000" not in asked:
+            if is_whole:
                 line.shutdown(socket.SHUT_WR)
+        with contextlib.suppress(OSError):
             return line.recv(1000)
-        except OSError:
-            return b""
+    return b""
 
 
 def source(chance: random.Random) -> bytes:

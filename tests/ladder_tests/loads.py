@@ -13,6 +13,7 @@ import time
 from typing import Iterator
 
 from .base import HERE, IDLE, TODAY, Base, Ladder, other
+from .base import SECONDS as PATIENCE
 from .crashes import children
 
 AUTHORS = int(os.environ.get("LADDER_AUTHORS", "12"))
@@ -74,7 +75,7 @@ class Loads(Base):
             yield f"{sizes}"
 
     def a_new_robot_has_a_place_soon(self) -> Iterator[str]:
-        """Among robots that have played all their matches: its first ones, and a place, within a minute."""
+        """Among robots that have played all their matches: its first ones, and a place; among many within a minute, if nothing else runs."""
         ladder = self._made("field")
         sources = sorted(name for name in os.listdir(SAMPLES) if name.endswith(".r"))
         for at, name in zip(range(FIELD), itertools.cycle(sources)):
@@ -93,13 +94,13 @@ class Loads(Base):
         said = f"a new robot among {FIELD}: {', '.join(f'{many} matches after {it:.1f} s' for many, it in times.items())}"
         if FIELD >= 60:
             print(said, flush=True)
-        if times.get(wanted, 2 * PLACED) > PLACED:
+        if wanted not in times or FIELD >= 60 and times[wanted] > PLACED:
             yield said
 
 
 def read_all(ladder: Ladder, paths: tuple[str, ...], token: str, count: int, first: int) -> None:
     """Asks for these pages in turns, over connections that are kept for a while; now and then a version is handed in."""
-    line = http.client.HTTPConnection("127.0.0.1", ladder.port, timeout=60)
+    line = http.client.HTTPConnection("127.0.0.1", ladder.port, timeout=PATIENCE)
     for at in range(count):
         path = paths[at % len(paths)]
         if at % 500 == 499:

@@ -15,7 +15,7 @@ from leagues.schedules import Schedule
 from leagues.store import opened
 from tournaments.records import Series
 
-from .base import IDLE, SHOOTER, Base, Ladder, other
+from .base import IDLE, SECONDS, SHOOTER, Base, Ladder, other
 
 WON = "15:0:100"
 
@@ -93,7 +93,7 @@ class Passes(Base):
         token = ladder.author("Ann")
         began = time.monotonic()
         ladder.ask("PUT", "/robots/mine", other(30), token=token)
-        while "data-robot=\"mine\"" not in ladder.ask("GET", "/table").text and time.monotonic() < began + 60:
+        while "data-robot=\"mine\"" not in ladder.ask("GET", "/table").text and time.monotonic() < began + SECONDS:
             time.sleep(0.1)
         ladder.settled(120)
         shown = [re.sub("<[^>]*>", " ", row).split() for row in re.findall("<tr>(.*?)</tr>", ladder.ask("GET", "/table").text)[1:]]

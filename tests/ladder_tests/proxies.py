@@ -2,6 +2,7 @@
 
 from __future__ import annotations
 
+import contextlib
 import http.client
 import os
 import re
@@ -30,6 +31,15 @@ scgi_temp_path {folder}/scgi; access_log off; ssl_certificate {folder}/certifica
 }}
 """
 CADDY = "{{\nadmin off\nauto_https disable_redirects\nlocal_certs\nskip_install_trust\nstorage file_system {folder}/caddy\n}}\n{part}"
+# Heads that say twice, or in a way that not all understand alike, where a body ends.
+FRAMINGS = (b"Content-Length: %(size)d\r\nTransfer-Encoding: chunked", b"Transfer-Encoding: chunked\r\nContent-Length: 4",
+            b"Content-Length: 4\r\nTransfer-Encoding: xchunked", b"Content-Length: %(size)d\r\nTransfer-Encoding : chunked",
+            b"Content-Length: %(size)d\r\nTransfer-Encoding:\tchunked", b"Content-Length: %(size)d\r\nTransfer-Encoding: chunked, identity",
+            b"Content-Length: %(size)d\r\nX: y\r\n Transfer-Encoding: chunked", b"Content-Length: %(size)d\nTransfer-Encoding: chunked",
+            b"Content-Length: %(size)d\r\nTransfer-Encoding: \x0bchunked", b"Content-Length: 0\r\nContent-Length: %(size)d",
+            b"Content-Length: %(size)d\r\nContent-Length: 0", b"Content-Length: 0, %(size)d", b"Content-Length: +%(size)d",
+            b"Content-Length: 0x%(size)x", b"Content-Length: %(size)d\r\nTransfer_Encoding: chunked", b"Transfer-Encoding: chunked\r\nTransfer-Encoding: identity",
+            b"Content-Length: %(size)d\r\nConnection: Content-Length", b"Content-Length: %(size)d\r\nUpgrade: h2c\r\nConnection: Upgrade, HTTP2-Settings")
 CERTIFICATE = ("openssl", "req", "-x509", "-newkey", "ec", "-pkeyopt", "ec_paramgen_curve:prime256v1", "-nodes", "-days", "2", "-subj", f"/CN={HOST}")
 
 
@@ -44,11 +54,15 @@ class Proxied:
     def origin(self) -> str:
         return f"https://{HOST}:{self.port}"
 
+    def context(self) -> ssl.SSLContext:
+        """Takes any certificate."""
+        it = ssl.create_default_context()
+        it.check_hostname, it.verify_mode = False, ssl.CERT_NONE
+        return it
+
     def ask(self, method: str, path: str, body: bytes | str | None = None, source: str = "127.0.0.1", **heads: str) -> Answer:
         """Asks through the proxy, from an address of this machine."""
-        context = ssl.create_default_context()
-        context.check_hostname, context.verify_mode = False, ssl.CERT_NONE
-        line = http.client.HTTPSConnection(HOST, self.port, timeout=SECONDS, context=context, source_address=(source, 0))
+        line = http.client.HTTPSConnection(HOST, self.port, timeout=SECONDS, context=self.context(), source_address=(source, 0))
         line.request(method, path, body, {name.replace("_", "-"): value for name, value in heads.items()})
         with closing(line):
             it = line.getresponse()
@@ -160,6 +174,31 @@ def through(it: Proxied) -> Iterator[str]:
     if f"{it.origin}/robots/robots/" not in text:
         yield f"the page doesn't say its address: {text}"
     yield from of_addresses(it, token)
+    yield from of_hidden_requests(it, token)
+
+
+def of_hidden_requests(it: Proxied, token: str) -> Iterator[str]:
+    """A request that the proxy takes for a part of another one reaches nothing. Here only one that no proxy understood has such a path."""
+    hidden = f"PUT /robots/hidden HTTP/1.1\r\nHost: a\r\nAuthorization: Bearer {token}\r\nContent-Length: {len(IDLE)}\r\n\r\n{IDLE}".encode()
+    for framing in FRAMINGS:
+        for body in (b"0\r\n\r\n" + hidden, b"%x\r\n%b\r\n0\r\n\r\n" % (len(hidden), hidden), hidden):
+            said(it, b"POST /robots/join HTTP/1.1\r\nHost: %b\r\n%b\r\n\r\n%b" % (HOST.encode(), framing % {b"size": len(body)}, body))
+    if it.ladder.rows("SELECT 1 FROM robot WHERE id = 'hidden'"):
+        yield "a hidden request was taken"
+    with socket.create_connection(("127.0.0.1", it.ladder.port), timeout=SECONDS) as line:
+        line.sendall(hidden)
+        line.recv(1000)
+    if not it.ladder.rows("SELECT 1 FROM robot WHERE id = 'hidden'"):
+        yield "it isn't taken by the ladder itself, so nothing is seen by it"
+
+
+def said(it: Proxied, asked: bytes) -> bytes:
+    """The beginning of what a proxy answers to these bytes; nothing if it closes."""
+    with socket.create_connection((HOST, it.port), timeout=SECONDS) as line, it.context().wrap_socket(line, server_hostname=HOST) as tls:
+        with contextlib.suppress(OSError):
+            tls.sendall(asked + b"GET /robots/tag HTTP/1.1\r\nHost: a\r\nConnection: close\r\n\r\n")
+            return tls.recv(1000)
+    return b""
 
 
 def of_addresses(it: Proxied, token: str) -> Iterator[str]:

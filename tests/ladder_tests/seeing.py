@@ -2,7 +2,8 @@
 
 from __future__ import annotations
 
-import time
+import json
+import os
 from contextlib import AbstractContextManager
 from typing import Callable, Iterator
 
@@ -15,6 +16,29 @@ from .windows import BROWSERS, WIDTH, Driver, Window
 SIZES = ((360, 740), (1366, 768))
 HUNTER = "main(){int a; while(1) {if (scan(a, 10)) cannon(a, scan(a, 10)); a = a + 20;}}"
 PUPILS = 25
+# A script that ran, or an element that none of the pages has: what a text would be that isn't escaped.
+RAN = ("window.trapped ?? document.querySelector('main script, main img, pre script, body > script, svg[onload], [onerror], [src^=javascript], [href^=javascript]')"
+       "?.outerHTML ?? 0")
+# The buttons of a page, of each address one; and what fills in all that goes with one and presses it.
+SENDING = "[...new Map([...document.querySelectorAll('main form button')].map(it => [it.getAttribute('formaction') ?? it.form.getAttribute('action'), it])).values()]"
+FILL = f"""(() => {{
+    const button = {SENDING}[%(at)d];
+    if (!button) return;
+    window.isFilled = true;
+    for (const field of button.form.elements)
+        if (field.type !== 'file' && field !== button) field.value = %(text)s;
+    button.form.noValidate = true;
+    button.form.requestSubmit(button);
+}})()"""
+# The ladder's forms: join, sign up; hand in, compile; invite, withdraw a link; back, withdraw. By hand LADDER_SCRIPTS=1 takes each text in each.
+BUTTONS, EACH_NTH = 8, int(os.environ.get("LADDER_SCRIPTS", "4"))
+# Drops a file of so many bytes on the form, and says what the form says of it.
+DROP = """(() => {
+    const form = document.querySelector('form.hand-in'), given = new DataTransfer();
+    given.items.add(new File(['%(source)s'.padEnd(%(size)d)], '%(name)s'));
+    form.dispatchEvent(new DragEvent('drop', {dataTransfer: given, bubbles: true, cancelable: true}));
+    return form.elements.file.validationMessage;
+})()"""
 # How many colours the cells of one's own row have.
 COLOURS = "new Set([...document.querySelectorAll('tr.own > *')].map(it => getComputedStyle(it).backgroundColor)).size"
 
@@ -135,10 +159,63 @@ class Seeing(Base):
                 it.at("/mine")
                 for path in ("/", "/organiser", "/checklist", "/wall", "/robots/s0", "/join#<script>alert(1)</script>", "/nothing/<script>alert(1)</script>"):
                     it.go(path)
-                    time.sleep(0.2)
-                    if driver.value("window.trapped ?? document.querySelector('main script, main img, pre script, body > script') ?? 0"):
+                    if driver.value(RAN):
                         yield f"{driver.name}, {path}: a script ran"
-                yield from (message for message in driver.messages if "404" not in message and "401" not in message)
+                yield from (message for message in driver.messages if "a status of 4" not in message)
+
+    def no_script_in_a_field_runs(self) -> Iterator[str]:
+        """Each field of each form of each page, filled in and sent by the page itself, and what is answered."""
+        for begin in self._browsers("scripts in fields"):
+            with begin() as driver:
+                ladder = self._new(f"fields-{driver.name}")
+                ladder.terms(sign_up=1000)
+                ladder.author("Ann")
+                for text in (IDLE, SHOOTER):
+                    ladder.ask("PUT", "/robots/mine", text, token=ladder.organiser)
+                it = Window(driver, ladder, *SIZES[1])
+                it.go(f"/join#{ladder.organiser}")
+                it.at("/mine")
+                sent = [(path, at) for path in ("/join", "/mine", "/organiser", "/robots/mine") for at in range(self._buttons(it, path))]
+                if len(sent) != BUTTONS:
+                    yield f"{driver.name}: {len(sent)} buttons, not {BUTTONS}: {sent}"
+                for turn, (path, at) in enumerate(sent):
+                    for text in SCRIPTS[turn % EACH_NTH::EACH_NTH]:
+                        yield from self._filled(it, path, at, text)
+                yield from (message for message in driver.messages if "a status of 4" not in message)
+
+    def a_file_is_dropped(self) -> Iterator[str]:
+        """On the form of one's own page: one byte too many is refused there, and else it is sent as it is, under its own name."""
+        ladder = self._new("dropped")
+        for begin in self._browsers("dropped files"):
+            with begin() as driver:
+                it, name = Window(driver, ladder, *SIZES[1]), driver.name
+                it.go(f"/join#{ladder.author(f'Ann {name}')}")
+                it.at("/mine")
+                for size, wanted in ((65_537, "This file has 65537 bytes, and 65536 are taken."), (65_536, "")):
+                    if (found := driver.value(DROP % {"name": f"{name}.r", "source": IDLE, "size": size})) != wanted:
+                        yield f"{name}, {size} bytes: {found}"
+                it.follow("form.hand-in button")
+                it.until("document.querySelector('.answer')")
+                if f"taken: {name}, version 1" not in it.text():
+                    yield it.text()
+                if ladder.rows("SELECT length(bytes) FROM source JOIN entry USING (sha256) WHERE robot = ?", name) != [(65_536,)]:
+                    yield f"{name}: other bytes were kept"
+                yield from driver.messages
+
+    def _buttons(self, it: Window, path: str) -> int:
+        """How many addresses the buttons of a page send to."""
+        it.go(path)
+        return int(it.driver.value(f"{SENDING}.length"))
+
+    def _filled(self, it: Window, path: str, at: int, text: str) -> Iterator[str]:
+        """Fills in all fields that a button sends, and presses it. Those that are hidden, too, and whatever limits the page has."""
+        it.go(path)
+        it.driver.value(FILL % {"at": at, "text": json.dumps(text)})
+        it.until("!window.isFilled && document.readyState === 'complete'")
+        ran = it.driver.value(RAN)
+        it.go("/organiser")
+        if found := ran or it.driver.value(RAN):
+            yield f"{it.driver.name}, button {at} of {path} with {text}: {found}"
 
     def _browsers(self, what: str) -> Iterator[Callable[[], AbstractContextManager[Driver]]]:
         """What begins each browser that is there."""

@@ -8,17 +8,18 @@ import tempfile
 import time
 from dataclasses import fields, replace
 from typing import Iterator
+from unittest import mock
 
-from ladder import films, serving
+from ladder import films, judging, serving
 from ladder.live import Fought, Live, Row
 from ladder.organisers import climbed_by
 from ladder.reasons import lost_pairs
-from leagues import seasons
+from leagues import entries, seasons
 from leagues.results import keep
 from leagues.schedules import Schedule
 from leagues.store import opened
 
-from .base import SHOOTER, Base, Ladder, other
+from .base import SHOOTER, TODAY, Base, Ladder, other
 
 WON, LOST, TIED = "15:0:100", "15:100:0", "300:0:0"
 # What `mine` did in the first seat and in the second: it is even with one, lost more against two others, and won against the last.
@@ -38,6 +39,32 @@ class Showing(Base):
         with opened(ladder.folder) as store:
             found = [(it.opponents, it.won, it.tied, it.lost, [(one.number, one.seat, one.cycles) for one in it.worst]) for it in lost_pairs(store, "mine")]
         wanted = [(("strongest",), 0, 0, 4, [(2, 0, 8), (1, 0, 9)]), (("strong",), 1, 0, 3, [(1, 0, 20), (1, 1, 40)])]
+        if found != wanted:
+            yield f"{found}, not {wanted}"
+
+    def each_lost_pair_is_there(self) -> Iterator[str]:
+        """Of twelve all, each with its two worst matches; the first five are summed up, if that can be done."""
+        ladder = self._made("pairs")
+        self._fought(ladder, {f"r{at:02}": (f"{LOST},{LOST},{LOST}", f"{WON},{WON},{WON}") for at in range(12)})
+        ladder.begin()
+        text = ladder.ask("GET", "/robots/mine", token=ladder.organiser).text
+        found = re.findall(r'<h3>Against <bdi>(r\d\d)</bdi></h3><p>0 won, 0 tied, 6 lost. Its worst matches:</p><ul class="links">(.*?)</ul>', text)
+        if [name for name, _ in found] != [f"r{at:02}" for at in range(12)] or any(links.count("/replays/") != 2 for _, links in found):
+            yield f"{found}"
+
+    def each_version_has_its_results(self) -> Iterator[str]:
+        """Of the matches that count, against whomever it met then: played, won, tied, lost, and points a match, worked out by hand."""
+        ladder = self._made("results")
+        self._fought(ladder, FOUGHT)
+        with opened(ladder.folder) as store, store.change():
+            entries.change(store, "mine", other(90).encode(), TODAY)
+        self._keep(ladder, {"even": (WON, TIED)})
+        with opened(ladder.folder) as store, store.change():
+            entries.change(store, "mine", other(91).encode(), TODAY)
+        ladder.begin()
+        part = ladder.ask("GET", "/robots/mine").text.partition("<h2>Versions</h2>")[2].partition("</section>")[0]
+        found = [re.findall("<t[dh][^>]*>([^<]*)<", row)[:7] for row in re.findall("<tr>(.*?)</tr>", part)[1:]]
+        wanted = [["3", TODAY, "0", "0", "0", "0", ""], ["2", TODAY, "2", "1", "1", "0", "2.000"], ["1", TODAY, "16", "5", "2", "9", "1.062"]]
         if found != wanted:
             yield f"{found}, not {wanted}"
 
@@ -73,6 +100,17 @@ class Showing(Base):
         ladder.run("rules", "-l", "4000")
         if (status := ladder.ask("GET", "/replays/1/1").status) != 404:
             yield f"a match that doesn't count by these rules: {status}"
+
+    def a_film_is_made_with_limits(self) -> Iterator[str]:
+        """Of the processor's time, of memory, and of files, as what compiles and plays has them."""
+        ladder = self._made("film-limits")
+        ladder.terms()
+        self._fought(ladder, {"even": FOUGHT["even"]})
+        code = "import resource as it; print(*(it.getrlimit(one)[0] for one in (it.RLIMIT_CPU, it.RLIMIT_AS, it.RLIMIT_FSIZE)))"
+        with mock.patch("sites.films.REPLAY", code), opened(ladder.folder) as store:
+            found = films.page(store, 1, 1)
+        if not found or found.split() != [b"%d" % it for it in (judging.SECONDS, judging.MEMORY * 1024, 0)]:
+            yield f"{found!r}"
 
     def a_rung_is_four_of_five_from_either_seat(self) -> Iterator[str]:
         """Against each robot of a level that plays here; of two levels here, and of three nobody plays."""
@@ -123,7 +161,7 @@ class Showing(Base):
     def sources_that_a_killed_server_left_are_removed(self) -> Iterator[str]:
         """Old ones, which no other server looks at, and nothing else."""
         folder, before = self._at("temporary"), tempfile.tempdir
-        for name, age in (("crobots-ladder-old", 700), ("crobots-ladder-young", 500), ("other", 700)):
+        for name, age in (("crobots-ladder-old", 700), ("crobots-ladder-young", 0), ("other", 700)):
             os.makedirs(f"{folder}/{name}")
             os.utime(f"{folder}/{name}", (time.time() - age, time.time() - age))
         try:
@@ -139,6 +177,10 @@ class Showing(Base):
         ladder.add("mine", other(0))
         for at, name in enumerate(sides, 1):
             ladder.add(name, other(at))
+        self._keep(ladder, sides)
+
+    def _keep(self, ladder: Ladder, sides: dict[str, tuple[str, ...]]) -> None:
+        """Keeps what `mine` as it is now did against some."""
         with opened(ladder.folder) as store, store.change():
             season = seasons.season(store)
             schedule = Schedule(seasons.field(store, season))
@@ -146,7 +188,7 @@ class Showing(Base):
             for group in schedule.groups():
                 for seats, seed in schedule.seatings(group):
                     pair = [names[at] for at in seats]
-                    if "mine" in pair:
+                    if "mine" in pair and sides.keys() & pair:
                         seat = pair.index("mine")
                         keep(store, season.rules, schedule.seated(seats, seed), 1, sides[pair[1 - seat]][seat], "2026-03-01")
 

@@ -16,7 +16,7 @@ from ladder import workbench
 from packages import lacking
 from webs.laying import lay
 
-from .base import BAD, HERE, IDLE, SHOOTER, Base, Ladder
+from .base import BAD, HERE, IDLE, SECONDS, SHOOTER, Base, Ladder
 from .windows import Window, chromium_driver
 
 # What of the page nobody may leave out: it runs no script but its own, and its forms lead nowhere.
@@ -165,7 +165,7 @@ class Working(Base):
         script = self._at("send.mjs")
         shutil.copy(os.path.join(HERE, "..", "..", "scripts", "ladder", "send.js"), script)
         words = [shutil.which("node") or "node", os.path.join(HERE, "send.test.mjs"), script]
-        ran = subprocess.run(words, capture_output=True, text=True, timeout=60, check=False)
+        ran = subprocess.run(words, capture_output=True, text=True, timeout=SECONDS, check=False)
         if ran.returncode or ran.stdout != "10 answers\n":
             yield f"{ran.stdout}{ran.stderr}"
 

@@ -58,7 +58,7 @@ class Crashes(Base):
         child = self._begun("play", it.folder, "-j1", "--piece=20")
         wrong = []
         try:
-            until = time.monotonic() + 60
+            until = time.monotonic() + 600
             while not it.battles() and time.monotonic() < until:
                 time.sleep(0.02)
             ran = it.ran("play")

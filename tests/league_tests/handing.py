@@ -79,9 +79,9 @@ class Handing(Base):
         os.symlink("/etc/hostname", self.at("faults/link/robot.r"))
         os.makedirs(self.at("faults/deep/robot.r"))
         it = League(self, "faults-league", "-m2")
-        none = it.ran("take-in", self.at("faults"), "--all-or-none", timeout=60)
+        none = it.ran("take-in", self.at("faults"), "--all-or-none")
         wrong = [] if none.returncode == 1 and not it.rows("SELECT * FROM entry") else [f"all or none: {none.returncode}, {none.stdout}"]
-        some = it.ran("take-in", self.at("faults"), timeout=60)
+        some = it.ran("take-in", self.at("faults"))
         for why in ("loose.r is in no author's folder", "b/robot.r:2: reserved word", "c/robot.r:1: syntax error", "long/robot.r has more than",
                     f"{'n' * 90}: an author's name has at most 80 letters"):
             if why not in none.stderr or why not in some.stderr:

@@ -148,10 +148,10 @@ class Righting(Base):
         wrong = []
         for words, said in ((("add", "fifo.r"), "fifo.r is no file"), (("take", "binary"), "binary has no records"),
                             (("add", "/dev/null"), "is no file")):
-            ran = it.ran(*words, timeout=20)
+            ran = it.ran(*words)
             if ran.returncode not in (2, 3) or said not in ran.stderr or ran.stderr.count("\n") > 2:
                 wrong.append(f"{words}: status {ran.returncode}, {ran.stderr[:200]}")
-        if (ran := self.ran("verify", "fifo.r", timeout=20)).returncode != 3:
+        if (ran := self.ran("verify", "fifo.r")).returncode != 3:
             wrong.append(f"verify fifo.r: status {ran.returncode}, {ran.stderr}")
         write(self.at("cut"), "series 2 \n" * 50)
         ran = it.ran("take", "cut")

@@ -20,7 +20,9 @@ LOST_KEY, TRIES, SECONDS_BETWEEN = "NS_ERROR_FAILURE", 5, 0.1
 LEAST_WIDTH, SCALES = 500, (1, 1.5, 2)
 ELEMENT = "element-6066-11e4-a52e-4f735466cecf"
 PREFERENCES = {"marionette.port": 0, "browser.shell.checkDefaultBrowser": False, "datareporting.policy.dataSubmissionEnabled": False,
-               "browser.aboutwelcome.enabled": False, "app.update.enabled": False, "dom.w3c_touch_events.enabled": 1}
+               "browser.aboutwelcome.enabled": False, "app.update.enabled": False, "dom.w3c_touch_events.enabled": 1,
+               # a page that is reached by a link is magnified as the one before it
+               "browser.zoom.siteSpecific": False}
 
 
 def program() -> str | None:
