@@ -13,6 +13,7 @@ import resource
 import shlex
 import shutil
 import signal
+import statistics
 import subprocess
 import tempfile
 import time
@@ -209,6 +210,29 @@ class Playing:
         one, two = (it["tuned"] for it in made["numbers"])
         wrong = [] if abs(one - 600) + abs(two - 200) < 150 and made["better"] and made["change"] > 0.5 else [ran.stdout]
         return wrong if (self._folder / "tuned.r").read_text(encoding="utf-8") == TWO % (one, two) else [*wrong, "other bytes"]
+
+    def a_file_that_is_there(self) -> list[str]:
+        """What is written in its place has its mode; a new one can be read by all. A link stays, and what it leads to is written."""
+        kept = self._folder / "kept.r"
+        kept.write_text("old", encoding="ascii")
+        kept.chmod(0o750)
+        (self._folder / "link.r").symlink_to("kept.r")
+        wrong = []
+        for name, mode in (("kept.r", 0o750), ("link.r", 0o750), ("fresh.r", 0o644)):
+            self._run("-m20", "--budget", "500", "-o", name, "switched.r", "still.r")
+            path = self._folder / name
+            right = path.stat().st_mode & 0o777 == mode and b"/* tune 1..9" in path.read_bytes() and path.is_symlink() == (name == "link.r")
+            wrong += [] if right else [f"{name}: {path.stat().st_mode:o} {path.read_bytes()!r}"]
+        return wrong
+
+    def how_many_matches_a_trial_has(self) -> list[str]:
+        """Those of --round, half of them in each seat: most series are those of the evolution."""
+        wrong = []
+        for matches in (24, 40):
+            self._run("-j1", "-m2", "--budget", "12000", "--round", str(matches), "--journal", f"round{matches}", "two.r", "still.r")
+            counts = re.findall(r" count=(\d+) ", (self._folder / f"round{matches}").read_text(encoding="ascii"))
+            wrong += [] if statistics.mode(counts) == str(matches // 2) else [f"{matches}: {counts[-20:]}"]
+        return wrong
 
     def nothing_is_better_of_what_is_best(self) -> list[str]:
         """Neither a robot at its best, nor one whose number does nothing: no file is written."""
