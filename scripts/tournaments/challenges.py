@@ -12,6 +12,7 @@ import statistics
 from dataclasses import dataclass
 from typing import Any, Iterator
 
+from sites import commands
 from tools.faults import Fault
 from tools.output import show
 from tools.signals import stopping
@@ -177,7 +178,8 @@ def challenge(name: str, arguments: list[str]) -> None:
     both = [given.new, given.old]
     field = [path for path in given.field if os.path.abspath(path) not in {os.path.abspath(it) for it in both}]
     if not field:
-        raise Fault("NEW and OLD are the only robots; `tournament` plays them against each other, and a challenge needs another one")
+        alone = commands.line(["crobots-tournament", *map(commands.dashless, both)])
+        raise Fault(f"NEW and OLD are the only robots: `{alone}` plays them against each other, and a challenge needs another one")
     if given.all and given.form == "csv":
         raise Fault("--all lists matches in words or with --json, so it takes no --csv")
     program = programs.program(given.crobots)

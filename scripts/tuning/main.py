@@ -127,10 +127,10 @@ def tune(games: Games, judging_ones: Sequence[Opponent]) -> None:
 
 
 def write(path: str, text: bytes) -> None:
-    """Writes a file in one piece, with the mode of the one that was there; a device as it is."""
+    """Writes a file in one piece, with the mode of the one that was there; a device as it is. A link stays."""
     try:
         if not os.path.exists(path) or os.path.isfile(path):
-            replaced(path, text, os.stat(path).st_mode & 0o777 if os.path.exists(path) else 0o644)
+            replaced(os.path.realpath(path), text, os.stat(path).st_mode & 0o777 if os.path.exists(path) else 0o644)
             return
         with open(path, "wb") as device:
             device.write(text)

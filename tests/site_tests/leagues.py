@@ -2,6 +2,7 @@
 
 from __future__ import annotations
 
+import json
 import os
 import random
 import tempfile
@@ -286,6 +287,10 @@ def sure(folder: str) -> Results:
         said = {tuple(line.split(",")[:2]): ",".join(line.split(",")[10:]) for line in file.read().splitlines()}
     yield f"as CSV {said}", said["a", "b"] == '"better, by the test after 10 matches"' and said["b", "a"] == (
         '"worse, by the test after 10 matches"') and said["c", "b"] == '"even, by the test after 30 matches"'
+    with open(os.path.join(site, "site.json"), encoding="utf-8") as file:
+        told = {(one["robot"], one["against"]): (one["verdict"], one["low"], one["high"]) for one in json.load(file)["pairs"]}
+    yield f"as JSON {told}", told == {(pair.one, pair.other): (f"{pair.verdict.what}, by the test after {pair.verdict.matches} matches", round(pair.low, 4), round(pair.high, 4))
+                                      for pair in it.pairs if pair.verdict}
 
 
 def alike() -> Results:

@@ -62,8 +62,11 @@ class Refusals(Base):
         for words, fault in cases.items():
             wrong += self._answers(self._run(*words), "", f"tournament: {fault}\n", 2)
         wrong += self._answers(self._run("a.r", "b.r", script="challenge"), "", "challenge: the following arguments are required: --old\n", 2)
-        return wrong + self._answers(self._run("a.r", "--old", "b.r", "b.r", script="challenge"), "", "challenge: NEW and OLD are the only robots; "
-                                    "`tournament` plays them against each other, and a challenge needs another one\n", 2)
+        for words, shown in ((("a.r", "--old", "b.r", "b.r"), "a.r b.r"), (("1/sweeper.r", "--old", "a b.r", "./a b.r"), "1/sweeper.r 'a b.r'")):
+            said = (f"challenge: NEW and OLD are the only robots: `crobots-tournament {shown}` plays them against each other, "
+                    "and a challenge needs another one\n")
+            wrong += self._answers(self._run(*words, script="challenge"), "", said, 2)
+        return wrong
 
     def a_program_that_is_none(self) -> list[str]:
         """A program whose output isn't that of such a series, or that fails, ends the tournament in one line."""

@@ -117,6 +117,11 @@ class Chances:
         got = [rates.called(40, False), rates.called(20, True), rates.believed(20)]
         return [] if max(got) <= 1 else [f"{got}"]
 
+    def the_best_value_is_hardly_ever_dropped(self) -> list[str]:
+        """Of robots of all kinds until sure: at most one in 20 is the promise; `bench/chances` tries more."""
+        gone, of = rates.dropped(40)
+        return [] if gone <= 2 and of >= 30 else [f"{gone} of {of}"]
+
     def a_search_keeps_to_its_budget(self) -> list[str]:
         """Whatever it is, and however many opponents there are; what can't pay one match of each seating comes back to today's values. No match
         is played twice."""

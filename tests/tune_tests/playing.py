@@ -9,8 +9,11 @@ import json
 import os
 import random
 import re
+import resource
+import shlex
 import shutil
 import signal
+import statistics
 import subprocess
 import tempfile
 import time
@@ -44,7 +47,8 @@ SWITCH = """main() {
   while (1);
 }
 """
-FILES = {"switch.r": SWITCH, "dies.r": "main(){while(1) cannon(0,0);}", "still.r": STILL, "other.r": STILL + "/* other */", "draws.r": DRAWS, "two.r": TWO % (100, 900), "best.r": TWO % (600, 200),
+FILES = {"switch.r": SWITCH, "switched.r": SWITCH.replace("5 /*", "9 /*"), "dies.r": "main(){while(1) cannon(0,0);}", "still.r": STILL,
+         "other.r": STILL + "/* other */", "draws.r": DRAWS, "two.r": TWO % (100, 900), "best.r": TWO % (600, 200),
          "unused.r": UNUSED, "bad.r": "main(){\nbreak; }", "plain.r": "main(){int a; a = 7;}", "field/a.r": STILL + "/* a */",
          "field/b.r": "main(){while(1) cannon(0,0);}", "field/notes.txt": "no robot"}
 WORDS = ("-l400", "--quiet")
@@ -172,8 +176,7 @@ class Playing:
     def what_tuning_says_by_opponent(self) -> list[str]:
         """9 is today's value, and loses to still.r: any below is worth a point more against it. The comma-separated values have the
         numbers as columns, and of both versions the rows that a sweep has; JSON has the same numbers of the tuned one."""
-        (self._folder / "nine.r").write_text(SWITCH.replace("5 /*", "9 /*"), encoding="ascii")
-        words = ("-m20", "--budget", "500", "--by-opponent", "nine.r", "still.r", "dies.r")
+        words = ("-m20", "--budget", "500", "--by-opponent", "switched.r", "still.r", "dies.r")
         rows = [*csv.DictReader(io.StringIO(self._run("--csv", *words).stdout))]
         got = [[row[name] for name in ("against", "points", "change", "low", "verdict")] for row in rows]
         wanted = [["dies.r", "3.000", "+0.000", "+0.000", ""], ["still.r", "0.000", "+0.000", "+0.000", ""], ["all", "1.500", "+0.000", "+0.000", "today's"],
@@ -208,6 +211,29 @@ class Playing:
         wrong = [] if abs(one - 600) + abs(two - 200) < 150 and made["better"] and made["change"] > 0.5 else [ran.stdout]
         return wrong if (self._folder / "tuned.r").read_text(encoding="utf-8") == TWO % (one, two) else [*wrong, "other bytes"]
 
+    def a_file_that_is_there(self) -> list[str]:
+        """What is written in its place has its mode; a new one can be read by all. A link stays, and what it leads to is written."""
+        kept = self._folder / "kept.r"
+        kept.write_text("old", encoding="ascii")
+        kept.chmod(0o750)
+        (self._folder / "link.r").symlink_to("kept.r")
+        wrong = []
+        for name, mode in (("kept.r", 0o750), ("link.r", 0o750), ("fresh.r", 0o644)):
+            self._run("-m20", "--budget", "500", "-o", name, "switched.r", "still.r")
+            path = self._folder / name
+            right = path.stat().st_mode & 0o777 == mode and b"/* tune 1..9" in path.read_bytes() and path.is_symlink() == (name == "link.r")
+            wrong += [] if right else [f"{name}: {path.stat().st_mode:o} {path.read_bytes()!r}"]
+        return wrong
+
+    def how_many_matches_a_trial_has(self) -> list[str]:
+        """Those of --round, half of them in each seat: most series are those of the evolution."""
+        wrong = []
+        for matches in (24, 40):
+            self._run("-j1", "-m2", "--budget", "12000", "--round", str(matches), "--journal", f"round{matches}", "two.r", "still.r")
+            counts = re.findall(r" count=(\d+) ", (self._folder / f"round{matches}").read_text(encoding="ascii"))
+            wrong += [] if statistics.mode(counts) == str(matches // 2) else [f"{matches}: {counts[-20:]}"]
+        return wrong
+
     def nothing_is_better_of_what_is_best(self) -> list[str]:
         """Neither a robot at its best, nor one whose number does nothing: no file is written."""
         wrong = []
@@ -239,15 +265,21 @@ class Playing:
             os.killpg(child.pid, signal.SIGKILL)
 
     def a_plan_is_played_elsewhere(self) -> list[str]:
-        """Its lines write records; with these as a journal the sweep plays nothing, and says the same."""
-        words = ("--sweep", "-m20", "draws.r", "still.r", "other.r")
-        plan = self._run(*words, "--plan", "variants")
-        (self._folder / "plan").write_text(plan.stdout, encoding="utf-8")
-        subprocess.run("xargs -P 4 -d '\\n' -n 1 sh -c < plan > played", shell=True, cwd=self._folder, check=True)
-        before = (self._folder / "played").read_bytes()
-        got = self._run(*words, "--journal", "played").stdout
-        wrong = [] if (self._folder / "played").read_bytes() == before else ["something was played again"]
-        return wrong if got == self._run(*words).stdout and plan.stdout.count("\n") >= 44 else [*wrong, got, plan.stdout[:500]]
+        """Its lines write records, by sh, xargs and parallel; with these as a journal the sweep plays nothing, and says the same."""
+        words, wrong = ("--sweep", "-m20", "draws.r", "still.r", "other.r"), list[str]()
+        plan = self._run(*words, "--plan", "variants").stdout
+        (self._folder / "plan").write_text(plan, encoding="utf-8")
+        wanted = self._run(*words).stdout
+        ways = {"sh plan", "xargs -P 4 -d '\\n' -n 1 sh -c < plan", "parallel -j 4 < plan"}
+        if why := lacking(["parallel"]):
+            skip("sweeps by parallel", why)
+            ways.remove("parallel -j 4 < plan")
+        for way in ways:
+            played = self._sh(f"{way} > played").stderr or (self._folder / "played").read_text(encoding="ascii")
+            got = self._run(*words, "--journal", "played").stdout
+            wrong += [] if (self._folder / "played").read_text(encoding="ascii") == played else [f"{way}: something was played again, {played:.300}"]
+            wrong += [] if got == wanted else [f"{way}: {got}"]
+        return wrong if plan.count("\n") >= 44 else [*wrong, plan[:500]]
 
     def opponents_of_all_kinds(self) -> list[str]:
         """A folder, weights, a league. Against b.r, which shoots itself too, draws.r ties or wins."""
@@ -337,7 +369,75 @@ class Playing:
 
     def outputs_that_can_t_be_written(self) -> list[str]:
         wrong = self._refused("tune: cannot write /dev/full: No space left on device\n", "--sweep", "-m2", "-o", "/dev/full", "draws.r", "still.r", status=3)
+        wrong += self._refused(f"{SAID}tune: cannot write /dev/full: No space left on device\n", "-m20", "--budget", "500", "-o", "/dev/full", "switched.r", "still.r",
+                               status=3)
         return wrong + self._refused("tune: cannot write gone/s.svg: No such file or directory\n", "--sweep", "-m2", "-o", "gone/s.svg", "draws.r", "still.r", status=3)
+
+    def standard_output_that_can_t_be_written(self) -> list[str]:
+        """Closed, it is refused before anything is played; full, a line says so; a pipe that nobody reads ends it as others."""
+        full, wrong = "tune: cannot write: No space left on device\n", list[str]()
+        for words in (("--sweep", "-m2"), ("--sweep", "-m2", "--json"), ("--sweep", "-m2", "--plan", "planned"), ("-m2", "--budget", "40", "--judge", "other.r")):
+            play = shlex.join([*self._words(*words, "draws.r", "still.r")])
+            for command, faults in ((f"{play} >&-", "tune: cannot write: standard output is closed\n"), (f"{play} > /dev/full", full)):
+                ran = self._sh(command)
+                wrong += [] if (ran.stdout, ran.stderr, ran.returncode) == ("", faults, 3) else [f"{command}: {ran!r:.500}"]
+            reading, writing = os.pipe()
+            os.close(reading)
+            ran = self._run(*words, "draws.r", "still.r", capture_output=False, stdout=writing, stderr=subprocess.PIPE)
+            os.close(writing)
+            wrong += [] if (ran.stderr, ran.returncode) == ("", -signal.SIGPIPE) else [f"{words}: {ran!r:.500}"]
+        return wrong
+
+    def what_is_told_ends_nothing(self) -> list[str]:
+        """Standard error closed, full, or a pipe that nobody reads; nothing that is said gets into the journal."""
+        wrong = []
+        for words in (("--sweep", "-m6"), ("-m6", "--budget", "200")):
+            wanted = self._run(*words, "draws.r", "still.r").stdout
+            loud = shlex.join([it for it in self._words(*words, "--journal", "told", "draws.r", "still.r") if it != "--quiet"])
+            for way in ("2>&-", "2> /dev/full", "2> >(exec 0<&-; sleep 1)", "2>&- <&-"):
+                (self._folder / "told").unlink(missing_ok=True)
+                ran = self._sh(f"{loud} {way}; echo status $?")
+                kept = (self._folder / "told").read_text(encoding="ascii").splitlines()
+                right = ran.stdout == f"{wanted}status 0\n" and kept and all(line.startswith("series 2 ") for line in kept)
+                wrong += [] if right else [f"{words} {way}: {ran!r:.500}"]
+        return wrong
+
+    def a_journal_on_a_full_disk(self) -> list[str]:
+        """One line says why it ended; what is in the journal is whole, and from there it goes on to the same answer."""
+        wrong = []
+        limit = lambda: resource.setrlimit(resource.RLIMIT_FSIZE, (9000, 9000))  # noqa: E731
+        for number, words in enumerate((("--sweep", "-m40", "draws.r", "still.r", "other.r"), ("-m40", "--budget", "2000", "two.r", "still.r"))):
+            journal = self._folder / f"full{number}"
+            ran = self._run(*words, "--journal", journal.name, preexec_fn=limit)
+            kept = journal.read_text(encoding="ascii")
+            right = (ran.stdout, ran.stderr.removeprefix(SAID), ran.returncode) == ("", f"tune: cannot write {journal.name}: File too large\n", 3)
+            wrong += [] if right and kept.endswith("\n") and 5 < kept.count("\n") else [f"{words}: {ran!r:.400}, {len(kept)} bytes"]
+            wrong += [] if self._run(*words, "--journal", journal.name).stdout == self._run(*words).stdout else [f"{words}: another answer"]
+            grown = journal.read_text(encoding="ascii")
+            wrong += [] if grown.startswith(kept) and len({*grown.splitlines()}) == grown.count("\n") else [f"{words}: something was played twice"]
+        return wrong
+
+    def a_signal_that_stops_it(self) -> list[str]:
+        """It says how far it was, and the journal has that: nothing of it is played again."""
+        wrong = []
+        for words in (("-m40", "--budget", "40000", "two.r", "still.r"), ("--sweep", "-m4000", "draws.r", "still.r", "other.r")):
+            journal = self._folder / f"stopped{len(words)}"
+            with subprocess.Popen(self._words(*words, "--journal", journal.name), cwd=self._folder, stdout=subprocess.PIPE, stderr=subprocess.PIPE, text=True) as child:
+                while child.poll() is None and not (journal.exists() and journal.read_bytes().count(b"\n") > 5):
+                    time.sleep(0.01)
+                child.send_signal(signal.SIGINT)
+                shown, told = child.communicate()
+            kept = journal.read_text(encoding="ascii")
+            said = re.fullmatch(rf"tune: stopped: (\d+) of \d+ series were played, \d+ matches; {journal.name} has what was played\n", told.removeprefix(SAID))
+            wrong += [] if (shown, child.returncode) == ("", 130) and said and int(said[1]) == kept.count("\n") else [f"{words}: {shown} {told} {child.returncode}"]
+            wrong += [] if self._run(*words, "--journal", journal.name).stdout == self._run(*words).stdout else [f"{words}: another answer"]
+            grown = journal.read_text(encoding="ascii")
+            wrong += [] if grown.startswith(kept) and len({*grown.splitlines()}) == grown.count("\n") else [f"{words}: something was played twice"]
+        return wrong
+
+    def _sh(self, command: str) -> Ran:
+        """What a command of a shell comes to."""
+        return subprocess.run(["bash", "-c", command], cwd=self._folder, stdin=subprocess.DEVNULL, capture_output=True, text=True, check=False, timeout=300)
 
     def a_curve_as_it_is_seen(self) -> list[str]:
         """In a browser no text of the picture is beyond its edges."""

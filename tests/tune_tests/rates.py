@@ -93,6 +93,19 @@ def called(seeds: int, until_sure: bool) -> int:
     return found
 
 
+def dropped(seeds: int) -> tuple[int, int]:
+    """In how many sweeps until sure no best value is left at the end, of how many whose best value isn't today's, which never goes."""
+    found = []
+    for seed in range(seeds):
+        games = simulated(seed, [*CURVES][seed % (len(CURVES) - 1)])
+        rows = sweep(games, Starts(seed, "sweep"), games.given.matches // 2, True)
+        most = max(games.truth(row.values) for row in rows)
+        best = [row for row in rows if games.truth(row.values) > most - 1e-9]
+        of_today = next(row.matches for row in rows if row.values == games.today)
+        found += [all(row.matches < of_today for row in best)] if games.truth(games.today) < most - 1e-9 else []
+    return sum(found), len(found)
+
+
 def believed(seeds: int) -> int:
     """How many searches of one to three numbers that do nothing end with values that are called better."""
     found = 0
