@@ -64,7 +64,7 @@ impl Foreign {
         let behind = self.index.saturating_add(1);
         match line {
             Line::None => {}
-            Line::Head => add_head(note, tokens, behind),
+            Line::Head => add_head(note, source, tokens, behind),
             Line::Declaration => add_declaration(note, source, tokens, behind),
         }
     }
