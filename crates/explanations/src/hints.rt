@@ -7,7 +7,7 @@ use crate::functions::{on_heads, on_inner_functions, on_outer_calls, on_the_outs
 use crate::heads::{add_arrow, add_head, behind_brackets, line_from};
 use crate::indices::touches;
 use crate::layout::{Disagreement, first_disagreement};
-use crate::lookalikes::meant_by;
+use crate::lookalikes::{is_in_capitals, meant_by};
 use crate::notes::Note;
 use crate::scenes::Scene;
 use crate::told::spelling_of;
@@ -555,7 +555,9 @@ fn on_names(scene: &Scene<'_>) -> Option<Hint> {
     for index in names {
         if let Some(name) = scene.name(index) {
             match meant_by(name.as_bytes()) {
-                Some(word) if scene.is_lone(&name) => return Some(Hint::Meant(word)),
+                Some(word) if scene.is_lone(&name) || is_in_capitals(scene.tokens, index) => {
+                    return Some(Hint::Meant(word));
+                }
                 _ => {}
             }
         }
