@@ -1,5 +1,6 @@
 //! Declarations and assignments as lines to copy, with the values that the source has.
 
+use crate::foreign::is_foreign;
 use crate::heads::{add_head, line_from};
 use crate::indices::{is_called, name_at};
 use crate::notes::Note;
@@ -16,9 +17,12 @@ const MOST_COPIED: usize = 40;
 pub fn add_declaration(note: &mut Note, source: &[u8], tokens: &[Located], index: usize) {
     for (number, located) in line_from(tokens, index).iter().enumerate() {
         let at = index.saturating_add(number);
-        if let Token::Name(name) = located.token {
+        let is_before_name = name_at(tokens, at.saturating_add(1)).is_some();
+        if let Token::Name(name) = located.token
+            && !(is_before_name && is_foreign(&name))
+        {
             if is_called(tokens, at) {
-                return add_head(note, tokens, at);
+                return add_head(note, source, tokens, at);
             }
             note.add(": write `int ");
             note.add(text_of(&name));

@@ -3,7 +3,7 @@
 use crate::heads::behind_brackets;
 use crate::indices::token_at;
 use crate::meanings::Meaning;
-use crate::values::holds;
+use crate::values::{holds, is_turned};
 use crate::variables::set_by;
 use crate::warnings::{Subject, Warnings};
 use derivations::{Located, Node, NodeKind, SourceTree};
@@ -20,9 +20,13 @@ pub fn warn_of_branch(out: &mut Warnings, subject: &Subject<'_>, index: usize, n
     let Some((condition, value)) = subject.valued(last) else {
         return;
     };
-    if is_assignment(subject.tree, last, condition) && !is_in_brackets(tokens, condition.token) {
+    let equals = condition.token.saturating_add(1);
+    if is_assignment(subject.tree, last, condition)
+        && !is_in_brackets(tokens, condition.token)
+        && !is_turned(tokens, equals, Punctuator::Not)
+    {
         out.tell(
-            condition.token.saturating_add(1),
+            equals,
             "`=` sets the variable; to compare write `==`, or put it into brackets of its own",
         );
     }

@@ -44,6 +44,12 @@ pub fn warn_of_call(
         warn_of_pair(out, subject, index, node, intrinsic);
         warn_of_look(out, subject, index, node, intrinsic);
     }
+    if is_name(subject.tokens, node.token, b"main") {
+        out.tell(
+            node.token,
+            "a robot begins in `main` by itself: what is repeated for ever stands in `while (1) { .. }`",
+        );
+    }
     if !subject.profile.short_circuit()
         && let Some(words) = on_right_side(tree, index)
     {

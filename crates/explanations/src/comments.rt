@@ -73,6 +73,34 @@ pub fn nested(source: &[u8], at: usize) -> Option<u32> {
     None
 }
 
+/// Reports whether a position is in a comment whose `/*` is missing: a `*/` follows, and from the beginning of the line up to
+/// it there is no `/*`, and no code if it is on a later line.
+pub fn is_unbegun(source: &[u8], at: usize) -> bool {
+    let text = from_line_start(source, at);
+    let Some(behind) = after(text, b"*/") else {
+        return false;
+    };
+    let between = before(text, behind);
+    let is_on_line = after(between, b"\n").is_none();
+    let end = source.len().saturating_sub(behind.len());
+    at.saturating_add(2) < end
+        && after(between, b"/*").is_none()
+        && (is_on_line || after(between, b"{").or(after(between, b";")).is_none())
+}
+
+/// Returns what follows the last line end before a position.
+fn from_line_start(source: &[u8], at: usize) -> &[u8] {
+    let mut text = source;
+    let mut begin = 0usize;
+    for byte in source.get(..at).unwrap_or(&[]) {
+        begin = begin.saturating_add(1);
+        if *byte == b'\n' {
+            text = source.get(begin..).unwrap_or(&[]);
+        }
+    }
+    text
+}
+
 /// Returns the line on which a comment begins before a position that has lines of code in it, and behind them the beginning
 /// of another one: it probably wasn't meant to go so far.
 pub fn swallowing(source: &[u8], at: usize) -> Option<u32> {

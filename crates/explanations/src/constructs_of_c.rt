@@ -3,7 +3,7 @@
 use crate::foreign::{Construct, Line};
 
 /// The constructs of C: of those that begin in the same way the longer ones come first.
-static OF_C: [Construct; 45] = [
+static OF_C: [Construct; 46] = [
     (
         "#",
         "define",
@@ -29,6 +29,13 @@ static OF_C: [Construct; 45] = [
         "for",
         "(;;",
         "C",
+        "what is repeated for ever stands in `while (1) { .. }`",
+        Line::None,
+    ),
+    (
+        "for",
+        "{",
+        "Go",
         "what is repeated for ever stands in `while (1) { .. }`",
         Line::None,
     ),

@@ -3,7 +3,7 @@
 use crate::foreign::{Construct, Line};
 
 /// The constructs of all others.
-static OF_OTHERS: [Construct; 69] = [
+static OF_OTHERS: [Construct; 73] = [
     (
         "#",
         "",
@@ -280,6 +280,34 @@ static OF_OTHERS: [Construct; 69] = [
         "@",
         "Pascal",
         "leave the line out: a robot begins in `main() {`",
+        Line::None,
+    ),
+    (
+        "forever",
+        "",
+        "Scratch",
+        "what is repeated for ever stands in `while (1) { .. }`",
+        Line::None,
+    ),
+    (
+        "repeat",
+        "(",
+        "Scratch",
+        "write `n = 0; while (n < 10) { n = n + 1; .. }`",
+        Line::None,
+    ),
+    (
+        "when",
+        "@",
+        "Scratch",
+        "leave the line out: a robot begins in `main() {`",
+        Line::None,
+    ),
+    (
+        ".",
+        "times",
+        "Ruby",
+        "write `n = 0; while (n < 10) { n = n + 1; .. }`",
         Line::None,
     ),
     (

@@ -5,10 +5,11 @@ ghost use Rattle.grammar.specs.Compiled.{compiled};
 ghost use Rattle.explanations.specs.Faults.{IsOn, first_line};
 
 use crate::carets::{add_marked, add_shown};
-use crate::comments::{nested, swallowing};
+use crate::comments::{is_unbegun, nested, swallowing};
 use crate::foreign::foreign_at;
 use crate::hints::{
-    Hint, hint_on, on_arrows, on_ended_conditions, on_headed_colons, on_prototypes,
+    Hint, hint_on, on_arrows, on_ended_conditions, on_headed_colons, on_methods, on_prototypes,
+    on_reserved_names,
 };
 use crate::letters::name_around;
 use crate::marks::on_character;
@@ -170,7 +171,11 @@ fn hint_for(found: &Found<'_>, scene: &Scene<'_>) -> Option<Hint> {
     if let Some(line) = swallowing(found.source, found.met.start) {
         return Some(Hint::Swallowing(line));
     }
+    if is_unbegun(found.source, found.met.start) {
+        return Some(Hint::Text("a comment begins with `/*`: it is missing before this text"));
+    }
     if let Some(hint) = on_prototypes(scene)
+        .or(on_reserved_names(scene))
         .or(on_ended_conditions(scene))
         .or(on_arrows(scene))
     {
@@ -180,7 +185,7 @@ fn hint_for(found: &Found<'_>, scene: &Scene<'_>) -> Option<Hint> {
         return Some(Hint::Foreign(foreign));
     }
     match found.code {
-        Code::BadCharacter => match on_headed_colons(scene) {
+        Code::BadCharacter => match on_headed_colons(scene).or(on_methods(scene)) {
             Some(hint) => Some(hint),
             None => Some(Hint::Text(on_character(found, scene)?)),
         },

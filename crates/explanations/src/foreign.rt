@@ -64,7 +64,7 @@ impl Foreign {
         let behind = self.index.saturating_add(1);
         match line {
             Line::None => {}
-            Line::Head => add_head(note, tokens, behind),
+            Line::Head => add_head(note, source, tokens, behind),
             Line::Declaration => add_declaration(note, source, tokens, behind),
         }
     }
@@ -149,7 +149,7 @@ fn row_in(constructs: &[Construct], source: &[u8], located: &Located) -> Option<
 }
 
 /// Reports whether some assignment sets the name that a token is.
-fn is_set(tokens: &[Located], wanted: &Located) -> bool {
+pub fn is_set(tokens: &[Located], wanted: &Located) -> bool {
     let mut follows_name = false;
     for located in tokens {
         if follows_name && store_operator(&located.token).is_some() {

@@ -3,7 +3,7 @@
 use crate::foreign::is_foreign;
 use crate::heads::{block_end_before, is_call, is_head};
 use crate::hints::{Hint, by_layout};
-use crate::lookalikes::meant_by;
+use crate::lookalikes::{is_in_capitals, meant_by};
 use crate::scenes::Scene;
 use derivations::{Item, Located, Symbol};
 use tokens::{Punctuator, Token};
@@ -25,7 +25,7 @@ fn is_misspelled(scene: &Scene<'_>, index: usize) -> bool {
     match scene.name(index) {
         Some(name) => {
             let is_meant = meant_by(name.as_bytes()).is_some() || is_foreign(&name);
-            scene.is_lone(&name) && is_meant
+            scene.is_lone(&name) && is_meant || is_in_capitals(scene.tokens, index)
         }
         None => false,
     }

@@ -4,6 +4,8 @@ use crate::indices::{follows, is_called, name_at, token_at};
 use crate::notes::Note;
 use crate::told::text_of;
 use derivations::Located;
+use grammar::MOST_NAMES;
+use std::str;
 use tokens::{Keyword, Punctuator, Token};
 
 /// Returns the index after the bracket that closes the one right after a token. It isn't inlined, since the page's
@@ -112,7 +114,7 @@ pub fn block_end_before(tokens: &[Located], index: usize) -> Option<u32> {
 
 /// Adds the head of the first function that is named from an index on in its line, or before it in that line, with the names
 /// of its parameters alone.
-pub fn add_head(note: &mut Note, tokens: &[Located], index: usize) {
+pub fn add_head(note: &mut Note, source: &[u8], tokens: &[Located], index: usize) {
     let begin = match called_from(tokens, index) {
         Some(at) => at,
         None => line_start(tokens, index),
@@ -126,7 +128,7 @@ pub fn add_head(note: &mut Note, tokens: &[Located], index: usize) {
             note.add(text_of(&name));
             note.push('(');
             if !name.has_bytes(b"main") {
-                add_parameters(note, tokens, at);
+                add_parameters(note, source, tokens, at);
             }
             return note.add(") {`");
         }
@@ -134,13 +136,13 @@ pub fn add_head(note: &mut Note, tokens: &[Located], index: usize) {
 }
 
 /// Adds the head of the function that an arrow gives to the variable of the token of an index.
-pub fn add_arrow(note: &mut Note, tokens: &[Located], index: usize) {
+pub fn add_arrow(note: &mut Note, source: &[u8], tokens: &[Located], index: usize) {
     note.add("`=>` makes no function: one stands outside of the others: write `");
     if let Some(name) = name_at(tokens, index) {
         note.add(text_of(&name));
     }
     note.push('(');
-    add_parameters(note, tokens, index.saturating_add(1));
+    add_parameters(note, source, tokens, index.saturating_add(1));
     note.add(") { .. }`");
 }
 
@@ -168,26 +170,74 @@ fn line_start(tokens: &[Located], index: usize) -> usize {
     index
 }
 
-/// Adds the names of the parameters of a function, by the index of its name: those that a `,` or a `)` stands behind.
-fn add_parameters(note: &mut Note, tokens: &[Located], name: usize) {
-    let behind = behind_brackets(tokens, name).unwrap_or(name);
+/// Adds the names of the parameters of a function whose `(` is right behind the token of an index. They are read from the
+/// bytes, since no tokens are behind a `:`: types stand before a name, behind it, or behind `:`.
+fn add_parameters(note: &mut Note, source: &[u8], tokens: &[Located], before: usize) {
+    let Some(open) = tokens.get(before.saturating_add(1)) else {
+        return;
+    };
+    let mut rest = source.get(open.end..).unwrap_or(&[]);
     let mut is_first = true;
-    for at in name.saturating_add(2)..behind {
-        let ends = matches!(
-            token_at(tokens, at.saturating_add(1)),
-            Token::Punctuator(Punctuator::Comma | Punctuator::CloseRound)
-        );
-        if let Some(parameter) = name_at(tokens, at)
-            && ends
-        {
+    for _ in 0..MOST_NAMES {
+        let end = parameter_end(rest);
+        let name = parameter_name(rest.get(..end).unwrap_or(&[]));
+        if !name.is_empty() {
             if !is_first {
                 note.add(", ");
             }
-            note.add(text_of(&parameter));
+            note.add(str::from_utf8(name).unwrap_or(".."));
             is_first = false;
+        }
+        match rest.get(end).copied() {
+            Some(b',' | b';') => rest = rest.get(end.saturating_add(1)..).unwrap_or(&[]),
+            _ => return,
         }
     }
 }
+
+/// Returns how many bytes of a text belong to the parameter that it begins with.
+fn parameter_end(text: &[u8]) -> usize {
+    for (at, byte) in text.iter().enumerate() {
+        if matches!(*byte, b',' | b';' | b')' | b'{') {
+            return at;
+        }
+    }
+    text.len()
+}
+
+/// Returns the name of a parameter: the last word before a `:` or a `=` that is no type of C.
+fn parameter_name(text: &[u8]) -> &[u8] {
+    let mut name: &[u8] = &[];
+    let mut begin = 0usize;
+    for (at, byte) in text.iter().enumerate() {
+        if !byte.is_ascii_alphanumeric() && *byte != b'_' {
+            name = later_name(name, text.get(begin..at).unwrap_or(&[]));
+            begin = at.saturating_add(1);
+        }
+        if matches!(*byte, b':' | b'=') {
+            return name;
+        }
+    }
+    later_name(name, text.get(begin..).unwrap_or(&[]))
+}
+
+/// Returns a word, or the name before it if the word is none.
+fn later_name<'a>(name: &'a [u8], word: &'a [u8]) -> &'a [u8] {
+    for no_name in &TYPES {
+        if no_name.as_bytes() == word {
+            return name;
+        }
+    }
+    match word {
+        [] | [b'0'..=b'9', ..] => name,
+        _ => word,
+    }
+}
+
+/// The types of C, which are no names.
+static TYPES: [&str; 10] = [
+    "int", "long", "auto", "register", "void", "char", "float", "double", "short", "unsigned",
+];
 
 /// Returns the tokens of a line from an index on.
 pub fn line_from(tokens: &[Located], index: usize) -> &[Located] {

@@ -5,13 +5,14 @@ use crate::comments::add_swallowing;
 use crate::foreign::Foreign;
 use crate::functions::{on_heads, on_inner_functions, on_outer_calls, on_the_outside};
 use crate::heads::{add_arrow, add_head, behind_brackets, line_from};
+use crate::indices::touches;
 use crate::layout::{Disagreement, first_disagreement};
-use crate::lookalikes::meant_by;
+use crate::lookalikes::{is_in_capitals, meant_by};
 use crate::notes::Note;
 use crate::scenes::Scene;
 use crate::told::spelling_of;
 use derivations::{Item, Located, Role};
-use grammar::{intrinsic_named, operator_from, store_operator};
+use grammar::{Intrinsic, intrinsic_named, operator_from, store_operator};
 use tokens::{Keyword, MOST_CONSTANT_VALUE, Name, Punctuator, Token};
 
 /// A hint.
@@ -37,6 +38,8 @@ pub enum Hint {
     Hexadecimal(Option<u32>),
     /// What is perhaps meant.
     Meant(&'static str),
+    /// This intrinsic function is called as one of an object.
+    Method(Intrinsic),
     /// A construct of another language.
     Foreign(Foreign),
     /// This text, and the head of the first function that is named from the token of an index on in its line.
@@ -61,6 +64,15 @@ impl Hint {
                 note.add("perhaps ");
                 note.add(word);
             }
+            Hint::Method(intrinsic) => {
+                note.add("there are no objects: write `");
+                note.add(intrinsic.name());
+                note.add(if intrinsic.argument_count() == 0 {
+                    "()` alone"
+                } else {
+                    "(..)` alone"
+                });
+            }
             Hint::Hexadecimal(value) => {
                 note.add("numbers are decimal: hexadecimal ones aren't known");
                 if let Some(value) = value {
@@ -70,13 +82,13 @@ impl Hint {
             Hint::Foreign(foreign) => foreign.add(note, source, tokens),
             Hint::Head(words, index) => {
                 note.add(words);
-                add_head(note, tokens, index);
+                add_head(note, source, tokens, index);
             }
             Hint::Declaration(words, index) => {
                 note.add(words);
                 add_declaration(note, source, tokens, index);
             }
-            Hint::Arrow(index) => add_arrow(note, tokens, index),
+            Hint::Arrow(index) => add_arrow(note, source, tokens, index),
             Hint::Assignments(index) => add_assignments(note, source, tokens, index),
             _ => self.add_place(note),
         }
@@ -157,12 +169,14 @@ fn add_disagreement(note: &mut Note, disagreement: Disagreement) {
 /// Returns the hint on a token that doesn't fit, if there is one: the first of these that apply.
 pub fn hint_on(scene: &Scene<'_>) -> Option<Hint> {
     on_comments(scene)
+        .or(on_marked_numbers(scene))
         .or(on_numbers(scene))
         .or(on_inner_functions(scene))
         .or(on_outer_calls(scene))
         .or(on_declarations(scene))
         .or(on_declared_names(scene))
         .or(on_operators(scene))
+        .or(on_split_conditions(scene))
         .or(on_values(scene))
         .or(on_names(scene))
         .or(on_calls(scene))
@@ -219,6 +233,19 @@ pub fn on_prototypes(scene: &Scene<'_>) -> Option<Hint> {
     ))
 }
 
+/// Returns the hint on a reserved word that a variable is declared by.
+pub fn on_reserved_names(scene: &Scene<'_>) -> Option<Hint> {
+    let is_name = scene.follows(&Token::Keyword(Keyword::Type))
+        || scene.follows_mark(Punctuator::Comma) && !scene.kinds.expression && !is_in_list(scene);
+    let ends = matches!(
+        scene.token(scene.index.saturating_add(1)),
+        Token::Punctuator(Punctuator::Comma | Punctuator::Semicolon | Punctuator::Equals)
+    );
+    (scene.is_word(Keyword::Refused) && is_name && ends).then_some(Hint::Text(
+        "this word is reserved: give the variable another name",
+    ))
+}
+
 /// Returns the hint on a `do` behind a condition.
 pub fn on_ended_conditions(scene: &Scene<'_>) -> Option<Hint> {
     let met = scene.tokens.get(scene.index)?;
@@ -226,6 +253,29 @@ pub fn on_ended_conditions(scene: &Scene<'_>) -> Option<Hint> {
     (is_do && scene.follows_mark(Punctuator::CloseRound)).then_some(Hint::Text(
         "no `do` stands behind a condition",
     ))
+}
+
+/// Returns the hint on a number with a `%` behind it, or with a `,` in it.
+fn on_marked_numbers(scene: &Scene<'_>) -> Option<Hint> {
+    let number = scene.index.checked_sub(1)?;
+    let is_next_number = matches!(scene.token(number.saturating_add(2)), Token::Constant(_));
+    let is_percent = scene.follows_mark(Punctuator::Percent)
+        && touches(scene.tokens, number)
+        && matches!(scene.token(number.saturating_sub(1)), Token::Constant(_));
+    if is_percent && scene.kinds.expression {
+        return Some(Hint::Text(
+            "a number has no `%`: a speed and a damage are percentages as they are",
+        ));
+    }
+    if scene.is_mark(Punctuator::Comma)
+        && matches!(scene.token(number), Token::Constant(_))
+        && scene.touches()
+        && is_next_number
+        && touches(scene.tokens, scene.index.saturating_add(1))
+    {
+        return Some(Hint::Text("a number has digits alone, and no `,` between thousands"));
+    }
+    None
 }
 
 /// Returns the hint on letters that follow a number.
@@ -413,6 +463,23 @@ fn on_commas(scene: &Scene<'_>) -> Option<Hint> {
     })
 }
 
+/// Returns the hint on a `.` before the name of an intrinsic function, by the bytes behind it.
+pub fn on_methods(scene: &Scene<'_>) -> Option<Hint> {
+    let met = scene.tokens.get(scene.index)?;
+    let [b'.', called @ ..] = scene.source.get(met.start..)? else {
+        return None;
+    };
+    for intrinsic in &Intrinsic::ALL {
+        match called.strip_prefix(intrinsic.name().as_bytes()) {
+            Some(behind) if behind.first() == Some(&b'(') => {
+                return Some(Hint::Method(*intrinsic));
+            }
+            _ => {}
+        }
+    }
+    None
+}
+
 /// Returns the hint on a `:` behind the head of a function.
 pub fn on_headed_colons(scene: &Scene<'_>) -> Option<Hint> {
     let met = scene.tokens.get(scene.index)?;
@@ -488,7 +555,9 @@ fn on_names(scene: &Scene<'_>) -> Option<Hint> {
     for index in names {
         if let Some(name) = scene.name(index) {
             match meant_by(name.as_bytes()) {
-                Some(word) if scene.is_lone(&name) => return Some(Hint::Meant(word)),
+                Some(word) if scene.is_lone(&name) || is_in_capitals(scene.tokens, index) => {
+                    return Some(Hint::Meant(word));
+                }
                 _ => {}
             }
         }
@@ -547,6 +616,24 @@ fn on_conditions(scene: &Scene<'_>) -> Option<Hint> {
         let words =
             "an `else` follows the one statement of its `if`: put several into braces, and no `;` behind the condition";
         return Some(by_layout(scene.so_far(), true, "", Hint::Text(words)));
+    }
+    None
+}
+
+/// Returns the hint on an operator right behind the brackets of a condition.
+fn on_split_conditions(scene: &Scene<'_>) -> Option<Hint> {
+    let is_operator = operator_from(&scene.met(), 1).is_some() && !scene.is_mark(Punctuator::Star);
+    if !is_operator || !scene.follows_mark(Punctuator::CloseRound) {
+        return None;
+    }
+    for (index, located) in scene.so_far().iter().enumerate() {
+        if matches!(located.token, Token::Keyword(Keyword::If | Keyword::While))
+            && behind_brackets(scene.tokens, index) == Some(scene.index)
+        {
+            return Some(Hint::Text(
+                "the brackets stand around the whole condition: `if (a > 1 && b > 1)`",
+            ));
+        }
     }
     None
 }

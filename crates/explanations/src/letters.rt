@@ -69,6 +69,9 @@ pub fn meant_by_sign(character: char) -> Option<&'static str> {
         0x2227 => Some("write `&&`"),
         0x2228 => Some("write `||`"),
         0xAC => Some("write `!`"),
+        0xB0 | 0xBA => Some("a degree is a number alone, without a sign"),
+        0xB2 | 0xB3 => Some("a power is written as a product: `a * a`"),
+        0x221A => Some("a root is written `sqrt(a)`"),
         0x2190 => Some("an assignment is written with `=` alone"),
         0x2000..=0x200D | 0x202F | 0x205F | 0x2060 | 0x3000 => {
             Some("this is no usual space: type it anew, or delete it")

@@ -1,6 +1,9 @@
 //! Names that are written for words of this language.
 
+use crate::foreign::is_set;
+use crate::indices::name_at;
 use crate::spelling::{is_near, is_same_but_for_case};
+use derivations::Located;
 
 /// The words that a name may misspell, with what a hint says of them.
 static WORDS: [(&str, &str); 9] = [
@@ -26,6 +29,19 @@ pub fn meant_by(name: &[u8]) -> Option<&'static str> {
         }
     }
     None
+}
+
+/// Reports whether the name of a token is a word but for capital letters, and nothing sets it: it may occur several times.
+pub fn is_in_capitals(tokens: &[Located], index: usize) -> bool {
+    let (Some(name), Some(located)) = (name_at(tokens, index), tokens.get(index)) else {
+        return false;
+    };
+    for (word, _) in &WORDS {
+        if is_same_but_for_case(name.as_bytes(), word.as_bytes()) {
+            return !is_set(tokens, located);
+        }
+    }
+    false
 }
 
 /// Reports whether a name may be a misspelled word. Of two letters only the order or the case may be wrong.

@@ -11,7 +11,7 @@ use tokens::{Keyword, Punctuator, Token};
 pub fn on_character(found: &Found<'_>, scene: &Scene<'_>) -> Option<&'static str> {
     let (source, met) = (found.source, &found.met);
     match source.get(met.start).copied().unwrap_or(0) {
-        b'"' | b'\'' if scene.kinds.statement => Some(
+        b'"' | b'\'' if scene.kinds.statement || scene.is_outside() => Some(
             "there is no text: a comment stands between `/*` and `*/`",
         ),
         b'"' | b'\'' | b'`' => Some(

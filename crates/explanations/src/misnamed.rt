@@ -6,7 +6,7 @@ use crate::foreign::foreign_name;
 use crate::functions::on_stray_call;
 use crate::heads::is_call;
 use crate::hints::Hint;
-use crate::indices::name_at;
+use crate::indices::{is_name, name_at};
 use crate::lookalikes::meant_by;
 use crate::notes::Note;
 use crate::spelling::{has_letters, is_near, is_same_but_for_case};
@@ -177,8 +177,11 @@ fn on_stray_code(found: &Found<'_>) -> Option<Hint> {
     if !is_call(found.tokens, name) {
         return None;
     }
+    if is_name(found.tokens, name, b"main") {
+        return Some(Hint::Text("a robot begins in `main` by itself: leave the call out"));
+    }
     Some(on_stray_call(found.tokens, name).unwrap_or(Hint::Text(
-        "a call stands inside of a function",
+        "a call stands inside of a function, as `main() { .. }`",
     )))
 }
 

@@ -88,6 +88,12 @@ fn on_no_effect(tree: &SourceTree, index: usize) -> &'static str {
         (NodeKind::Call(Callee::Intrinsic(Intrinsic::Scan), _), _) => {
             "this statement has no effect: keep the answer, as in `r = scan(d, 10);`"
         }
+        (NodeKind::Call(Callee::Intrinsic(Intrinsic::Speed), 1..), _) => {
+            "this statement has no effect: a speed is set by `drive(degree, speed)`"
+        }
+        (NodeKind::Call(Callee::Intrinsic(Intrinsic::LocX | Intrinsic::LocY), 1..), _) => {
+            "this statement has no effect: a robot comes to a place by `drive(degree, speed)`"
+        }
         _ => "this statement has no effect",
     }
 }

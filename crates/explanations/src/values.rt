@@ -277,7 +277,7 @@ fn on_old_value(step: StoreOp) -> &'static str {
     }
 }
 
-/// Warns of an assignment with `=-`, and of one that sets back what `++` or `--` changed.
+/// Warns of an assignment with `=-` or `=!`, and of one that sets back what `++` or `--` changed.
 pub fn warn_of_store(
     out: &mut Warnings,
     subject: &Subject<'_>,
@@ -294,13 +294,19 @@ pub fn warn_of_store(
         out.tell(node.token, on_old_value(step));
     }
     let equals = node.token.saturating_add(1);
-    let minus = equals.saturating_add(1);
-    let tokens = subject.tokens;
-    if token_at(tokens, equals) == Token::Punctuator(Punctuator::Equals)
-        && token_at(tokens, minus) == Token::Punctuator(Punctuator::Minus)
-        && touches(tokens, minus)
-        && !touches(tokens, minus.saturating_add(1))
-    {
+    if is_turned(subject.tokens, equals, Punctuator::Minus) {
         out.tell(equals, "`=-` sets the negative; perhaps `-=` is meant");
     }
+    if is_turned(subject.tokens, equals, Punctuator::Not) {
+        out.tell(equals, "`=!` sets 1 or 0; perhaps `!=` is meant");
+    }
+}
+
+/// Reports whether a `=` is at an index and this punctuator right behind it, with a blank behind both.
+pub fn is_turned(tokens: &[Located], equals: usize, punctuator: Punctuator) -> bool {
+    let next = equals.saturating_add(1);
+    token_at(tokens, equals) == Token::Punctuator(Punctuator::Equals)
+        && token_at(tokens, next) == Token::Punctuator(punctuator)
+        && touches(tokens, next)
+        && !touches(tokens, next.saturating_add(1))
 }
