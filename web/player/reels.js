@@ -2,7 +2,7 @@
 import {FieldDrawing} from "./drawing.js";
 import {shown} from "./elements.js";
 
-export const SIDE = 640;
+const SIDE = 640;
 const ROW = 26;
 const FRAMES_A_SECOND = 10;
 const MOST_SECONDS = 20;
