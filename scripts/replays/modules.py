@@ -51,8 +51,8 @@ def imported(path: str, names: str, place: str) -> str:
 def wrapped(path: str, is_last: bool) -> str:
     """A module as a function, whose result is a list of what it exports; that of the last module has names."""
     body = EXPORT.sub(r"\1", IMPORT.sub(lambda it: f"const {{{imported(path, it[1], it[2])}}} = modules.{it[3]};", bare(text_of(path))))
-    opens, closes = "{}" if is_last else "[]"
-    return f"modules.{name_of(path)} = (() => {{\n{body}return {opens}{', '.join(exports_of(path))}{closes};\n}})();\n"
+    exports = ", ".join(exports_of(path))
+    return f"modules.{name_of(path)} = (() => {{\n{body}return {f'{{{exports}}}' if is_last else f'[{exports}]'};\n}})();\n"
 
 
 def all_wrapped(path: str) -> str:
