@@ -11,7 +11,7 @@ import zipfile
 from typing import Callable, Iterator
 
 from .battles import Battle, Settings, samples
-from .pages import Page, as_loaded, changed, console, packed, without
+from .pages import Page, changed, console, is_in_time, packed, without
 
 FIELD = "document.querySelector('#writing textarea:not([style*=none])')"
 # a link of 78 KB that unpacks to 60 MB
@@ -148,7 +148,7 @@ def bomb(page: Page) -> list[str]:
     largest = [{"name": f"{n}.r", "source": LARGEST} for n in range(4)]
     page.open(packed(json.dumps({"robots": largest}).encode()))
     names = page.names
-    return [] if took < as_loaded(5) and len(link) < 90_000 and names == [f"{n}.r" for n in range(4)] else [f"{len(link)} bytes, {took:.1f} s, {names}"]
+    return [] if is_in_time(took, 5) and len(link) < 90_000 and names == [f"{n}.r" for n in range(4)] else [f"{len(link)} bytes, {took:.1f} s, {names}"]
 
 
 def disguises(page: Page) -> list[str]:
