@@ -6,7 +6,7 @@ import {MOST_MATCHES} from "./trials.js";
 const USUAL_MATCHES = 100;
 
 /** The groups of opponents that one may choose: {name, robots}; the others of a battle first, if there are any. */
-export function groupsOf(samples, others) {
+function groupsOf(samples, others) {
     const levels = [...new Set(samples.map(({level}) => level))];
     const groups = levels.map(level => ({name: `samples of level ${level}`, robots: samples.filter(it => it.level === level)}));
     const mine = others.length ? [{name: "the others of this battle", robots: others}] : [];

@@ -22,7 +22,7 @@ function verdictOf(change) {
 }
 
 /** The result in words. */
-export function toldOf({all, opponents}, each, name) {
+function toldOf({all, opponents}, each, name) {
     const listed = is => opponents.filter(({change}) => is(change)).map(it => it.name).join(", ") || "none";
     const {value, low, high} = all.change;
     return `${name} as it is now, in place of its version: ${signed(value)} points a match, 95 % interval ${signed(low)} to `

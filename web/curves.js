@@ -15,7 +15,7 @@ function drawn(tag, attributes, ...parts) {
 }
 
 /** Round values from one to another, some six. */
-export function ticksOf(low, high) {
+function ticksOf(low, high) {
     const rough = (high - low) / TICKS;
     const power = 10 ** Math.floor(Math.log10(rough));
     const step = [1, 2, 5, 10].find(it => it * power >= rough * 0.999) * power;

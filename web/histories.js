@@ -4,7 +4,7 @@ import {namesOf} from "./battles.js";
 import {diffOf} from "./diffs.js";
 import {byId, made} from "./dom.js";
 import {saveText} from "./files.js";
-import {bytesOf, exported} from "./versions.js";
+import {exported} from "./versions.js";
 
 // of a long list so much is shown; what is looked for narrows it
 const MOST_SHOWN = 50;

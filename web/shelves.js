@@ -1,6 +1,5 @@
 // Where the browser keeps versions and drafts: IndexedDB has room for the versions, and localStorage keeps a draft at once. Each takes
 // what the other one refuses.
-import {checked} from "./battles.js";
 import {bytesOf, versionOf} from "./versions.js";
 
 /**

@@ -21,7 +21,7 @@ function cellsOf({value, points, change, matches, verdict}) {
 }
 
 /** The result in words. */
-export function toldOf(rows, {name, value}) {
+function toldOf(rows, {name, value}) {
     const [better, worse] = ["better", "worse"].map(verdict => rows.filter(it => it.verdict === verdict));
     better.sort((one, other) => other.points - one.points);
     const listed = several => several.map(it => it.value).join(", ") || "none";

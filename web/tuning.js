@@ -152,7 +152,7 @@ export function tunablesOf(source, constants) {
 }
 
 /** The next of 1, 2, 5, 10, 20, .. by which a width has at most so many steps. */
-export function coarse(width, many) {
+function coarse(width, many) {
     for (let power = 1; ; power *= 10) {
         const factor = [1, 2, 5].find(it => it * power * many >= width);
         if (factor) {

@@ -151,11 +151,6 @@ export function exported(versions) {
     return `${JSON.stringify({kind: EXPORTED, versions}, null, 1)}\n`;
 }
 
-/** Returns whether a text may be a file of battles, and not a robot. */
-export function isExported(text) {
-    return text.startsWith(`{\n "kind": "${EXPORTED}"`);
-}
-
 /** Returns the versions of such a text, and how many in it can't be read; null if it is none. */
 export function imported(text) {
     try {

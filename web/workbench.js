@@ -1,7 +1,7 @@
 // The robots of the battle: a tab for each, its name, its source, its listing and its first fault. The store has them.
 import {adviceOf} from "./advice.js";
 import {byId} from "./dom.js";
-import {Limits, Ending} from "./limits.js";
+import {Ending} from "./limits.js";
 import {showExplanation, warningsOf} from "./explaining.js";
 import {Listing, linesOf, turnsOf} from "./listings.js";
 import {freeName, nameInWork} from "./names.js";

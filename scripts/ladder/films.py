@@ -11,7 +11,7 @@ from leagues.entries import source
 from leagues.naming import names
 from leagues.store import Store
 from sites.facts import Battle, Seat, Settings
-from sites.films import WAY_BACK, film, order
+from sites.films import before_all, film, order
 from sites.markup import tag
 from tools.output import replaced
 
@@ -55,8 +55,8 @@ def page(store: Store, seating: int, number: int) -> bytes | None:
 def shown(made: bytes, table: str, is_playing: bool) -> bytes:
     """A page of a match as the ladder shows it: it leads to the table, or it begins by itself and leads nowhere."""
     if is_playing:
-        return made.replace(WAY_BACK, b"") + PLAYING
-    return made.replace(WAY_BACK, tag("nav", tag("a", "Table", href=table)).encode() + b"\n")
+        return made + PLAYING
+    return before_all(made, tag("nav", tag("a", "Table", href=table)).encode() + b"\n")
 
 
 def played(store: Store, season: seasons.Season, seating: int, number: int) -> Battle | None:

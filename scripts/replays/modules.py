@@ -37,23 +37,36 @@ def name_of(path: str) -> str:
     return os.path.basename(path).removesuffix(".js")
 
 
-def wrapped(path: str) -> str:
-    """A module as a function, whose result is what it exports."""
-    text = bare(text_of(path))
-    exports = ", ".join(found for _, found in EXPORT.findall(text))
-    body = EXPORT.sub(r"\1", IMPORT.sub(r"const \1 = modules.\3;", text))
-    return f"modules.{name_of(path)} = (() => {{\n{body}return {{{exports}}};\n}})();\n"
+def exports_of(path: str) -> list[str]:
+    """The names that a module exports."""
+    return [found for _, found in EXPORT.findall(bare(text_of(path)))]
+
+
+def imported(path: str, names: str, place: str) -> str:
+    """What a module takes from another one, which has it in a list."""
+    exports = exports_of(os.path.join(os.path.dirname(path), place))
+    return ", ".join(f"{exports.index(name)}: {name}" for name in re.findall(r"[\w$]+", names))
+
+
+def wrapped(path: str, is_last: bool) -> str:
+    """A module as a function, whose result is a list of what it exports; that of the last module has names."""
+    body = EXPORT.sub(r"\1", IMPORT.sub(lambda it: f"const {{{imported(path, it[1], it[2])}}} = modules.{it[3]};", bare(text_of(path))))
+    exports = ", ".join(exports_of(path))
+    return f"modules.{name_of(path)} = (() => {{\n{body}return {f'{{{exports}}}' if is_last else f'[{exports}]'};\n}})();\n"
+
+
+def all_wrapped(path: str) -> str:
+    """A module, with those that it imports, each as a function that runs at once."""
+    paths = in_order(os.path.normpath(path))
+    assert len(set(map(name_of, paths))) == len(paths), paths
+    return "const modules = {};\n" + "".join(wrapped(it, it == paths[-1]) for it in paths)
 
 
 def waiting_script(path: str) -> str:
     """A module, with those that it imports, as a function that runs them when it is called, and answers what the module exports."""
-    paths = in_order(os.path.normpath(path))
-    assert len(set(map(name_of, paths))) == len(paths), paths
-    return '() => {\n"use strict";\nconst modules = {};\n' + "".join(map(wrapped, paths)) + f"return modules.{name_of(path)};\n}}"
+    return f'() => {{\n"use strict";\n{all_wrapped(path)}return modules.{name_of(path)};\n}}'
 
 
 def script_of(path: str) -> str:
     """A module, with those that it imports, as one script."""
-    paths = in_order(os.path.normpath(path))
-    assert len(set(map(name_of, paths))) == len(paths), paths
-    return '"use strict";\n(() => {\nconst modules = {};\n' + "".join(map(wrapped, paths)) + "})();\n"
+    return f'"use strict";\n(() => {{\n{all_wrapped(path)}}})();\n'

@@ -18,17 +18,21 @@ def listed(names: list[str]) -> str:
     return " and ".join(filter(None, (", ".join(names[:-1]), *names[-1:])))
 
 
-def put_together(script: str, title: str = "", film: str = "") -> str:
-    """The page that plays a match, with a script and a film that is packed."""
-    style = text_of(os.path.join(PLAYER, "page.css"))
+def put_together(script: str, style: str, title: str = "", film: str = "") -> str:
+    """The page that plays a match, with a script, a style, and a film that is packed."""
     text = Template(text_of(os.path.join(PLAYER, "page.html")))
     return text.substitute(title=html.escape(title), style=style, film=film, script=script)
+
+
+def style_of_page() -> str:
+    """The style of the page that plays a match."""
+    return text_of(os.path.join(PLAYER, "page.css"))
 
 
 def page(film: Film, number: int) -> str:
     """The page of a match with this number, which carries its film."""
     script = script_of(os.path.join(PLAYER, "carrying.js"))
-    return put_together(script, f"Match {number}: {listed(film.names)}", film.packed())
+    return put_together(script, style_of_page(), f"Match {number}: {listed(film.names)}", film.packed())
 
 
 def framed_script() -> str:
@@ -38,4 +42,4 @@ def framed_script() -> str:
 
 def framed() -> str:
     """The page that another page shows in a frame, and hands films in."""
-    return put_together(framed_script())
+    return put_together(framed_script(), style_of_page())

@@ -7,7 +7,7 @@ from __future__ import annotations
 
 from dataclasses import dataclass
 from decimal import Decimal
-from typing import Mapping
+from typing import Mapping, NamedTuple
 
 RobotId = str
 
@@ -153,6 +153,14 @@ class Season:
     divisions: int = 1
 
 
+class Series(NamedTuple):
+    """Matches of two robots in the same seats that one command line plays: their seed, the first one's number, and how many they are."""
+
+    seed: int
+    first: int
+    matches: int
+
+
 @dataclass(frozen=True, slots=True)
 class BySeat:
     """What a pair's first robot did from one seat against the other robot in another. Seats count from 1."""
@@ -160,6 +168,8 @@ class BySeat:
     seat: int
     against: int
     score: Score
+    # all its matches, if no other robot was in them
+    series: tuple[Series, ...] = ()
 
 
 @dataclass(frozen=True, slots=True)

@@ -2,13 +2,14 @@
 
 from __future__ import annotations
 
+import html
 import os
 import subprocess
 import sys
 import tempfile
 from concurrent.futures import ThreadPoolExecutor
 from dataclasses import dataclass
-from typing import Iterator, Mapping, Sequence
+from typing import Iterable, Iterator, Mapping, Sequence
 
 from replays.main import TRACE
 from tools.faults import Fault
@@ -21,7 +22,8 @@ from .facts import Battle, Settings
 MOST_CYCLES = 50_000
 MOST_NAME = 255
 # Replays lie in a folder of the site.
-WAY_BACK = f'<nav style="padding: 8px 20px"><a style="color: inherit" href="../{places.INDEX}">All robots</a></nav>\n'.encode()
+WAY_BACK = '<nav style="padding: 8px 20px">{links}</nav>\n'
+LINK = '<a style="color: inherit" href="../{place}">{words}</a>'
 # Runs scripts/replay's module from the folder of this package.
 REPLAY = "import sys; sys.path.insert(0, sys.argv.pop(1)); from replays.main import run; sys.exit(run(sys.argv[1:]))"
 LIBRARY = os.path.dirname(os.path.dirname(os.path.abspath(__file__)))
@@ -29,10 +31,11 @@ LIBRARY = os.path.dirname(os.path.dirname(os.path.abspath(__file__)))
 
 @dataclass(frozen=True)
 class Order:
-    """What is needed to film a match: the options, and the names and sources of its robots."""
+    """What is needed to film a match: the options, and the names and sources of its robots; and which pages of the site it leads back to."""
 
     options: tuple[str, ...]
     robots: tuple[tuple[str, bytes], ...]
+    back: tuple[tuple[str, str], ...]
 
 
 def can_film() -> bool:
@@ -43,12 +46,20 @@ def can_film() -> bool:
         return False
 
 
-def order(settings: Settings, battle: Battle, robots: Sequence[tuple[str, bytes]]) -> Order:
-    """The order for a match."""
+def order(settings: Settings, battle: Battle, robots: Sequence[tuple[str, bytes]], back: Iterable[tuple[str, str]] = ()) -> Order:
+    """The order for a match, and for ways back from its page: places of the site, with words."""
     first = battle.cycles - MOST_CYCLES
     late = ("--from", str(first)) if first > 0 else ()
     options = (f"-k{battle.number}", f"-l{settings.cycles}", f"-s{battle.seed}", f"-p{settings.profile}", *late)
-    return Order(options, tuple(robots))
+    return Order(options, tuple(robots), tuple(back))
+
+
+def ways_back(battle: Battle) -> Iterator[tuple[str, str]]:
+    """Where a replay leads back to: the page of its pair, if it has two robots, and the first page; with the words of the link."""
+    ids = [it.robot for it in battle.seats]
+    if len(set(ids)) == len(ids) == 2:
+        yield places.pair_page(*ids), "All matches of these two"
+    yield places.INDEX, "All robots"
 
 
 def made(orders: Mapping[str, Order], jobs: int) -> Iterator[tuple[str, bytes]]:
@@ -66,12 +77,18 @@ def film(it: Order, before: Sequence[str] = ()) -> bytes:
         python = [sys.executable, *(["-B"] if sys.dont_write_bytecode else []), "-c", REPLAY, LIBRARY]
         ran = subprocess.run([*before, *python, *it.options, *files], stdin=subprocess.DEVNULL, stdout=subprocess.PIPE,
                              stderr=subprocess.DEVNULL, check=False)
-        return b"" if ran.returncode else with_way_back(ran.stdout)
+        return b"" if ran.returncode else with_way_back(ran.stdout, it.back)
 
 
-def with_way_back(page: bytes) -> bytes:
-    """The page of a match with a link to the site's first page, before all else that it shows."""
-    return page.replace(b"<main>", WAY_BACK + b"<main>", 1)
+def with_way_back(page: bytes, back: Iterable[tuple[str, str]]) -> bytes:
+    """The page of a match with links to pages of the site, before all else that it shows."""
+    links = " ".join(LINK.format(place=html.escape(place), words=words) for place, words in back)
+    return before_all(page, WAY_BACK.format(links=links).encode()) if links else page
+
+
+def before_all(page: bytes, text: bytes) -> bytes:
+    """The page of a match with something before all else that it shows."""
+    return page.replace(b"<main>", text + b"<main>", 1)
 
 
 def written(folder: str, seat: int, name: str, source: bytes) -> str:

@@ -7,10 +7,10 @@ from __future__ import annotations
 import functools
 import itertools
 from collections import defaultdict
-from dataclasses import dataclass
+from dataclasses import dataclass, replace
 from typing import Iterable, Iterator, Mapping, Sequence
 
-from .facts import Battle, BySeat, Notable, Pair, RobotId, Score
+from .facts import Battle, BySeat, Notable, Pair, RobotId, Score, Series
 from .notables import DEAD, notables, shortness
 from .shares import interval
 
@@ -36,7 +36,8 @@ class Gathering:
         for (seat, one), (against, other) in itertools.permutations(enumerate(robots, 1), 2):
             if self._rows[one] < self._rows[other]:
                 it = self._pairs[one, other]
-                it.seats = with_more(it.seats, by_seat(seat, against, *score(battles, seat, against)))
+                more = by_seat(seat, against, *score(battles, seat, against))
+                it.seats = with_more(it.seats, replace(more, series=series(battles)) if len(robots) == 2 else more)
                 it.notable = notables([*dict.fromkeys(known.battle for known in it.notable), *battles], one, other)
 
     def pairs(self) -> Iterator[Pair]:
@@ -87,7 +88,26 @@ def with_more(seats: tuple[BySeat, ...], more: BySeat) -> tuple[BySeat, ...]:
     same = [it for it in seats if (it.seat, it.against) == (more.seat, more.against)]
     total = added(it.score for it in (*same, more))
     one = by_seat(more.seat, more.against, total.won, total.tied, total.lost, total.both)
+    if parts := joined(part for it in (*same, more) for part in it.series):
+        one = replace(one, series=parts)
     return tuple(sorted([*(it for it in seats if it not in same), one], key=lambda it: (it.seat, it.against)))
+
+
+def series(battles: Sequence[Battle]) -> tuple[Series, ...]:
+    """Matches in the same seats as series, in the order of their seeds and numbers."""
+    return joined(Series(it.seed, it.number, 1) for it in battles)
+
+
+def joined(them: Iterable[Series]) -> tuple[Series, ...]:
+    """Series of which none goes on where another one ends."""
+    found: list[Series] = []
+    for it in sorted(them):
+        before = found[-1] if found else None
+        if before and (before.seed, before.first + before.matches) == (it.seed, it.first):
+            found[-1] = before._replace(matches=before.matches + it.matches)
+        else:
+            found.append(it)
+    return tuple(found)
 
 
 def added(scores: Iterable[Score]) -> Score:

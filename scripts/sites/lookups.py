@@ -103,6 +103,6 @@ def place_of(it: Standing) -> Place:
 
 def from_other_side(pair: Pair) -> Pair:
     """The same pair with its robots exchanged."""
-    seats = tuple(BySeat(it.against, it.seat, turned(it.score)) for it in pair.seats)
+    seats = tuple(BySeat(it.against, it.seat, turned(it.score), it.series) for it in pair.seats)
     return replace(pair, one=pair.other, other=pair.one, score=turned(pair.score), low=1 - pair.high, high=1 - pair.low,
                    seats=seats, verdict=turned_verdict(pair.verdict))

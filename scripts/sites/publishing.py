@@ -60,7 +60,7 @@ def chosen(lookup: Lookup, site: Folder, most: int) -> Wanted:
         elif site.has(place):
             found.kept.add(place)
         elif len(found.orders) < most and (robots := lookup.sources(battle)):
-            found.orders[place] = films.order(lookup.facts.settings, battle, robots)
+            found.orders[place] = films.order(lookup.facts.settings, battle, robots, films.ways_back(battle))
     return found
 
 

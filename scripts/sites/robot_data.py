@@ -11,7 +11,7 @@ from typing import Any, Iterator, Sequence
 from . import places, sources
 from .addresses import is_page
 from .battles import Replays
-from .facts import Battle, Notable, Pair, Robot, RobotId, Score
+from .facts import Battle, BySeat, Notable, Pair, Robot, RobotId, Score
 from .lookups import Lookup
 from .names import file_name, named, shown
 from .verdicts import verdict
@@ -59,8 +59,13 @@ def of_pair(lookup: Lookup, replays: Replays, pair: Pair) -> Iterator[Any]:
     yield [round(pair.low, 4), round(pair.high, 4)]
     yield [said.what, said.matches] if said.matches else [said.what]
     if places.has_details(pair.one, pair.other):
-        yield [[it.seat, it.against, *numbers(it.score)] for it in sorted(pair.seats, key=lambda it: (it.seat, it.against))]
+        yield [of_seats(it) for it in sorted(pair.seats, key=lambda it: (it.seat, it.against))]
         yield [[bits, *of_battle(lookup, replays, battle, (pair.one, pair.other))] for bits, battle in merged(pair.notable)]
+
+
+def of_seats(it: BySeat) -> list[int | str]:
+    """The seats of a pair's robots, the first one's score from there, and of each series the seed, the first number and how many it has."""
+    return [it.seat, it.against, *numbers(it.score), *(part for one in it.series for part in (str(one.seed), one.first, one.matches))]
 
 
 def numbers(it: Score) -> list[int]:

@@ -159,7 +159,7 @@ const site = (() => {
             return {one: first, other: second, score, low, high, verdict: [what, matches], seats, notable, names: [first, second]};
         }
         const exchanged = {better: "worse", worse: "better"}[what] ?? what;
-        const other = seats.map(([seat, against, ...it]) => [against, seat, ...turned(it)]).sort((a, b) => a[0] - b[0] || a[1] - b[1]);
+        const other = seats.map(([seat, against, won, tied, lost, both, ...series]) => [against, seat, ...turned([won, tied, lost, both]), ...series]).sort((a, b) => a[0] - b[0] || a[1] - b[1]);
         const ends = {low: 1 - high, high: 1 - low};
         return {one: second, other: first, score: turned(score), ...ends, verdict: [exchanged, matches], seats: other, notable, names: [first, second]};
     }
@@ -219,16 +219,37 @@ const site = (() => {
         return btoa(binary).replaceAll("+", "-").replaceAll("/", "_").replaceAll("=", "");
     }
 
-    /** Returns a link that opens a match in the browser's page; null if there is no page. */
-    function browserLink(all, seated, number, seed) {
+    /** Returns a link that opens matches in the browser's page; null if there is no page. */
+    function browserLink(all, seated, [seed, first, matches], words) {
         if (!all.page) {
             return null;
         }
         const robots = seated.map(({name, source}) => ({name, source}));
-        const settings = {matches: 1, limit: all.limit, seed, first: number, profile: all.profile};
-        const link = made("a", {class: "button", href: all.page}, "Open it in the browser's page");
+        const settings = {matches, limit: all.limit, seed, first, profile: all.profile};
+        const link = made("a", {class: "button", href: all.page}, words);
         packed(JSON.stringify({robots, settings})).then(text => { link.href = `${all.page.split("#")[0]}#battle=${text}`; });
         return link;
+    }
+
+    /** Returns the command line that plays matches again. */
+    function commandLine(all, seated, [seed, first, matches]) {
+        const words = ["crobots", `-f${first}`, `-m${matches}`, `-l${all.limit}`, `-s${seed}`, `-p${all.profile}`, ...seated.map(it => it.file)];
+        const command = words.flatMap((word, at) => [at ? " " : null, made("span", {}, word)]);
+        return made("pre", {class: "command"}, made("code", {}, ...command));
+    }
+
+    /** Returns the ways to all matches of a pair that nobody else was in: of each series of them what plays it again. */
+    function allMatches(all, data, it) {
+        const two = [it.one, it.other].map(file => data.get(file));
+        return two.some(one => one.source === null) ? [] : it.seats.flatMap(([seat, , , , , , ...series]) => {
+            const seated = seat === 1 ? two : [...two].reverse();
+            return Array.from({length: series.length / 3}, (_, at) => series.slice(3 * at, 3 * at + 3)).map(one => {
+                const [, first, matches] = one;
+                const said = `${matches > 1 ? `Matches ${count(first)} to ${count(first + matches - 1)}` : `Match ${count(first)}`}, ${seated[0].name} in the first seat`;
+                const link = browserLink(all, seated, one, "Open them in the browser's page");
+                return made("div", {class: "series"}, made("p", {}, bdi(said)), link ? made("p", {class: "ways"}, link) : null, commandLine(all, seated, one));
+            });
+        });
     }
 
     function card(all, data, rows, names, [bits, flat, number, seed, cycles, replay]) {
@@ -238,25 +259,24 @@ const site = (() => {
         const part = cycles > MOST_CYCLES ? `Watch its last ${count(MOST_CYCLES)} cycles` : "Watch the replay";
         const areShown = seated.every(it => it.source !== null);
         const ways = [replay ? made("a", {href: up + replay, class: "button"}, part) : null,
-            areShown ? browserLink(all, seated, number, seed) : null];
-        const words = ["crobots", `-f${number}`, "-m1", `-l${all.limit}`, `-s${seed}`, `-p${all.profile}`, ...seated.map(it => it.file)];
-        const command = words.flatMap((word, at) => [at ? " " : null, made("span", {}, word)]);
+            areShown ? browserLink(all, seated, [seed, number, 1], "Open it in the browser's page") : null];
         return made("article", {class: "battle"}, made("h3", {}, what.charAt(0).toUpperCase() + what.slice(1)),
             made("p", {class: "ended"}, `Match ${number}, ${count(cycles)} cycles`),
             made("ol", {class: "seats"}, ...seats.map(it => seatRow(seats, it, rows))),
             ways.some(it => it) ? made("p", {class: "ways"}, ...ways) : null,
-            areShown ? made("pre", {class: "command"}, made("code", {}, ...command)) : null);
+            areShown ? commandLine(all, seated, [seed, number, 1]) : null);
     }
 
+    /** Returns the matches that are worth a look, and the ways to all others. */
     function matches(all, data, rows, it) {
-        if (!it.notable.length) {
-            return section("Matches", made("p", {}, "None of these matches was decided."));
-        }
-        const cards = it.notable.map(one => card(all, data, rows, it.names, one));
+        const cards = it.notable.map(one => card(all, data, rows, it.names, one)), series = allMatches(all, data, it);
         const [won, tied, lost] = it.score, played = won + tied + lost, left = played - cards.length;
-        const others = left > 0 ? made("p", {}, `These are ${count(cards.length)} of ${count(played)} matches. The table above counts how the other ${count(left)} ended, too.`) : "";
-        const plays = made("p", {}, "A command line plays its match again, in a folder that has the site's folder ", made("code", {}, "sources"), ".");
-        return section("Matches", others, made("div", {class: "battles"}, ...cards), plays);
+        const others = !cards.length ? "None of these matches was decided."
+            : left ? `These are ${count(cards.length)} of ${count(played)} matches. The table above counts how the other ${count(left)} ended, too.` : "";
+        const plays = "A command line plays its matches again, in a folder that has the site's folder ";
+        return section("Matches", others ? made("p", {}, others) : null, cards.length ? made("div", {class: "battles"}, ...cards) : null,
+            series.length ? made("h3", {}, "All matches") : null, ...series,
+            cards.length + series.length ? made("p", {}, plays, made("code", {}, "sources"), ".") : null);
     }
 
     /** Returns the robots by their files, with their rows of the table. */

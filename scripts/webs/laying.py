@@ -15,7 +15,7 @@ import zipfile
 from string import Template
 
 from replays.modules import script_of, waiting_script
-from replays.pages import framed_script, put_together
+from replays.pages import framed_script, put_together, style_of_page
 from tools.samples import ladder
 
 from .deflating import deflated
@@ -24,6 +24,7 @@ from .manuals import Page
 from .renaming import renamed
 from .slimming import Unclear, short, short_style
 from .texts import pages
+from .zipping import zipped
 
 TOP = os.path.normpath(os.path.join(os.path.dirname(os.path.abspath(__file__)), "..", ".."))
 WEB = os.path.join(TOP, "web")
@@ -37,8 +38,6 @@ KNOWN_BY = "data.js"
 # The page runs its own scripts, the module and the player's script, and no other; it asks the network for nothing.
 POLICY = ("default-src 'none'; script-src 'self' blob: 'wasm-unsafe-eval' 'sha256-$player'; worker-src blob:; style-src 'self' 'unsafe-inline'; "
           "img-src data:; base-uri 'none'; form-action 'none'")
-# Each file of the zip has this time, so that the same page makes the same bytes.
-TIME = (1980, 1, 1, 0, 0, 0)
 
 
 def samples() -> list[dict[str, str | int]]:
@@ -70,12 +69,12 @@ def data_of(module: str, manual: Page) -> dict[str, object]:
     with open(module, "rb") as file:
         coded = packed(file.read())
     return {"robots": samples(), "steps": steps(WEB), "functions": functions(manual), "editor": os.path.isdir(EDITOR),
-            "player": put_together(player()), "worker": small(scripts()["worker"]), "module": coded}
+            "player": put_together(player(), short_style(style_of_page())), "worker": small(scripts()["worker"]), "module": coded}
 
 
 def data_script(data: dict[str, object]) -> str:
     """What the page is built with, as a script."""
-    return f"globalThis.CROBOTS = {json.dumps(data, indent=1)};\n"
+    return f"globalThis.CROBOTS={json.dumps(data, separators=(',', ':'))};\n"
 
 
 def page_script() -> str:
@@ -181,12 +180,12 @@ def lay(folder: str, module: str) -> None:
 def pack(folder: str) -> None:
     """Puts all files of a folder into a zip beside it."""
     paths = sorted(path for path in glob.glob(os.path.join(folder, "**", "*"), recursive=True) if os.path.isfile(path))
-    with zipfile.ZipFile(f"{folder}.zip", "w") as pack_:
-        for path in paths:
-            entry = zipfile.ZipInfo(os.path.relpath(path, folder), TIME)
-            entry.compress_type, entry.external_attr = zipfile.ZIP_DEFLATED, 0o644 << 16
-            with open(path, "rb") as file:
-                pack_.writestr(entry, file.read(), compresslevel=9)
+    files = {}
+    for path in paths:
+        with open(path, "rb") as file:
+            files[os.path.relpath(path, folder)] = file.read()
+    with open(f"{folder}.zip", "wb") as file:
+        file.write(zipped(files))
 
 
 def is_foreign(folder: str) -> bool:

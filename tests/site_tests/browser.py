@@ -123,7 +123,25 @@ def a_pair(browser: Browser, site: str) -> Results:
     yield "its link", [it["name"] for it in battle["robots"]] == ["hunter.r", ".."] and battle["settings"] == {
         "matches": 1, "limit": 500000, "seed": str(2**64 - 1), "first": 1, "profile": 1}
     yield "its link's sources", battle["robots"][0]["source"] == made.SOURCE.decode() + "/* 0 */\n"
+    yield from all_matches(page)
     yield from bad_addresses(browser, site)
+
+
+def all_matches(page: Element) -> Results:
+    """Beside those that are worth a look each other match of the pair is reached: by the browser's page, and by a command line."""
+    parts = [it for it in page.all("div") if "series" in it.classes()]
+    yield "what the series are", [it.one("p").text() for it in parts] == [
+        "Matches 1 to 5, hunter.r in the first seat", "Matches 1 to 3, .. in the first seat", "Matches 7 to 8, .. in the first seat"]
+    battles = [json.loads(unpacked(next(iter(links(it)))[len(made.PAGE):])) for it in parts]
+    common = {"limit": 500000, "profile": 1}
+    yield "the series' links", [([robot["name"] for robot in it["robots"]], it["settings"]) for it in battles] == [
+        (["hunter.r", ".."], common | {"matches": 5, "seed": str(2**64 - 1), "first": 1}),
+        (["..", "hunter.r"], common | {"matches": 3, "seed": "8", "first": 1}),
+        (["..", "hunter.r"], common | {"matches": 2, "seed": "9", "first": 7})]
+    yield "all matches are there", f"{sum(it['settings']['matches'] for it in battles)}" == next(
+        it.one("dd").text() for it in page.one("dl").all("div") if it.one("dt").text() == "Matches")
+    words = [it.one("pre").text().split(" ") for it in parts]
+    yield "the series' command lines", words[2][:6] == ["crobots", "-f7", "-m2", "-l500000", "-s9", "-p1"] and words[2][7] == words[0][6] == HUNTER_FILE
 
 
 def bad_addresses(browser: Browser, site: str) -> Results:

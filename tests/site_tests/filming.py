@@ -93,7 +93,9 @@ def some(site: str, told: str) -> Results:
     # what is after the last '/' is a robot's name for the page
     replay = read(os.path.join(site, "robots", watch[0]))
     yield "its page", replay.one("title").text().startswith("Match ")
-    yield "its way back", [it.attributes["href"] for it in replay.one("nav").all("a")] == ["../index.html"]
+    ways = [(it.attributes["href"], it.text()) for it in replay.one("nav").all("a")]
+    yield f"its ways back {ways}", ways[1:] == [("../index.html", "All robots")] and ways[0][0].startswith("../pair.html#") and (
+        ways[0][1] == "All matches of these two" and "_3cscript_3ealert_281_29_3c_2fscript_3e.r" in ways[0][0].removeprefix("../pair.html#").split("/"))
 
 
 def kept(site: str, told: str) -> Results:

@@ -5,8 +5,8 @@ from __future__ import annotations
 import hashlib
 from decimal import Decimal
 
-from sites.facts import (Battle, BySeat, Facts, Notable, Pair, Place, Program, Robot, Score, Seat, Settings, Standing, Sums,
-                         Table, Version)
+from sites.facts import (Battle, BySeat, Facts, Notable, Pair, Place, Program, Robot, Score, Seat, Series, Settings,
+                         Standing, Sums, Table, Version)
 
 SCRIPT = "<script>alert(1)</script>.r"
 NAMES = ["hunter.r", SCRIPT, "a \"quoted\" & 'named' one.r", "  two  blanks .r", "caf\udce9.r", "..", "CON", "index",
@@ -15,6 +15,8 @@ SOURCE = b"/* a robot */\nmain()\n{\n  while (1 && 2 > 1)\n    cannon(scan(0, 10
 LATIN = b"/* caf\xe9 */ main() { }\n"
 PAGE = "https://example.org/crobots/"
 MATCHES = 10
+# its matches, by which robot is in the first seat
+FIRST, SECOND = (Series(2**64 - 1, 1, 5),), (Series(8, 1, 3), Series(9, 7, 2))
 DAYS = ("2026-11-01", "2026-11-08", "2026-11-15")
 SUMS = Sums(text="""Match 1: cycles = 300
   1) dead  damage 100% hunter.r
@@ -55,7 +57,7 @@ def pair(one: int, other: int) -> Pair:
     notable = (Notable("closest", battle(*names, 98, 100, number)), Notable("shortest", battle(*names, 5, 100, 1)),
                Notable("longest", battle(*names, 98, 100, number)),
                Notable("greatest upset", battle(*names[::-1], 12, 100, number + 1)))
-    seats = BySeat(1, 2, Score(4, 0, 1, 0)), BySeat(2, 1, Score(2, 1, 2, 1))
+    seats = BySeat(1, 2, Score(4, 0, 1, 0), FIRST), BySeat(2, 1, Score(2, 1, 2, 1), SECOND)
     return Pair(*names, Score(6, 1, 3, 1), 0.398, 0.892, seats, notable)
 
 

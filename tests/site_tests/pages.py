@@ -146,7 +146,8 @@ def a_pairs_data(folder: str) -> Results:
         HUNTER_FILE, "hunter.r", made.SOURCE.decode() + "/* 0 */\n")
     yield "a pair's score, by both", one["pairs"]["hunter.r"][:3] == [[2, 1, 7, 1], [0.108, 0.602], ["not decided"]] and (
         other["pairs"]["_2e_2e"] == [[6, 1, 3, 1], [0.398, 0.892], ["not decided"]])
-    yield "a pair by seat, by one", one["pairs"]["hunter.r"][3] == [[1, 2, 1, 1, 3, 1], [2, 1, 1, 0, 4, 0]]
+    yield "a pair by seat, by one", one["pairs"]["hunter.r"][3] == [
+        [1, 2, 1, 1, 3, 1, "8", 1, 3, "9", 7, 2], [2, 1, 1, 0, 4, 0, f"{2**64 - 1}", 1, 5]]
     seed = 2**64
     yield "its matches", one["pairs"]["hunter.r"][4] == [
         [5, [1, 98, 0, 100], 6, str(seed - 6), 90], [2, [1, 5, 0, 100], 1, str(seed - 1), 15], [8, [0, 12, 1, 100], 7, str(seed - 7), 105]]
@@ -253,7 +254,7 @@ def the_data(folder: str) -> Results:
 def the_other_side(folder: str, place: str) -> Results:
     """Which robot of a pair comes first makes no difference."""
     facts = made.league()
-    seats = BySeat(2, 1, Score(1, 0, 4, 0)), BySeat(1, 2, Score(1, 1, 3, 1))
+    seats = BySeat(2, 1, Score(1, 0, 4, 0), made.FIRST), BySeat(1, 2, Score(1, 1, 3, 1), made.SECOND)
     turned = tuple(Pair(it.other, it.one, Score(2, 1, 7, 1), 0.108, 0.602, seats, it.notable) for it in facts.pairs)
     other = os.path.join(place, "turned")
     publish(replace(facts, pairs=turned), other)

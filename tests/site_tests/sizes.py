@@ -9,7 +9,7 @@ import tempfile
 from dataclasses import replace
 from typing import Iterator
 
-from sites.facts import BySeat, Notable, Robot, Score, Standing
+from sites.facts import BySeat, Notable, Robot, Score, Series, Standing
 from sites.publishing import publish
 
 from . import made
@@ -44,9 +44,9 @@ def results() -> Results:
 def publish_large(folder: str) -> None:
     """Publishes a site of many robots, each pair of which has results by seat and four matches."""
     few = many(ROBOTS)
-    seats = BySeat(1, 2, Score(4, 0, 1, 0)), BySeat(2, 1, Score(2, 1, 2, 1))
     what = ("closest", "shortest", "longest", "greatest upset")
-    pairs = tuple(replace(it, seats=seats, notable=tuple(
+    pairs = tuple(replace(it, seats=(BySeat(1, 2, Score(4, 0, 1, 0), (Series(2**64 - 1 - at, 1, 5),)),
+                                     BySeat(2, 1, Score(2, 1, 2, 1), (Series(2**63 - 1 - at, 1, 5),))), notable=tuple(
         Notable(kind, made.battle(it.one, it.other, 40, 100, 1000 * at + number)) for number, kind in enumerate(what, 1)))
         for at, it in enumerate(few.pairs))
     publish(replace(few, pairs=pairs), folder)

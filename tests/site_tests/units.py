@@ -19,9 +19,9 @@ from typing import Any, Iterator
 from harness import skip
 from packages import lacking
 from sites import addresses, charts, colours, commands, links, lookups, names, notables, places, robot_data, scales, shares, sources, sums, verdicts
-from sites.facts import Battle, BySeat, Pair, Place, Score, Seat, Settings
+from sites.facts import Battle, BySeat, Pair, Place, Score, Seat, Series, Settings
 from sites.gathering import Gathering, Losses
-from sites.lookups import Stay
+from sites.lookups import Stay, from_other_side
 from sites.markup import Markup, block, tag
 
 from . import made
@@ -137,12 +137,27 @@ def gathered() -> Results:
     it.add([made.battle("a", "b", *damage, number) for number, damage in enumerate(ended, 1)])
     it.add([made.battle("b", "a", 0, 100, 9)])
     pair, = it.pairs()
-    yield f"scores by seat {pair.seats}", pair.seats == (BySeat(1, 2, Score(1, 1, 3, 2)), BySeat(2, 1, Score(0, 0, 1, 0)))
+    alone = tuple(Series(2**64 - number, number, 1) for number in (5, 4, 3, 2, 1))
+    yield f"scores by seat {pair.seats}", pair.seats == (
+        BySeat(1, 2, Score(1, 1, 3, 2), alone), BySeat(2, 1, Score(0, 0, 1, 0), (Series(2**64 - 9, 9, 1),)))
     yield f"the score of both {pair.score}", pair.score == Score(1, 1, 4, 2) and abs(shares.share(pair.score) - 2.5 / 6) < 1e-9
+    yield from all_matches()
     lost = Losses({"a": 0, "b": 1, "c": 2, "x": 3})
     for robot, number in (("a", 2), ("b", 4), ("c", 6), ("c", 3)):
         lost.add(made.battle(robot, "x", 0, 100, number))
     yield "lost to the lowest robots first, of each in the shortest match", [it.number for it in lost.of("x", 2)] == [3, 4]
+
+
+def all_matches() -> Results:
+    """Of two robots alone all matches are in series: those of a seed whose numbers follow one another are one, in whatever order they come."""
+    it = Gathering({"a": 0, "b": 1, "c": 2})
+    for seats, seed, numbers in (("ab", 7, (1, 2, 3)), ("ba", 8, (1, 2)), ("ab", 7, (6, 7)), ("ab", 7, (4, 5)), ("ab", 3, (4,)), ("abc", 9, (1, 2))):
+        it.add([Battle(tuple(Seat(robot, 100) for robot in seats), number, seed, 15) for number in numbers])
+    one = next(it.pairs())
+    series = {(by.seat, by.against): by.series for by in one.seats}
+    yield f"all matches {series}", series == {(1, 2): (Series(3, 4, 1), Series(7, 1, 7)), (2, 1): (Series(8, 1, 2),)}
+    yield "turned", [(by.seat, by.series) for by in from_other_side(one).seats] == [(2, series[1, 2]), (1, series[2, 1])]
+
 
 
 def command_lines() -> Results:

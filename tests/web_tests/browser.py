@@ -13,7 +13,7 @@ from harness import loaded
 
 from . import embeds, everyone, firsts, helping, inside, keeping, paths, players, reels, robust, seeing, seen, worths
 from .battles import Battle, Mistake, Settings, mistakes, outcome, random_battles, sample_battles, samples, vectors
-from .pages import Page, as_loaded, chromium, console, served, without
+from .pages import Page, chromium, console, is_in_time, served, without
 
 DEBIAN = "/usr/lib/python3/dist-packages"
 # the key as the protocol of drivers has it
@@ -385,7 +385,7 @@ def older(page: Page, folder: str) -> list[str]:
 
 
 # the most milliseconds until the first draw on a machine with nothing else to do: of some openings the fastest counts
-MOST_TO_DRAW, OPENINGS = 300, 20
+MOST_TO_DRAW, OPENINGS = 300, 5
 
 
 def first_draw(page: Page) -> float:
@@ -401,20 +401,20 @@ def first_draw(page: Page) -> float:
 
 
 def drawn_soon(page: Page) -> list[str]:
-    """The first draw comes within 0.3 seconds."""
+    """The first draw comes within 0.3 seconds, by hand."""
     drawn = first_draw(page)
     print(f"the page is drawn in {page.driver.name} after {drawn:.0f} ms")
-    return [f"first draw after {drawn:.0f} ms"] if drawn > as_loaded(MOST_TO_DRAW) else []
+    return [f"first draw after {drawn:.0f} ms"] if not is_in_time(drawn, MOST_TO_DRAW) else []
 
 
 def speed(page: Page) -> list[str]:
-    """A match of 100,000 cycles takes a second at most."""
+    """A match of 100,000 cycles takes a second at most, by hand."""
     scanner = b"main(){int d;while(1){scan(d,10);d+=10;}}"
     page.show(Battle([("a.r", scanner), ("b.r", scanner)], Settings(limit=100_000)))
     report = page.run()
     took = float(page.text("said").split()[2])
     print(f"100,000 cycles take {took} s")
-    return [] if took <= 1 and report.startswith("Match 1: cycles = 100000\n") else [f"100,000 cycles in {took} s: {report}"]
+    return [] if is_in_time(took, 1) and report.startswith("Match 1: cycles = 100000\n") else [f"100,000 cycles in {took} s: {report}"]
 
 
 def results(crobots: str, stages: str, folder: str) -> Iterator[tuple[str, list[str]]]:

@@ -5,7 +5,7 @@ from __future__ import annotations
 from typing import Callable, Iterator
 
 from .battles import Battle, Settings, samples
-from .pages import Page, as_loaded, fragment
+from .pages import Page, fragment, is_in_time
 
 SIZES = ((1366, 768), (1920, 1080), (740, 360), (360, 740))
 PLAYER = "document.getElementById('film').contentWindow?.player"
@@ -23,8 +23,9 @@ WATCH = """if (top === window) { const look = () => { const player = document.ge
 # the editor's script doesn't come
 NO_EDITOR = """const append = Element.prototype.append;
     Element.prototype.append = function (...parts) { if (!parts[0]?.src?.endsWith('/codemirror.js')) append.apply(this, parts); }"""
-# the most milliseconds until then, on a processor that is slowed down four times; of some openings the fastest counts
-MOST, SLOWDOWN, OPENINGS = 1000, 4, 12
+# the most milliseconds until then, by hand, on a processor that is slowed down four times; and in any case the most that the page's thread
+# takes of one that isn't. Of some openings the fastest counts
+MOST, SLOWDOWN, MOST_BUSY, OPENINGS = 1000, 4, 400, 5
 MOVER = ("mover.r", b"main() { while (1) drive(90, 50); }")
 STILL = ("still.r", b"main() { }")
 
@@ -144,18 +145,26 @@ def calm(page: Page) -> list[str]:
 
 
 def soon(page: Page) -> list[str]:
-    """On a slow processor the first picture of a match that moves comes within a second."""
-    least = float("inf")
-    page.driver.execute_cdp_cmd("Emulation.setCPUThrottlingRate", {"rate": SLOWDOWN})
+    """On a slow processor the first picture of a match that moves comes within a second: the page's thread has little to do until then."""
     with page.before(WATCH):
-        for _ in range(OPENINGS):
-            page.fresh()
-            least = min(least, page.wait("return window.firstMoved"))
-            if least <= MOST:
-                break
+        busy = min(moved(page)[1] for _ in range(OPENINGS))
+        page.driver.execute_cdp_cmd("Emulation.setCPUThrottlingRate", {"rate": SLOWDOWN})
+        times = sorted(moved(page)[0] for _ in range(OPENINGS))
     page.driver.execute_cdp_cmd("Emulation.setCPUThrottlingRate", {"rate": 1})
-    print(f"the first match moves in {page.driver.name}, slowed down {SLOWDOWN} times, after {least:.0f} ms")
-    return [] if least <= as_loaded(MOST) else [f"the first match moves after {least:.0f} ms"]
+    shown = ", ".join(f"{it:.0f}" for it in times)
+    print(f"the first match moves in {page.driver.name}, slowed down {SLOWDOWN} times, after {shown} ms, and the thread is busy for {busy:.0f} ms")
+    right = is_in_time(times[len(times) // 2], MOST) and busy <= MOST_BUSY
+    return [] if right else [f"the first match moves after {shown} ms, and the thread is busy for {busy:.0f} ms"]
+
+
+def moved(page: Page) -> tuple[float, float]:
+    """After how many milliseconds a match moves in a browser that kept nothing, and for how many the page's thread was busy until then."""
+    page.forget()
+    page.driver.get("about:blank")
+    before = page.busy()
+    page.driver.get(page.address)
+    time = float(page.wait("return window.firstMoved"))
+    return time, 1000 * (page.busy() - before)
 
 
 def before_the_editor(page: Page) -> list[str]:

@@ -2,7 +2,6 @@
 
 from __future__ import annotations
 
-import time
 from typing import Iterator
 
 from .battles import Battle, Settings
@@ -122,14 +121,12 @@ def turned(page: Page) -> list[str]:
     """The line is seen after the screen was turned, too: then the source is lower, and what stands above goes over more lines."""
     page.size(1366, 800)
     opened(page, first=("long.r", b"/* far, far above all that does anything at all */\n" * 60 + LOOKER[1]))
-    seen = []
     for width, height in ((1366, 800), (360, 640)):
         page.size(width, height)
         # drawn and scrolled after the next frame, which comes late if the machine has much to do
-        tries = (page.js(IS_SEEN) or time.sleep(0.1) for _ in range(100))
-        seen.append(any(tries))
+        page.wait(IS_SEEN)
     page.whole_window()
-    return differ(seen, [True, True])
+    return []
 
 
 def results(page: Page) -> Iterator[tuple[str, list[str]]]:

@@ -9,7 +9,7 @@ import time
 from typing import Any, Iterator
 
 from .battles import Battle, samples
-from .pages import Page, fragment
+from .pages import SECONDS, Page, fragment
 
 OWN = "main() { while (1) drive(10, 20); }"
 FRIEND = "main() { while (1) drive(30, 40); }"
@@ -211,7 +211,7 @@ def saving(page: Page) -> list[str]:
         page.driver.execute_cdp_cmd("Browser.setDownloadBehavior", {"behavior": "allow", "downloadPath": folder})
         page.click("save")
         path = os.path.join(folder, "mine.r")
-        end = time.monotonic() + 20
+        end = time.monotonic() + SECONDS
         while not os.path.exists(path) and time.monotonic() < end:
             time.sleep(0.02)
         if not os.path.exists(path):

@@ -428,6 +428,8 @@ def results(crobots: str, stages: str, folder: str) -> Iterator[tuple[str, list[
     yield "short names", slimmed.wrong_names()
     yield "hashes of what is started", slimmed.wrong_hashes(folder)
     yield "deflating", slimmed.wrong_deflating()
+    yield "a zip", slimmed.wrong_zip()
+    yield "modules together", slimmed.wrong_modules()
     yield "size", size(folder)
     yield "blocks of any bytes", any_blocks(folder)
     yield "samples", differing(crobots, folder, sample_battles())

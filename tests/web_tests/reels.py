@@ -57,10 +57,9 @@ def webm(page: Page) -> list[str]:
         return [f"it can record: {can}, and the button says otherwise"]
     if not can:
         return []
-    # one that isn't ended takes twenty seconds; a busy machine may need some of them for the first picture
+    # who ends it at once gets a film, too
     page.click("film-webm")
     begun = page.js("return document.getElementById('film-webm').textContent")
-    page.driver.execute_async_script("setTimeout(arguments[0], 12000)")
     page.click("film-webm")
     page.wait("return saved.length && document.getElementById('told').textContent.startsWith('The film is saved')")
     begin, codec, kind = page.driver.execute_async_script(

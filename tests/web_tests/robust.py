@@ -11,7 +11,7 @@ import zipfile
 from typing import Callable, Iterator
 
 from .battles import Battle, Settings, samples
-from .pages import Page, as_loaded, changed, console, packed, without
+from .pages import Page, changed, console, is_in_time, packed, without
 
 FIELD = "document.querySelector('#writing textarea:not([style*=none])')"
 # a link of 78 KB that unpacks to 60 MB
@@ -20,7 +20,7 @@ BOMB = 60_000_000
 LARGEST = (" " * 999 + "\n") * 1048 + " " * 577
 DISGUISED = "live.r\n  1) won 9 tied 0 lost 0 \u202egnp.evil\u2066\x07"
 # what a browser loads to play, and what else lies beside it to be read
-MOST_BYTES, MOST_PACKED = 850_000, 268_000
+MOST_BYTES, MOST_PACKED = 850_000, 260_000
 MOST_READ, MOST_READ_PACKED = 200_000, 70_000
 # pages to read that lie beside the page, and not in the folder of the others
 BESIDE = ("manual.html", "about.html")
@@ -63,7 +63,7 @@ def one_letter(text: str, at: int) -> str:
 
 def in_module(text: str) -> str:
     """Data of which a letter in the middle of the packed module is changed."""
-    begin = text.index('"module": "') + 11
+    begin = text.index('"module":"') + 10
     return one_letter(text, (begin + text.index('"', begin)) // 2)
 
 
@@ -148,7 +148,7 @@ def bomb(page: Page) -> list[str]:
     largest = [{"name": f"{n}.r", "source": LARGEST} for n in range(4)]
     page.open(packed(json.dumps({"robots": largest}).encode()))
     names = page.names
-    return [] if took < as_loaded(5) and len(link) < 90_000 and names == [f"{n}.r" for n in range(4)] else [f"{len(link)} bytes, {took:.1f} s, {names}"]
+    return [] if is_in_time(took, 5) and len(link) < 90_000 and names == [f"{n}.r" for n in range(4)] else [f"{len(link)} bytes, {took:.1f} s, {names}"]
 
 
 def disguises(page: Page) -> list[str]:

@@ -191,19 +191,12 @@ def long_text(page: Page) -> list[str]:
     return [] if right and said.startswith("Done in") else [f"{said} {tail}"]
 
 
-def busy(page: Page) -> float:
-    """How many seconds of a processor the page's own thread has taken so far."""
-    page.driver.execute_cdp_cmd("Performance.enable", {"timeDomain": "threadTicks"})
-    metrics = page.driver.execute_cdp_cmd("Performance.getMetrics", {})["metrics"]
-    return float(next(it["value"] for it in metrics if it["name"] == "TaskDuration"))
-
-
 def rows(page: Page) -> list[str]:
     """A film of 700,000 rows doesn't freeze the page: all that its thread does meanwhile, of which no moment takes longer, is less than 1.5 s."""
     page.show(Battle([("idle.r", b"main(){while(1);}"), ("done.r", b"main()\n{\n}\n")], Settings(limit=1_390_000)))
-    before = busy(page)
+    before = page.busy()
     page.watch(1)
-    took = busy(page) - before
+    took = page.busy() - before
     count = page.js("return document.getElementById('film').contentWindow.player.match.restarts.cycle.length")
     print(f"a film of {count:,} restarts keeps the page's thread for {took:.2f} s of a processor in all")
     return [] if count >= 690_000 and took < MOST_FOR_ROWS else [f"{count} restarts, {took:.2f} s"]

@@ -165,13 +165,15 @@ def stepping(page: Page, _folder: str) -> list[str]:
 
 
 def long_names(page: Page, _folder: str) -> list[str]:
-    """No name makes the page wider than a narrow window."""
+    """No name makes the page wider than a narrow window, whatever is open."""
     wrong = []
     page.size(360, 740)
     for letters in (36, 60):
         page.show(Battle([("W" * letters, STILL[1]), STILL], Settings(2, 100)))
         page.run()
         page.watch(1)
+        page.js("document.querySelectorAll('details').forEach(it => { it.open = true; })")
+        page.wait("return document.querySelector('#inside-source .current') && document.querySelector('#inside-robot option')")
         for place in ("to-write", "to-fight", "to-watch"):
             page.click(place)
             wide = page.js("return document.documentElement.scrollWidth - document.documentElement.clientWidth")
@@ -200,6 +202,34 @@ def keys(page: Page, _folder: str) -> list[str]:
     page.js("document.getElementById('name').focus(); document.getElementById('said').textContent = ''")
     page.driver.switch_to.active_element.send_keys("\ue009\ue007")
     page.wait("return document.getElementById('said').textContent.startsWith('Done')")
+    return wrong
+
+
+# whether what has the focus is wholly in the window as far as it fits, and nothing lies over it; what it is, if it isn't
+IN_SIGHT = """const it = document.activeElement, {left, top, right, bottom} = it.getBoundingClientRect();
+    const [x, y] = [(Math.max(left, 0) + Math.min(right, innerWidth)) / 2, (Math.max(top, 0) + Math.min(bottom, innerHeight)) / 2];
+    const there = document.elementFromPoint(x, y), isFree = there && (it.contains(there) || there.contains(it) || it.labels?.[0]?.contains(there));
+    const fits = bottom - top > innerHeight / 2 || top >= -1 && bottom <= innerHeight + 1;
+    return it === document.body ? "" : isFree && fits && bottom > 0 && top < innerHeight ? "." : `${it.id || it.outerHTML.slice(0, 60)} at ${top} to ${bottom}`"""
+MOST_TABS = 150
+
+
+def focus(page: Page, _folder: str) -> list[str]:
+    """Who goes through the page by the tab key sees what has the focus, at each size of a window: nothing lies over it."""
+    wrong = []
+    for size in SIZES:
+        page.size(*size)
+        page.fresh()
+        page.run()
+        page.js("document.body.tabIndex = -1; document.body.focus(); scrollTo(0, 0)")
+        for count in range(MOST_TABS):
+            page.press("TAB")
+            seen = page.js(IN_SIGHT)
+            if not seen and count:
+                break
+            wrong += [] if seen == "." else [f"{size}: {seen}"]
+        wrong += [] if count > 20 else [f"{size}: {count} stops"]
+    page.whole_window()
     return wrong
 
 
@@ -293,7 +323,7 @@ def moments(page: Page, _folder: str) -> list[str]:
 TESTS: dict[str, Callable[[Page, str], list[str]]] = {
     "a link out of the limits": wrong_link, "links that are too long": long_links, "a seed with zeros": zeros, "a byte order mark": mark,
     "blanks around a name": blanks, "many matches": many_matches, "a report after a reload": reloaded, "in sight at once": in_sight,
-    "stepping beside the field": stepping, "long names": long_names, "few keys": keys, "a graph that grows": graph, "totals": totals,
+    "stepping beside the field": stepping, "long names": long_names, "few keys": keys, "the focus": focus, "a graph that grows": graph, "totals": totals,
     "a step is run": try_it, "a frame that doesn't load": lazy_frame, "bars": bars, "links beside one's own": own_work_beside_links, "a link to a moment": moments,
 }
 

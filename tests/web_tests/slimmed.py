@@ -8,6 +8,7 @@ import random
 import subprocess
 import sys
 import tempfile
+import zipfile
 import zlib
 from typing import Callable, Iterator
 
@@ -16,10 +17,12 @@ sys.path.insert(0, os.path.join(HERE, "..", "..", "scripts"))
 
 from harness import skip  # noqa: E402
 from packages import lacking  # noqa: E402
+from replays.modules import script_of, waiting_script  # noqa: E402
 from webs.deflating import DISTANCES, LENGTHS, deflated, distance_class  # noqa: E402
 from webs.laying import EDITOR, EDITOR_FILES, scripts, slim, small  # noqa: E402
 from webs.renaming import renamed  # noqa: E402
 from webs.slimming import Unclear, short, short_style  # noqa: E402
+from webs.zipping import zipped  # noqa: E402
 
 NODE, TYPES = "node", "tsc"
 
@@ -207,3 +210,75 @@ def wrong_deflating() -> list[str]:
         own, least = len(deflated(text)), len(zlib.compress(text, 9, wbits=-15))
         wrong += [] if own < 0.985 * least else [f"{name}: {own}, and zlib {least}"]
     return wrong
+
+
+FILES = {"index.html": b"<!DOCTYPE html>\n" * 40, "pages/a.html": b"", "start.js": bytes(range(256))}
+RIGHTS = 0o100644
+
+
+def wrong_zip() -> list[str]:
+    """What is wrong with a zip: another program has to read from it what was put in, with names and times that no machine changes."""
+    with tempfile.TemporaryFile() as file:
+        file.write(zipped(FILES))
+        with zipfile.ZipFile(file) as pack:
+            read = {name: pack.read(name) for name in pack.namelist()}
+            heads = {(it.date_time, it.compress_type, it.external_attr >> 16, it.create_system) for it in pack.infolist()}
+            sizes = [(it.compress_size, it.file_size) for it in pack.infolist()]
+    wanted = {((1980, 1, 1, 0, 0, 0), zipfile.ZIP_DEFLATED, RIGHTS, 3)}
+    wrong = [] if list(read.items()) == list(FILES.items()) and heads == wanted else [f"{list(read)} {heads}"]
+    return wrong + ([] if sizes == [(len(deflated(it)), len(it)) for it in FILES.values()] else [f"{sizes}"])
+
+
+# Modules, of which the last one takes what the others export, as two scripts leave them; worked out by hand.
+MODULES = {
+    "one.js": "export const a = 1, unseen = 2;\nexport function b() {\n    return a;\n}\n",
+    "two.js": 'import {b, a} from "./one.js";\nexport class C {}\nC.sum = a + b();\n',
+    "last.js": 'import {C} from "./two.js";\nimport {b} from "./one.js";\nexport async function start() {\n    return [C, b];\n}\n',
+}
+TOGETHER = """const modules = {};
+modules.one = (() => {
+const a = 1, unseen = 2;
+function b() {
+return a;
+}
+return [a, b];
+})();
+modules.two = (() => {
+const {1: b, 0: a} = modules.one;
+class C {}
+C.sum = a + b();
+return [C];
+})();
+modules.last = (() => {
+const {0: C} = modules.two;
+const {1: b} = modules.one;
+async function start() {
+return [C, b];
+}
+return {start};
+})();
+"""
+
+
+def wrong_modules() -> list[str]:
+    """What is wrong with modules that are put together: one takes from a list what another one exports, the last one's have names."""
+    with tempfile.TemporaryDirectory() as place:
+        for name, text in MODULES.items():
+            with open(os.path.join(place, name), "w", encoding="ascii") as file:
+                file.write(text)
+        path = os.path.join(place, "last.js")
+        made, waiting = script_of(path), waiting_script(path)
+        with open(os.path.join(place, "two.js"), "w", encoding="ascii") as file:
+            file.write(MODULES["two.js"].replace("b, a", "b, c"))
+        wrong = [] if refused_to_take(path) else ["what no module exports is taken"]
+    wrong += [] if made == f'"use strict";\n(() => {{\n{TOGETHER}}})();\n' else [made]
+    return wrong + ([] if waiting == f'() => {{\n"use strict";\n{TOGETHER}return modules.last;\n}}' else [waiting])
+
+
+def refused_to_take(path: str) -> bool:
+    """Whether a script isn't made, since a module takes what none exports."""
+    try:
+        script_of(path)
+    except ValueError:
+        return True
+    return False

@@ -3,13 +3,12 @@
 from __future__ import annotations
 
 import re
-import time
 from collections import Counter, defaultdict
 from typing import Iterator
 
 from . import contests, module
 from .battles import Battle, Settings
-from .pages import Page, as_loaded
+from .pages import Page, is_in_time
 
 OPPONENT = "jumpy.r"
 LIMIT, SEED = 20_000, 3
@@ -95,15 +94,15 @@ PLAYERS = "['duo-old', 'duo-fresh'].map(id => document.getElementById(id).conten
 
 def in_step(page: Page) -> list[str]:
     """While both films play they show the same cycle, or stand at their ends, and they go on."""
-    wrong, seen = [], set()
-    page.js("if (document.getElementById('duo-play').textContent === 'Play') document.getElementById('duo-play').click()")
+    wrong, furthest = [], -1
     for _ in range(6):
-        cycles = page.js(f"return {PLAYERS}.map(it => [it.cycle, it.match.cycles, it.isPlaying])")
+        # at the end they begin anew
+        page.js("if (document.getElementById('duo-play').textContent === 'Play') document.getElementById('duo-play').click()")
+        cycles = page.wait(f"const all = {PLAYERS}.map(it => [it.cycle, it.match.cycles, it.isPlaying]);"
+                           "return Math.max(...all.map(([cycle]) => cycle)) !== arguments[0] && all", furthest)
         furthest = max(cycle for cycle, _, _ in cycles)
         wrong += [f"{cycles}"] if any(cycle != min(furthest, last) or plays for cycle, last, plays in cycles) else []
-        seen.add(furthest)
-        time.sleep(0.2)
-    return wrong + ([] if len(seen) > 1 else [f"they stand at {seen}"])
+    return wrong
 
 
 def together(page: Page, folder: str) -> list[str]:
@@ -157,14 +156,13 @@ def stopped(page: Page) -> list[str]:
     changed(page)
     page.js(WATCHED)
     weigh(page, 10_000)
-    page.wait("return /^[1-9]/.test(document.querySelector('#contest-far span').textContent)")
-    time.sleep(1)
+    page.wait("return /^[1-9]/.test(document.querySelector('#contest-far span').textContent) && window.frames_ > 20")
     silence, far = page.js("window.looks = false; return [window.silence, document.querySelector('#contest-far span').textContent]")
-    wrong = [] if silence <= as_loaded(MOST_SILENCE) and far.endswith("of 20,000 matches") else [f"{far}: the page was silent for {silence:.0f} ms"]
+    wrong = [] if is_in_time(silence, MOST_SILENCE) and far.endswith("of 20,000 matches") else [f"{far}: the page was silent for {silence:.0f} ms"]
     took = page.js("const begun = performance.now(); document.querySelector('#contest-far button').click();"
                    "return new Promise(done => { const look = () => document.getElementById('contest-told').textContent === 'Stopped.'"
                    " ? done(performance.now() - begun) : setTimeout(look, 5); look(); })")
-    wrong += [] if took <= as_loaded(MOST_TO_STOP) and page.js("return document.getElementById('contest-far').hidden") else [f"stopping took {took:.0f} ms"]
+    wrong += [] if is_in_time(took, MOST_TO_STOP) and page.js("return document.getElementById('contest-far').hidden") else [f"stopping took {took:.0f} ms"]
     weigh(page, 4)
     page.wait("return document.querySelector('#contest table')")
     return wrong + ([] if page.text("contest-told").startswith("mine.r as it is now") else [page.text("contest-told")])

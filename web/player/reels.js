@@ -2,7 +2,7 @@
 import {FieldDrawing} from "./drawing.js";
 import {shown} from "./elements.js";
 
-export const SIDE = 640;
+const SIDE = 640;
 const ROW = 26;
 const FRAMES_A_SECOND = 10;
 const MOST_SECONDS = 20;
@@ -14,6 +14,7 @@ const PLACES_OF_TRAIL = 6;
 const LEAST_GLOW = 60;
 const SECONDS_OF_GLOW = 0.35;
 const MILLISECONDS_OF_RECORDED = 40;
+const MILLISECONDS_OF_A_PART = 250;
 const VIDEO = "video/webm";
 
 const rounded = number => `${Math.round(number * 10) / 10}`;
@@ -270,9 +271,11 @@ export async function webmOf(match, {from, speed, colours}, isOver) {
     const recorder = new MediaRecorder(canvas.captureStream(), {mimeType: VIDEO}), parts = [];
     const ended = new Promise(done => { recorder.onstop = done; });
     recorder.ondataavailable = ({data}) => parts.push(data);
-    recorder.start();
+    recorder.start(MILLISECONDS_OF_A_PART);
+    // who ends it at once gets a film of at least a part
+    const isEnough = () => isOver() && parts.some(({size}) => size);
     const begun = performance.now();
-    for (let seconds = 0; seconds < MOST_SECONDS && from + seconds * speed < match.cycles + SECONDS_OF_END * speed && !isOver();) {
+    for (let seconds = 0; seconds < MOST_SECONDS && from + seconds * speed < match.cycles + SECONDS_OF_END * speed && !isEnough();) {
         await new Promise(done => setTimeout(done, MILLISECONDS_OF_RECORDED));
         seconds = (performance.now() - begun) / 1000;
         reel.draw(Math.min(match.cycles, from + seconds * speed));
