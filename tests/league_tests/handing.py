@@ -65,6 +65,20 @@ class Handing(Base):
         happened = it.rows("SELECT what, robot FROM entry ORDER BY number")
         return wrong + ([] if happened == [("add", "ann"), ("add", "bob"), ("change", "ann"), ("add", "cid"), ("change", "ann")] else [f"{happened}"])
 
+    def files_of_one_second(self) -> list[str]:
+        """The newest of files whose times are some billionths of a second apart, whatever their names are; of one time the first name."""
+        second, texts = 1_700_000_000 * 10**9, {"a": IDLE, "b": SHOOTER, "c": IDLE + " "}
+        newest = {"first": ((3, 2, 1), "a"), "half": ((0, 5 * 10**8, 10**9 - 1), "c"), "last": ((1, 2, 3), "c"), "middle": ((1, 3, 2), "b"),
+                  "same": ((2, 2, 2), "a"), "two": ((1, 4, 4), "b")}
+        for folder, (times, _) in newest.items():
+            for (name, text), time in zip(texts.items(), times):
+                self._put(f"second/{folder}/{name}.r", text, 0)
+                os.utime(self.at(f"second/{folder}/{name}.r"), ns=(second, second + time))
+        said = League(self, "second-league", "-m2").ran("take-in", self.at("second"), "--day=2026-03-02").stdout
+        found = [line for line in said.splitlines() if " joined as " in line]
+        wanted = [f"{folder}/{name}.r joined as {folder}" for folder, (_, name) in newest.items()]
+        return [] if found == wanted else [f"{found}, not {wanted}"]
+
     def all_faults_are_told(self) -> list[str]:
         """Whatever is in a folder, all that is wrong is told and the good ones join; or nobody, if that is asked for."""
         for folder, text in (("a", SHOOTER), ("b", BAD), ("c", "main(){"), ("d", IDLE)):

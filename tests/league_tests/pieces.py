@@ -1,8 +1,11 @@
-"""Ladders, divisions and gaps, by hand."""
+"""Ladders, divisions and gaps, by hand; and copies, of drawn histories."""
 
 from __future__ import annotations
 
-from leagues import ladders, missing, seasons
+import random
+
+from leagues import ladders, likeness, missing, seasons
+from leagues.entries import ADD, CHANGE, WITHDRAW, Entry
 from tournaments.records import Series
 
 from .base import Base
@@ -72,3 +75,30 @@ class Pieces(Base):
         if [it.seats for it in near] != [(2, 1), (0, 1), (0, 2), (3, 0)]:
             wrong.append(f"the nearest first are {near}")
         return wrong
+
+    def copies_of_drawn_histories(self) -> list[str]:
+        """A robot is a copy if its last code was another author's before it first was its own: of the robot that had it first of these.
+        A robot keeps being the first that had a code, whatever it was meanwhile. Nobody's robots are no copies, and nobody has copies of
+        them; a source that doesn't compile is like no other."""
+        draw, wrong, often = random.Random(74), [], 0
+        for _ in range(3000):
+            authors = {f"r{at}": draw.choice(["ann", "bob", "cid", ""]) for at in range(draw.randint(2, 5))}
+            code = {f"s{at}": draw.choice("xyz") for at in range(6) if draw.random() < 0.9}
+            happened, joined = list[Entry](), set[str]()
+            for number in range(1, draw.randint(3, 14)):
+                robot = draw.choice([*authors])
+                what = ADD if robot not in joined else draw.choice([CHANGE, CHANGE, CHANGE, WITHDRAW])
+                joined.add(robot)
+                happened.append(Entry(number, "2026-03-01", what, robot, f"s{draw.randrange(6)}", 0))
+            wanted = dict[str, str]()
+            for robot, author in authors.items():
+                got = [it for it in happened if it.robot == robot and it.what != WITHDRAW]
+                last = code.get(got[-1].sha256) if got else None
+                since = next((it.number for it in got if code.get(it.sha256) == last), 0)
+                before = [it.robot for it in happened if it.number < since and it.what != WITHDRAW and code.get(it.sha256) == last
+                          and authors[it.robot] not in ("", author)]
+                wanted |= {robot: before[0]} if before and last and author else {}
+            found = likeness.copied(happened, authors, code)
+            often += bool(wanted)
+            wrong += [] if found == wanted else [f"{happened} {authors} {code}: {found}, not {wanted}"]
+        return wrong[:2] + ([] if often > 500 else [f"{often} histories with copies"])

@@ -17,7 +17,7 @@ sys.path.append(str(SCRIPT.parent))
 from harness import skip  # noqa: E402
 from packages import lacking  # noqa: E402
 from stepping.moments import Call, Moment, Question, Robot  # noqa: E402
-from stepping.screens import screen, width  # noqa: E402
+from stepping.screens import Piece, filled, screen, width  # noqa: E402
 from stepping.sources import Source  # noqa: E402
 
 SECONDS = 30
@@ -48,8 +48,25 @@ class Made:
         return "a folder/a long name of a robot.r"
 
 
+# Letters with the columns that terminals give them: small ones, wide and full ones of East Asia, half ones, and marks above others.
+LETTERS = {"a": 1, "\u00e9": 1, "\u03a9": 1, "\u044f": 1, "\uff71": 1, "\uffe9": 1, "\u4e2d": 2, "\ud55c": 2, "\u30a2": 2, "\uff21": 2, "\uff01": 2,
+           "\uffe6": 2, "\u3000": 2, "\U0001f680": 2, "\u0301": 0, "\u0308": 0, "\u3099": 0}
+
+
 class Terminals(Base):
     """Screens of many sizes."""
+
+    def letters_take_their_columns(self) -> list[str]:
+        """Each alone, and three of them in a row of each width: as many as fit are shown, and blanks fill what is left."""
+        wrong = [f"U+{ord(letter):04X} has {width(letter)} columns" for letter, columns in LETTERS.items() if width(letter) != columns]
+        for letters in itertools.product(LETTERS, repeat=3):
+            text = "".join(letters)
+            for columns in range(8):
+                fits = max(many for many in range(4) if sum(LETTERS[it] for it in letters[:many]) <= columns)
+                blanks = columns - sum(LETTERS[it] for it in letters[:fits])
+                found = filled([Piece(text)], columns)
+                wrong += [] if found == [Piece(text[:fits] + " " * blanks)] else [f"{text!a} in {columns} columns: {found}"]
+        return wrong[:5]
 
     def rows_of_any_size(self) -> list[str]:
         """Each row but the prompt's has as many columns as the screen, and there are as many rows."""

@@ -13,6 +13,7 @@ from collections import Counter
 
 from tools.faults import Fault
 from tournaments import groups, robots
+from tournaments.plans import Plan
 from tournaments.records import Record
 from tournaments.seats import keys
 from tournaments.settings import Settings, parsed
@@ -91,6 +92,20 @@ class Seats(Base):
             said = json.loads(self._run("-m4", "-l3000", "--json", *dict.fromkeys(among)).stdout)
             found.append([it for it in said["matches"] if {*it["robots"]} == {"sweeper.r", "runner.r"}])
         return [] if found[0] == found[1] and len(found[1]) == 4 else [f"{found}"]
+
+    def series_are_counted_as_they_are_planned(self) -> list[str]:
+        """How many series progress says there are: of each number of matches, most of a series, size, sample, and sides."""
+        among, wrong = [robots.Robot(f"{at}.r", f"{at:064x}") for at in range(5)], []
+        for sizes, more in (((2,), {}), ((3,), {}), ((4,), {}), ((2, 3, 4), {}), ((3,), {"sample": 4}), ((2,), {"those": (0, 3)}), ((2, 3), {"those": (4,)})):
+            for matches, most in itertools.product((1, 2, 3, 4, 5, 7, 10, 12), (1, 2, 3, 4, 7, 100)):
+                plan = Plan(Settings(matches, 100, 1, 1, "0" * 64, len(among), sizes, **more), among, most)
+                planned = [it.series for it in plan.planned()]
+                played = Counter[tuple[int, ...]]()
+                for it in planned:
+                    played[it.seats] += it.matches
+                is_whole = {*played.values()} <= {-(-matches // size) for size in sizes} and all(it.matches <= most for it in planned)
+                wrong += [] if is_whole and plan.count() == len(planned) else [f"{sizes} {more} -m{matches}, {most}: {plan.count()}, not {len(planned)}"]
+        return wrong[:5]
 
     # These against those.
 

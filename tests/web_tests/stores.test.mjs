@@ -236,6 +236,16 @@ async function keptTexts(kept) {
     return new Set([...KNOWN, ...[...versions, ...drafts.map(it => it.version)].flatMap(({battle}) => sourcesOf(battle))]);
 }
 
+/** That a battle is parted from another tab's is told once, and only if that has it, too; and the room that versions take is theirs. */
+function checkTold(store, wasShared, where) {
+    assert.ok(!store.takeApart() || wasShared, `${where}: nothing was shared`);
+    assert.equal(store.takeApart(), false, `${where}: it is told twice`);
+    const {archive} = store;
+    const anew = new Archive(archive.most);
+    archive.versions.forEach(it => anew.add(it));
+    assert.equal(archive.bytes, anew.bytes, `${where}: other bytes than those of the versions`);
+}
+
 async function sequence(seed) {
     const random = chance(seed);
     const kind = KINDS[seed % KINDS.length];
@@ -250,6 +260,7 @@ async function sequence(seed) {
         const name = random.of(NAMES);
         const where = `seed ${seed}, ${kind}, step ${step}, ${name}`;
         const {store, keeper} = page;
+        const wasShared = store.isShared;
         if (name === "reloads") {
             const isEasy = random.below(2) === 0;
             if (isEasy) {
@@ -285,6 +296,7 @@ async function sequence(seed) {
             }
         }
         const gone = new Set(droppedBy(page.store));
+        checkTold(store, wasShared, where);
         const texts = page.texts;
         gone.forEach(it => page.versionTexts.has(it) || must.delete(it));
         check(must, texts, where);

@@ -9,7 +9,7 @@ const wrong = [];
 const load = name => import(pathToFileURL(path.join(process.argv[2], `${name}.js`)));
 const {cleanName, freeName, nameInWork} = await load("names");
 const {checked, isSeed, unfit} = await load("battles");
-const {textOf} = await load("files");
+const {readFiles, textOf} = await load("files");
 const {hashOf, workedOut} = await load("hashes");
 const {shortened} = await load("histories");
 const {battleOf, fragmentOf, linkedMoment} = await load("links");
@@ -41,6 +41,13 @@ const fit = {matches: 1, limit: 1, first: 1, profile: 1, seed: "1"};
 check("settings out of their limits", [unfit(fit), unfit({...fit, seed: "18446744073709551616", limit: 0}), unfit({...fit, matches: 1000001, first: NaN, profile: 3})],
     [[], ["limit", "seed"], ["matches", "first", "profile"]]);
 check("texts of files", [[0xef, 0xbb, 0xbf, 65], [0xc3, 0xa4], [0xe4, 66]].map(bytes => textOf(Uint8Array.from(bytes))), ["\ufeffA", "ä", "äB"]);
+// a source has at most 1,048,576 bytes, and a file with battles 64 MiB: of a longer one nothing is read
+const fileOf = (size, text = "") => ({name: `${size}.r`, size, arrayBuffer: async () => new TextEncoder().encode(text.padEnd(Math.min(size, 2 ** 22))).buffer});
+const unread = {name: "all.r", size: 2 ** 26 + 1, arrayBuffer: () => { wrong.push("a file of over 64 MiB is read"); }};
+const kept = '{"kind": "crobots battles", "versions": []}';
+const opened = await readFiles([...[0, 1, -1, 0, 1, 2].map((more, at) => fileOf(at < 2 ? more : 2 ** 20 + more)), fileOf(2 ** 20 + 1, kept), fileOf(2 ** 26, kept), unread]);
+check("how long files may be", [opened.robots.map(({source}) => source.length), opened.battles.length, opened.refused],
+    [[0, 1, 1048575, 1048576], 2, ["1048577.r", "1048578.r", "all.r"]]);
 // of FIPS 180-4, and of as many bytes as fill a block or don't
 const HASHES = {"": "e3b0c44298fc1c149afbf4c8996fb92427ae41e4649b934ca495991b7852b855", abc: "ba7816bf8f01cfea414140de5dae2223b00361a396177a9cb410ff61f20015ad"};
 check("hashes", Object.keys(HASHES).map(it => workedOut(new TextEncoder().encode(it))), Object.values(HASHES));
