@@ -64,8 +64,6 @@ class Adapter:
         """Serves until the client goes; answers the status."""
         try:
             self._loop.run()
-        except BrokenPipeError:
-            pass
         finally:
             if self._match:
                 self._match.close()

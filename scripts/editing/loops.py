@@ -6,10 +6,13 @@ import os
 import selectors
 from typing import Any, Callable, Protocol
 
+from tools.faults import FILE, Fault
+
 from .framing import Broken, Frames, framed
 
 INPUT, OUTPUT = 0, 1
 PIECE = 1 << 16
+UNREAD = "cannot read standard input"
 Take = Callable[[Any], None]
 
 
@@ -27,7 +30,10 @@ class Loop:
         self._take, self._broken = take, broken
         self._frames = Frames()
         self._selector = selectors.DefaultSelector()
-        self._selector.register(INPUT, selectors.EVENT_READ, self._read)
+        try:
+            self._selector.register(INPUT, selectors.EVENT_READ, self._read)
+        except (OSError, ValueError) as why:
+            raise Fault(UNREAD, FILE) from why
         self.is_over = False
 
     def wait_for(self, what: Waiting, act: Callable[[], None]) -> None:
@@ -47,7 +53,10 @@ class Loop:
 
     def _read(self) -> None:
         """Takes what has come from the client."""
-        piece = os.read(INPUT, PIECE)
+        try:
+            piece = os.read(INPUT, PIECE)
+        except OSError as why:
+            raise Fault(UNREAD, FILE) from why
         if not piece:
             self.is_over = True
             return

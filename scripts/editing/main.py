@@ -22,9 +22,11 @@ TRANSPORTS = {"--stdio"}
 def serve(name: str, words: list[str]) -> int:
     """Serves a client, or writes what a flag asks for."""
     asked = [word for word in words if word not in TRANSPORTS]
+    if strange := next((word for word in asked if not is_text(word)), None):
+        raise Misuse(f"{strange} is no text")
     if {*asked} & {"-h", "--help"}:
         write_all(OUTPUT, help_page(name, ABOUT[name]).encode())
-    elif asked == ["--version"]:
+    elif asked and {*asked} == {"--version"}:
         write_all(OUTPUT, f"{name} {number()}\n".encode())
     elif asked:
         raise Misuse(f"unknown option {asked[0]}" if asked[0].startswith("-") else f"{asked[0]}: no file is read")
@@ -34,6 +36,10 @@ def serve(name: str, words: list[str]) -> int:
         status: int = made().run()  # type: ignore[attr-defined]
         return status
     return 0
+
+
+def is_text(word: str) -> bool:
+    return not any("\ud800" <= letter <= "\udfff" for letter in word)
 
 
 def run(name: str, words: list[str]) -> int:

@@ -93,8 +93,6 @@ class Server:
         """Serves until the client goes; answers the status."""
         try:
             self._loop.run()
-        except BrokenPipeError:
-            pass
         finally:
             for document in self._documents.values():
                 self._stop(document)

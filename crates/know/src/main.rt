@@ -33,14 +33,14 @@ use recovery::located_past_faults;
 use std::process::ExitCode;
 use tokens::{MemoryFeed, WINDOW_BYTES};
 use tools::{
-    Draft, Fault, Options, PROFILE_OPTIONS, ProgramFrame, Text, Work, Wrong, profile, write_text,
+    Draft, Fault, Options, PROFILE_OPTIONS, ProgramFrame, Text, Work, Wrong, profile, source_of, write_text,
 };
 
 /// The program's name, its line of wrong usage, and its options.
 const FRAME: ProgramFrame = ProgramFrame {
     name: "crobots-know",
-    about: "Reads a robot from standard input, and writes what an editor wants to know of it, as rows of JSON.",
-    usage: "[-pPROFILE] -",
+    about: "Writes what an editor wants to know of a robot while it is typed, as rows of JSON. The file - is standard input.",
+    usage: "[-pPROFILE] FILE",
     known: &[&PROFILE_OPTIONS],
 };
 
@@ -55,13 +55,13 @@ struct Know;
 impl Work for Know {
     /// Reads the source, and tells of it.
     fn work(&self, rt: &HostRuntime, options: &Options<'_>) -> Result<(), Fault> {
-        match options.files() {
-            ["-"] => {}
-            [] => return Err(Fault::Usage),
-            _ => return Err(Fault::Wrong(Wrong::Files(1))),
-        }
         let profile = profile(options)?;
-        let source = source_read(rt, FRAME.name)?;
+        let source = match options.files() {
+            [] => return Err(Fault::Usage),
+            ["-"] => source_read(rt, FRAME.name)?,
+            [word] => source_of(rt, FRAME.name, word)?,
+            _ => return Err(Fault::Wrong(Wrong::Files(1))),
+        };
         tell(rt, source.as_slice(), profile)
     }
 }
