@@ -3,6 +3,7 @@
 ghost use Rattle.std.specs.Prelude.{◌≡◌, ◌++◌, ◌∷◌, [], None, OnOk};
 ghost use Rattle.know.specs.Names.{name_of, names_of};
 
+use crate::parts_left_out::Fate;
 use derivations::Located;
 use recovery::is_head_at;
 use std::alloc::{AllocError, Global};
@@ -40,6 +41,7 @@ enum Head {
     Types,
 }
 
+#[tactic(auto, using(crate::proofs::NameLaws::names_joined))]
 impl Crumbs {
     /// Begins without a token.
     pub fn new(alloc: Global) -> Crumbs
@@ -65,8 +67,28 @@ impl Crumbs {
         self.list
     }
 
+    /// Takes the token of an index, as its fate is.
+    pub fn take(
+        &mut self,
+        tokens: &[Located],
+        index: usize,
+        located: &Located,
+        fate: Fate,
+    ) -> Result<(), AllocError>
+        ensures { OnOk result (names_of self.new.list.items ≡ names_of self.old.list.items ++ names_of (located.now ∷ [])) }
+    {
+        match fate {
+            Fate::Stays => self.keep(located),
+            Fate::Goes => self.crumble(tokens, index, located),
+            Fate::GoesBeforeBrace => {
+                self.crumble(tokens, index, located)?;
+                self.close(located)
+            }
+        }
+    }
+
     /// Takes a token as it is.
-    pub fn keep(&mut self, located: &Located) -> Result<(), AllocError>
+    fn keep(&mut self, located: &Located) -> Result<(), AllocError>
         ensures { OnOk result (names_of self.new.list.items ≡ names_of self.old.list.items ++ names_of (located.now ∷ [])) }
     {
         self.settle(located)?;
@@ -78,7 +100,7 @@ impl Crumbs {
     }
 
     /// Takes a crumb of the token of an index, which is left out.
-    pub fn crumble(
+    fn crumble(
         &mut self,
         tokens: &[Located],
         index: usize,
@@ -99,7 +121,7 @@ impl Crumbs {
     }
 
     /// Closes the function that is open, if one is.
-    pub fn close(&mut self, place: &Located) -> Result<(), AllocError>
+    fn close(&mut self, place: &Located) -> Result<(), AllocError>
         ensures { OnOk result (names_of self.new.list.items ≡ names_of self.old.list.items) }
     {
         let missing = if self.is_inside { self.depth } else { 0 };
@@ -107,7 +129,7 @@ impl Crumbs {
         self.is_opened = false;
         self.depth = 0;
         self.inner = 0;
-        for _ in 0..missing {
+        for _brace in 0..missing {
             self.mark(Punctuator::CloseCurly, place)?;
         }
         Ok(())

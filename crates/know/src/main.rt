@@ -33,7 +33,8 @@ use recovery::located_past_faults;
 use std::process::ExitCode;
 use tokens::{MemoryFeed, WINDOW_BYTES};
 use tools::{
-    Draft, Fault, Options, PROFILE_OPTIONS, ProgramFrame, Text, Work, Wrong, profile, source_of, write_text,
+    Draft, Fault, Options, PROFILE_OPTIONS, ProgramFrame, Text, Work, Wrong, profile, source_of,
+    write_text,
 };
 
 /// The program's name, its line of wrong usage, and its options.

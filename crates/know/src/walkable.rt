@@ -7,6 +7,7 @@ use crate::crumbs::Crumbs;
 use crate::parts_left_out::{Fate, LeftOut};
 use derivations::Located;
 use std::alloc::{AllocError, Global};
+use tokens::Token;
 
 /// Makes a list of tokens that fit one after the other, in which all names of a source stand in their order: what is
 /// left out is replaced by a statement or a declaration for each of its names. The only error is that memory is refused.
@@ -21,19 +22,13 @@ pub fn walkable(
     let end = left_out.end(source, tokens);
     let mut crumbs = Crumbs::new(alloc);
     for (index, located) in tokens.iter().enumerate() {
-        let fate = if index < end || located.token.is_last() && index + 1 == tokens.len() {
+        let is_told = index < end || located.token == Token::End;
+        let fate = if is_told {
             left_out.fate(source, located)
         } else {
             Fate::Goes
         };
-        match fate {
-            Fate::Stays => crumbs.keep(located)?,
-            Fate::Goes => crumbs.crumble(tokens, index, located)?,
-            Fate::GoesBeforeBrace => {
-                crumbs.crumble(tokens, index, located)?;
-                crumbs.close(located)?;
-            }
-        }
+        crumbs.take(tokens, index, located, fate)?;
     }
     Ok(crumbs.finish())
 }
