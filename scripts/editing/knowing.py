@@ -118,7 +118,7 @@ class Knower:
 
     def __init__(self, path: str, source: bytes, profile: int) -> None:
         self.known = Known()
-        self._rest = b""
+        self._rest, self._wrong = b"", False
         kept, self._said = memory(source), memory(b"")
         try:
             self._child = subprocess.Popen([path, f"-p{profile}", "-"], stdin=kept, stdout=subprocess.PIPE, stderr=self._said)
@@ -130,23 +130,29 @@ class Knower:
         return self._child.stdout.fileno()
 
     def read(self) -> bool:
-        """Takes what has been written; reports whether more may come."""
+        """Takes what has been written; reports whether more may come. Behind what is no row nothing is read."""
         piece = os.read(self.fileno(), 1 << 18)
         *lines, self._rest = (self._rest + piece).split(b"\n")
-        for line in lines:
-            self.known.take(json.loads(line))
-        return bool(piece)
+        try:
+            for line in lines:
+                self.known.take(json.loads(line))
+        except (ValueError, KeyError, TypeError):
+            self._wrong = True
+        return bool(piece) and not self._wrong
 
     def end(self) -> str:
         """Ends it; answers what is to be said if it didn't write all."""
-        if not self.known.is_complete:
+        is_right = self.known.is_complete and not self._wrong
+        if not is_right:
             self._child.kill()
         assert self._child.stdout
         self._child.stdout.close()
         status = self._child.wait()
         said = os.pread(self._said, 1000, 0).decode(errors="replace").strip()
         os.close(self._said)
-        return "" if self.known.is_complete else said or f"{PROGRAM} ended {f'by signal {-status}' if status < 0 else f'with status {status}'}"
+        if self._wrong:
+            return f"{PROGRAM} wrote what is no row"
+        return "" if is_right else said or f"{PROGRAM} ended {f'by signal {-status}' if status < 0 else f'with status {status}'}"
 
 
 def memory(content: bytes) -> int:

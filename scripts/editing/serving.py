@@ -232,12 +232,7 @@ class Server:
     def _read(self, document: Document, knower: Knower) -> None:
         """Takes rows: the first fault is published at once, beside the warnings of before, and all when they are complete."""
         had_fault = knower.known.has_fault()
-        try:
-            goes_on = knower.read()
-        except (ValueError, KeyError, TypeError) as why:
-            goes_on = False
-            knower.known.is_complete = False
-            self._said = f"{PROGRAM} wrote no row: {why}"
+        goes_on = knower.read()
         if knower.known.has_fault() and not had_fault and not knower.known.is_complete:
             publish(document, [self._diagnostic(document, knower.known.faults[0]), *document.warnings])
         if goes_on:

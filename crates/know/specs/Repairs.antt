@@ -8,7 +8,7 @@ use Rattle.know.specs.declared.fixes.Fix.{Fix}
 
 -- a source with a fix
 abbrev pub edited : List ℕ → Fix → List ℕ
-edited source fix = take fix.start source ++ (fix.text ++ drop fix.end source)
+edited source fix = take fix.start source ++ (fix.text.bytes.items ++ drop fix.end source)
 
 -- with it a source hasn't this first fault
 abbrev pub Repairs : Profile → List ℕ → Diagnostic → Fix → Type 0

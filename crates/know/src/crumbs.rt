@@ -41,7 +41,7 @@ enum Head {
     Types,
 }
 
-#[tactic(auto, using(crate::proofs::NameLaws::names_joined))]
+#[tactic(auto, using(crate::proofs::NameLaws::names_joined, crate::proofs::NameLaws::names_kept))]
 impl Crumbs {
     /// Begins without a token.
     pub fn new(alloc: Global) -> Crumbs
@@ -362,8 +362,7 @@ impl Crumbs {
     fn push(&mut self, located: Located) -> Result<(), AllocError>
         ensures { OnOk result (self.new.list.items ≡ self.old.list.items ++ located ∷ []) }
     {
-        self.list.push(located)?;
-        Ok(())
+        self.list.extend_from_slice(&[located])
     }
 
     /// Adds a token that isn't the source's at the place of one.

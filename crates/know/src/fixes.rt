@@ -184,9 +184,16 @@ fn is_repaired(profile: Profile, source: &[u8], fault: &Diagnostic) -> bool
 {
     match compile(profile, &mut MemoryFeed::new(source, WINDOW_BYTES)) {
         Ok(_) => true,
-        Err(ParseFault::Source(other)) => other != *fault && other.line >= fault.line,
+        Err(ParseFault::Source(other)) => is_further(&other, fault),
         Err(ParseFault::Device | ParseFault::Memory) => false,
     }
+}
+
+/// Reports whether a fault is another one than a first one was, and no earlier one.
+fn is_further(other: &Diagnostic, fault: &Diagnostic) -> bool
+    ensures { result ≡ true → other.now ≡ fault.now → ⊥ }
+{
+    *other != *fault && other.line >= fault.line
 }
 
 /// Returns the change that a warning about the token of an index suggests, if there is one and the source compiles with it.
@@ -285,5 +292,8 @@ fn arguments(tokens: &[Located], name: usize) -> Option<(usize, usize, usize)> {
 fn compiles(profile: Profile, source: &[u8]) -> bool
     ensures { result ≡ true → Compiles profile source.now }
 {
-    compile(profile, &mut MemoryFeed::new(source, WINDOW_BYTES)).is_ok()
+    match compile(profile, &mut MemoryFeed::new(source, WINDOW_BYTES)) {
+        Ok(_) => true,
+        Err(ParseFault::Source(_) | ParseFault::Device | ParseFault::Memory) => false,
+    }
 }

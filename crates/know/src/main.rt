@@ -56,14 +56,23 @@ struct Know;
 impl Work for Know {
     /// Reads the source, and tells of it.
     fn work(&self, rt: &HostRuntime, options: &Options<'_>) -> Result<(), Fault> {
-        let profile = profile(options)?;
-        let source = match options.files() {
-            [] => return Err(Fault::Usage),
-            ["-"] => source_read(rt, FRAME.name)?,
-            [word] => source_of(rt, FRAME.name, word)?,
-            _ => return Err(Fault::Wrong(Wrong::Files(1))),
-        };
-        tell(rt, source.as_slice(), profile)
+        match profile(options) {
+            Ok(profile) => match source_given(rt, options) {
+                Ok(source) => tell(rt, source.as_slice(), profile),
+                Err(fault) => Err(fault),
+            },
+            Err(fault) => Err(fault),
+        }
+    }
+}
+
+/// Reads the only file that is named: `-` is standard input.
+fn source_given(rt: &HostRuntime, options: &Options<'_>) -> Result<Vec<u8>, Fault> {
+    match options.files() {
+        [] => Err(Fault::Usage),
+        [word] if *word == "-" => source_read(rt, FRAME.name),
+        [word] => source_of(rt, FRAME.name, word),
+        _ => Err(Fault::Wrong(Wrong::Files(1))),
     }
 }
 
