@@ -43,7 +43,7 @@ use crate::flow_rows::add_flow_rows;
 use crate::forms::{Form, OPTIONS, Request};
 use crate::operation_rows::add_operation_rows;
 use crate::origins::Origins;
-use crate::pages::add_page;
+use crate::pages::Page;
 use crate::pictures::add_picture_file;
 use crate::robots::Robot;
 use crate::token_rows::add_token_rows;
@@ -132,12 +132,29 @@ fn add_form(
             add_rows(&mut rows, request.file, &known(alloc, source, profile)?);
             rows.move_behind(text)?;
         }
-        Form::Html => {
-            let facts = known(alloc, source, profile)?;
-            add_page(text, name_of(request.file), source, &robot, &facts)?;
-        }
+        Form::Html => add_page(text, request, source, &robot)?,
         Form::Run(cycles) => add_execution(text, &robot, cycles, &mut request.replies)?,
     }
+    Ok(())
+}
+
+/// Adds the page of a robot.
+fn add_page(
+    text: &mut String,
+    request: &Request<'_>,
+    source: &[u8],
+    robot: &Robot,
+) -> Result<(), Fault> {
+    let facts = known(*text.allocator(), source, request.profile)?;
+    let page = Page {
+        name: name_of(request.file),
+        source,
+        profile: request.profile,
+        robot,
+        facts: &facts,
+        chapters: request.chapters,
+    };
+    page.add(text)?;
     Ok(())
 }
 
