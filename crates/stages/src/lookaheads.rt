@@ -1,6 +1,8 @@
 //! FIRST and FOLLOW: by which tokens what derives from a symbol may begin, and which may come after it.
 
-use crate::table_rows::Table;
+ghost use Rattle.std.specs.Prelude.{◌≡◌, false};
+
+use crate::table_rows::{Table, TableRow};
 use crate::terminals::{TerminalSet, plain, terminal_of};
 use derivations::{Item, Symbol};
 use std::alloc::{AllocError, Global};
@@ -75,35 +77,64 @@ impl<'a> Lookaheads<'a> {
     }
 
     /// Adds to FIRST of each symbol what each of its productions begins with. Reports whether something was new.
-    fn grow_firsts(&mut self) -> bool {
+    fn grow_firsts(&mut self) -> bool
+        ensures still { result ≡ false → self.new ≡ self.old }
+    {
         let mut grows = false;
-        for row in &self.table.rows {
+        let table = self.table;
+        for row in &table.rows {
             let first = self.first_of(row.items.as_slice());
-            let number = self.table.number(row.symbol);
-            grows = add_at(self.firsts.as_mut_slice(), number, &first) || grows;
+            let number = table.number(row.symbol);
+            if add_at(self.firsts.as_mut_slice(), number, &first) {
+                grows = true;
+            }
         }
         grows
     }
 
-    /// Adds to FOLLOW of each symbol what comes after it in each production. If that may be nothing, what follows the
-    /// production's own symbol comes after it too. Reports whether something was new.
-    fn grow_follows(&mut self) -> bool {
+    /// Adds to FOLLOW of each symbol what comes after it in each production. Reports whether something was new.
+    fn grow_follows(&mut self) -> bool
+        ensures still { result ≡ false → self.new ≡ self.old }
+    {
         let mut grows = false;
-        for row in &self.table.rows {
-            for (index, item) in row.items.iter().enumerate() {
-                let Item::Part(symbol) = *item else {
-                    continue;
-                };
-                let rest = row.items.get(index.saturating_add(1)..).unwrap_or(&[]);
-                let mut after = self.first_of(rest);
-                if after.has_nothing {
-                    after.add(&self.follow(row.symbol));
-                }
-                let number = self.table.number(symbol);
-                grows = add_at(self.follows.as_mut_slice(), number, &after.tokens()) || grows;
+        let table = self.table;
+        for row in &table.rows {
+            if self.grow_by_row(row) {
+                grows = true;
             }
         }
         grows
+    }
+
+    /// Adds to FOLLOW of each symbol of a production what comes after it there. If that may be nothing, what follows the
+    /// production's own symbol comes after it too. Reports whether something was new.
+    fn grow_by_row(&mut self, row: &TableRow) -> bool
+        ensures still { result ≡ false → self.new ≡ self.old }
+    {
+        let mut grows = false;
+        for (index, item) in row.items.iter().enumerate() {
+            if let Item::Part(symbol) = *item {
+                let rest = row.items.get(index.saturating_add(1)..).unwrap_or(&[]);
+                let after = self.after(rest, row.symbol);
+                let number = self.table.number(symbol);
+                if add_at(self.follows.as_mut_slice(), number, &after) {
+                    grows = true;
+                }
+            }
+        }
+        grows
+    }
+
+    /// Returns what may come where these items are, the last ones of a symbol's production: what they begin with, and if
+    /// they may be nothing what follows the symbol.
+    fn after(&self, rest: &[Item], symbol: Symbol) -> TerminalSet
+        ensures { result.has_nothing ≡ false }
+    {
+        let mut after = self.first_of(rest);
+        if after.has_nothing {
+            after.add(&self.follow(symbol));
+        }
+        after.tokens()
     }
 }
 
@@ -113,7 +144,9 @@ fn set_at(sets: &[TerminalSet], number: usize) -> TerminalSet {
 }
 
 /// Adds to the set of a number, and reports whether something was new.
-fn add_at(sets: &mut [TerminalSet], number: usize, other: &TerminalSet) -> bool {
+fn add_at(sets: &mut [TerminalSet], number: usize, other: &TerminalSet) -> bool
+    ensures still { result ≡ false → sets.new ≡ sets.old }
+{
     match sets.get_mut(number) {
         Some(set) => set.add(other),
         None => false,

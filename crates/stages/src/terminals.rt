@@ -105,7 +105,7 @@ impl TerminalSet {
 
     /// Adds all of another set, and reports whether one of these was new.
     pub fn add(&mut self, other: &TerminalSet) -> bool
-        ensures { result ≡ false → self.new ≡ self.old }
+        ensures still { result ≡ false → self.new ≡ self.old }
     {
         let before = *self;
         self.tokens |= other.tokens;

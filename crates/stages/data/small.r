@@ -1,6 +1,0 @@
-int hits;
-main()
-{
-  int dx;
-  return;
-}
