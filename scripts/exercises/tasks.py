@@ -3,16 +3,14 @@
 from __future__ import annotations
 
 import re
-from bisect import bisect_left
 from dataclasses import dataclass
 from random import Random
 from typing import Callable
 
-from .programs import Programs
+from .programs import UPDATE, Programs
 
 STILL = "main(){ while (1); }\n"
-# Matches go on in steps of so many cycles.
-UPDATE, MOST_UPDATES = 15, 200
+MOST_CYCLES = 3000
 
 
 @dataclass(frozen=True)
@@ -48,7 +46,7 @@ def shot(random: Random) -> Task:
     count, more = random.randrange(5, 40), random.randrange(1, 6)
     robot = f"main()\n{{\n  int n;\n  while (n < {count}) n = n + 1;\n{'  1;' * more}\n  cannon(0, 0);\n  while (1) ;\n}}\n"
     return Task("After which cycle does this robot have damage? Write down the number alone.", robot,
-                lambda them: [str(UPDATE * bisect_left(range(MOST_UPDATES), 1, key=lambda it: them.damage(robot, UPDATE * max(it, 1))))])
+                lambda them: [str(next(cycle for cycle in range(them.shot(robot), MOST_CYCLES, UPDATE) if them.damage(robot, cycle)))])
 
 
 def life(random: Random) -> Task:

@@ -147,8 +147,15 @@ fn set_at(sets: &[TerminalSet], number: usize) -> TerminalSet {
 fn add_at(sets: &mut [TerminalSet], number: usize, other: &TerminalSet) -> bool
     ensures still { result ≡ false → sets.new ≡ sets.old }
 {
-    match sets.get_mut(number) {
-        Some(set) => set.add(other),
-        None => false,
+    let mut set = match sets.get(number) {
+        Some(set) => *set,
+        None => return false,
+    };
+    if !set.add(other) {
+        return false;
     }
+    if let Some(place) = sets.get_mut(number) {
+        *place = set;
+    }
+    true
 }

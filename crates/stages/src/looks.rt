@@ -48,6 +48,7 @@ svg .u rect { stroke-dasharray: 4; }
 svg path { fill: none; stroke: var(--faint); }
 svg .t { fill: var(--faint); }
 svg .m { fill: var(--faint); }
+.trees { font: 11.5px ui-monospace, monospace; }
 .trees text { fill: var(--ink); text-anchor: middle; }
 .trees .head { font-weight: bold; text-anchor: start; }
 .trees rect { fill: none; stroke: var(--edge); }
@@ -56,6 +57,7 @@ svg .m { fill: var(--faint); }
 .trees .m text { font-style: italic; }
 .paper { display: none; }
 @page { margin: 15mm; }
+@page landscape { size: landscape; }
 @media print {
   :root { color-scheme: light; --ground: #ffffff; --ink: #000000; --faint: #444444; --edge: #999999; --light: 94%; }
   body { padding: 0; font-size: 10pt; }
@@ -68,8 +70,9 @@ svg .m { fill: var(--faint); }
   .rows { width: auto; font-size: 9pt; }
   .rows div { min-height: 0; white-space: pre-wrap; overflow-wrap: anywhere; break-inside: avoid; }
   .rows > div, .b > div { padding-left: 8ch; text-indent: -8ch; border: 0; }
-  .rows > .b { padding-left: 0; text-indent: 0; }
+  .rows > .b { padding-left: 0; text-indent: 0; white-space: normal; }
   a, i, b { text-indent: 0; }
+  .landscape { page: landscape; }
   .flow { padding: 0; }
   .chart { break-inside: avoid; }
   svg { max-width: 100%; max-height: 24cm; height: auto; }

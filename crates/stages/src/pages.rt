@@ -84,7 +84,7 @@ impl<'a> Page<'a> {
     /// Adds the pictures of its trees.
     fn add_trees(&self, text: &mut String) -> Result<(), AllocError> {
         let alloc = *text.allocator();
-        begin_section(text, "wide", Chapter::Svg)?;
+        begin_section(text, "wide landscape", Chapter::Svg)?;
         text.push_str("<div class=\"flow\">\n")?;
         let derivation = derivation_tree(alloc, self.source)?;
         add_pictures(text, &derivation, &self.tree(alloc)?, "")?;

@@ -5,19 +5,19 @@ use crate::outlines::{Outline, OutlineNode, Standing};
 use std::alloc::{AllocError, Global};
 
 /// The width of a character of a label.
-const LETTER: usize = 8;
+const LETTER: usize = 7;
 
 /// What is free beside a label.
-const PAD: usize = 12;
+const PAD: usize = 10;
 
 /// The height of a node.
 const HEIGHT: usize = 22;
 
 /// From one node to the one below it.
-const ROW: usize = 38;
+const ROW: usize = 46;
 
 /// What is free between two nodes that are side by side.
-const GAP: usize = 10;
+const GAP: usize = 8;
 
 /// The height of the words above a tree.
 const HEAD: usize = 24;
@@ -28,7 +28,7 @@ const BETWEEN: usize = 40;
 /// The look of both trees where no page has one.
 const LOOK: &str = "<style>
 .trees { background: #ffffff; color: #1b1f24; --edge: #59636e; --light: #e8eef5; }
-.trees { font: 13px ui-monospace, monospace; }
+.trees { font: 11.5px ui-monospace, monospace; }
 .trees text { fill: currentcolor; text-anchor: middle; }
 .trees .head { font-weight: bold; text-anchor: start; }
 .trees rect { fill: none; stroke: var(--edge); }
