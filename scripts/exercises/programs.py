@@ -12,6 +12,8 @@ from tools.faults import PROGRAM, Fault
 from tools.programs import found, started
 
 SECONDS = 60
+# The field moves after each cycle that this divides.
+UPDATE = 15
 
 
 class Programs:
@@ -49,6 +51,12 @@ class Programs:
         self.lay("robot.r", source)
         self.lay("other.r", other)
         return first_number(self.lines("crobots", "-m1", *words, "robot.r", "other.r")[0], r"cycles = (\d+)")
+
+    def shot(self, source: str) -> int:
+        """The first update of the field after a robot's first shot."""
+        self.lay("robot.r", source)
+        asks = (line for line in self.lines("crobots-stages", "--run", "3000", "robot.r") if "; cannon(" in line)
+        return -(-int(first_number(next(asks, ""), r"^ *(\d+) ")) // UPDATE) * UPDATE
 
     def damage(self, source: str, cycles: int) -> int:
         """The damage of a robot after so many cycles of a match with itself."""

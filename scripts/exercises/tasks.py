@@ -3,16 +3,14 @@
 from __future__ import annotations
 
 import re
-from bisect import bisect_left
 from dataclasses import dataclass
 from random import Random
 from typing import Callable
 
-from .programs import Programs
+from .programs import UPDATE, Programs
 
 STILL = "main(){ while (1); }\n"
-# Matches go on in steps of so many cycles.
-UPDATE, MOST_UPDATES = 15, 200
+MOST_CYCLES = 3000
 
 
 @dataclass(frozen=True)
@@ -48,7 +46,7 @@ def shot(random: Random) -> Task:
     count, more = random.randrange(5, 40), random.randrange(1, 6)
     robot = f"main()\n{{\n  int n;\n  while (n < {count}) n = n + 1;\n{'  1;' * more}\n  cannon(0, 0);\n  while (1) ;\n}}\n"
     return Task("After which cycle does this robot have damage? Write down the number alone.", robot,
-                lambda them: [str(UPDATE * bisect_left(range(MOST_UPDATES), 1, key=lambda it: them.damage(robot, UPDATE * max(it, 1))))])
+                lambda them: [str(next(cycle for cycle in range(them.shot(robot), MOST_CYCLES, UPDATE) if them.damage(robot, cycle)))])
 
 
 def life(random: Random) -> Task:
@@ -115,7 +113,100 @@ def bounds(them: Programs, robot: str, profile: str) -> str:
     return next(it[1] for it in turn if it)
 
 
-TASKS: dict[int, Callable[[Random], Task]] = {1: listing, 2: faults, 3: shot, 4: life, 5: names, 6: logic, 7: frames, 8: lives, 10: turns}
+def operations(random: Random) -> Task:
+    """What a match runs in place of the code."""
+    most, product, sum_, degree = random.randrange(20, 90), random.randrange(2, 9), random.randrange(2, 9), random.randrange(1, 180)
+    op, change = random.choice(["*", "/", "%"]), random.choice(["a += {};", "a = a + {};"]).format(sum_)
+    robot = f"main()\n{{\n  int a, b;\n  while (a < {most}) {{\n    b = drive({degree}, a {op} {product});\n    {change}\n  }}\n}}\n"
+    return Task("A match runs three-address operations in place of this robot's code. Write them down as `crobots-stages --operations robot.r`\n"
+                "has them at the right of |, a line each, without the cycles behind the semicolon.", robot, lambda them: operated(them, robot))
+
+
+def operated(them: Programs, robot: str) -> list[str]:
+    """The operations of a robot."""
+    them.lay("robot.r", robot)
+    rows = (line.partition(" | ")[2] for line in them.lines("crobots-stages", "--operations", "robot.r"))
+    return [row.partition("  ; cycles")[0] for row in rows if row]
+
+
+def cheaper(random: Random) -> Task:
+    """What is saved by what a compiler could do."""
+    count, step, one, other, degree = (random.randrange(*it) for it in ((1, 5), (3, 30), (2, 5), (2, 5), (2, 9)))
+    first = "    d = d + {};\n".format(step) * count
+    look, shot = f"    r = scan(d, {one} * {other});\n", f"    if (r > 0) cannon(d, r - {degree} * {other});\n"
+    begin, end = "main()\n{\n  int d, r;\n  while (1) {\n", "  }\n}\n"
+    steps = [first + look + shot, first.replace("= d +", "+=") + look + shot]
+    steps += [steps[1].replace(f"{one} * {other}", f"{one * other}").replace(f"{degree} * {other}", f"{degree * other}")]
+    steps += [steps[2].replace("r > 0", "r")]
+    return Task("This robot becomes cheaper in three steps, and does the same after each of them:\n"
+                f"1. d = d + {step} becomes d += {step}.\n2. What has constants alone is worked out.\n3. r > 0 becomes r.\n\n"
+                "How many cycles does a turn of its loop take at most, as it is and after each step? Write down four numbers, a line each.",
+                begin + steps[0] + end, lambda them: [bounds(them, begin + it + end, "-p1").split(" to ")[-1] for it in steps])
+
+
+Pair = tuple[int, int]
+
+
+@dataclass(frozen=True)
+class Edit:
+    """An edit that the prover refused: its name, what it did, and as a robot's function what it says of two numbers. Of some
+    pairs it is always wrong, of others it depends."""
+
+    name: str
+    old: str
+    new: str
+    sign: str
+    function: str
+    wrong: Callable[[Random], Pair]
+    other: Callable[[Random], Pair]
+
+
+def some(random: Random) -> int:
+    """A number that is neither 0 nor 1."""
+    return random.choice([-1, 1]) * random.randrange(2, 60)
+
+
+def negative(random: Random) -> int:
+    """A negative number that 2 to 8 don't divide."""
+    return -random.choice([11, 13, 17, 19, 23, 29, 31, 37])
+
+
+# The edits are files of crates/arith/must-fail, and the gate tries them.
+EDITS = (
+    Edit("binop.and_gives_its_right_side", "Op::And => i32::from(a != 0 && b != 0),", "Op::And => if a == 0 { 0 } else { b },", "&&",
+         "if (a == 0) return 0; return b;", lambda random: (some(random), some(random)), lambda random: (random.choice([0, 1, some(random)]), random.choice([0, 1]))),
+    Edit("quotient.quotient_by_zero_is_the_dividend", "if b == 0 { 0 } else { a.wrapping_div(b) }", "if b == 0 { a } else { a.wrapping_div(b) }", "/",
+         "if (b == 0) return a; return a / b;", lambda random: (some(random), 0), lambda random: (random.choice([0, some(random)]), random.choice([0, some(random)]))),
+    Edit("remainder.remainder_with_sign_of_divisor", "a.wrapping_rem(b)", "a.wrapping_rem(b).wrapping_add(b).wrapping_rem(b)", "%",
+         "return (a % b + b) % b;", lambda random: (negative(random), random.randrange(2, 9)), lambda random: (some(random), random.randrange(2, 9))),
+    Edit("binop.shift_right_without_sign", "a.wrapping_shr(b.cast_unsigned())", "a.cast_unsigned().wrapping_shr(b.cast_unsigned()).cast_signed()", ">>",
+         "if (b == 0) return a; return (a >> b) & ~(-1 << (32 - b));", lambda random: (negative(random), random.randrange(1, 4)),
+         lambda random: (some(random), random.randrange(4))),
+)
+
+
+def refused(random: Random) -> Task:
+    """For which numbers a wrong idea is wrong."""
+    edit = random.choice(EDITS)
+    pairs = [*(edit.wrong(random) for _ in range(3)), *(edit.other(random) for _ in range(5))]
+    random.shuffle(pairs)
+    listed = "".join(f"{a:>6} {b:>4}\n" for a, b in pairs)
+    return Task(f"The prover refused this edit of the operator {edit.sign}, {edit.name}:\n\nold: {edit.old}\nnew: {edit.new}\n\n"
+                "For which of these numbers a and b is the edited operator wrong? Write down each such pair in a line, in this order, and\n"
+                "behind it the right value and that of the edit: four numbers.", listed, lambda them: differing(them, edit, pairs))
+
+
+def differing(them: Programs, edit: Edit, pairs: list[Pair]) -> list[str]:
+    """The pairs for which an edit is wrong, with both values: the machine works out the operator, and the edit as a function."""
+    calls = "".join(f"  scan({a} {edit.sign} ({b}), edited({a}, {b}));\n" for a, b in pairs)
+    them.lay("robot.r", f"edited(a, b)\n{{\n  {edit.function}\n}}\n\nmain()\n{{\n{calls}}}\n")
+    asked = (re.search(r"; scan\((-?\d+), (-?\d+)\) replies", line) for line in them.lines("crobots-stages", "--run", "1000", "robot.r"))
+    values = [(it[1], it[2]) for it in asked if it]
+    return [f"{a} {b} {right} {wrong}" for (a, b), (right, wrong) in zip(pairs, values) if right != wrong]
+
+
+TASKS: dict[int, Callable[[Random], Task]] = {1: listing, 2: faults, 3: shot, 4: life, 5: names, 6: logic, 7: frames, 8: lives, 10: turns,
+                                              11: operations, 12: cheaper, 13: refused}
 
 
 def task_of(number: int, seed: str) -> Task:

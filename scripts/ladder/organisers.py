@@ -26,9 +26,9 @@ from .terms import terms
 AUDIT = 100
 # A rung is climbed by so many of so many matches, from each seat.
 WON, OF = 4, 5
-# The rungs of docs/exercises.md: the samples of each level, as robots/README.md has them.
+# The rungs of docs/exercises.md: the samples of each level, as robots/README.md has them, and the one of docs/answers.
 RUNGS = (("wanderer", "runner", "pilot"), ("leader", "centre", "jumpy"), ("sniper", "hunter", "sweeper", "wallhugger"), ("shuttle", "boxer"),
-         ("jouster",))
+         ("jouster",), ("fencer",))
 COLUMNS = ("author", "group", "robot", "versions", "last hand-in", "late", "rungs", "rank")
 LATE = "late"
 

@@ -113,7 +113,7 @@ class Showing(Base):
             yield f"{found!r}"
 
     def a_rung_is_four_of_five_from_either_seat(self) -> Iterator[str]:
-        """Against each robot of a level that plays here; of two levels here, and of three nobody plays."""
+        """Against each robot of a level that plays here; of two levels here, and of four nobody plays."""
         four, three = [WON] * 4 + [LOST], [WON] * 3 + [LOST, TIED]
         all_ = [WON] * 5
         for at, (wanderer, runner, leader, wanted) in enumerate(((four, four, all_, (True, True)), (four, three, four, (False, True)), (three, four, four, (False, True)),
@@ -125,7 +125,7 @@ class Showing(Base):
                 self._fought(ladder, sides)
                 with opened(ladder.folder) as store:
                     found = climbed_by(store)["mine"]
-                if found != (*wanted, False, False, False):
+                if found != (*wanted, False, False, False, False):
                     yield f"{at} from seat {seat + 1}: {found}"
 
     def what_was_done_last_stands_first(self) -> Iterator[str]:

@@ -2,6 +2,7 @@
 //! the left.
 
 use crate::flow::Block;
+use crate::flow_rows::add_block_row;
 use crate::markup::{COLOURS, Escaped};
 use crate::robots::Robot;
 use std::alloc::{AllocError, Global};
@@ -20,6 +21,9 @@ const WIDTH: usize = 380;
 
 /// What is between two lanes, in which jumps go up or down.
 const LANE: usize = 14;
+
+/// The greatest height of a graph on paper.
+const MOST_ON_PAPER: usize = 1000;
 
 /// A jump between two blocks.
 #[derive(Clone, Copy)]
@@ -66,9 +70,13 @@ struct Chart<'a> {
     left: usize,
 }
 
-/// Adds the graph of a function of a robot, whose blocks these are.
+/// Adds the graph of a function of a robot, whose blocks these are. One that is too high for a page of paper has rows
+/// there.
 pub fn add_chart(text: &mut String, robot: &Robot, blocks: &[Block]) -> Result<(), AllocError> {
     let chart = Chart::of(*text.allocator(), robot, blocks)?;
+    let is_high = chart.height() > MOST_ON_PAPER;
+    let class = if is_high { "chart screen" } else { "chart" };
+    writeln!(text, r#"<div class="{class}">"#)?;
     chart.add_begin(text)?;
     for (number, block) in blocks.iter().enumerate() {
         chart.add_block(text, number, block)?;
@@ -76,7 +84,11 @@ pub fn add_chart(text: &mut String, robot: &Robot, blocks: &[Block]) -> Result<(
     for jump in &chart.jumps {
         chart.add_jump(text, jump)?;
     }
-    writeln!(text, "</svg>")
+    writeln!(text, "</svg>\n</div>")?;
+    if is_high {
+        chart.add_rows(text)?;
+    }
+    Ok(())
 }
 
 impl<'a> Chart<'a> {
@@ -109,14 +121,38 @@ impl<'a> Chart<'a> {
         self.top(number.saturating_add(1)).saturating_sub(GAP)
     }
 
+    /// Returns the height of the graph.
+    fn height(&self) -> usize {
+        let last = self.blocks.len().saturating_sub(1);
+        self.bottom(last).saturating_add(2)
+    }
+
+    /// Returns the function's name.
+    fn name(&self) -> &str {
+        let begin = self.blocks.first().map_or(0, |block| block.begin);
+        self.robot.function_name(self.robot.function_at(begin))
+    }
+
+    /// Adds the blocks as rows, for paper.
+    fn add_rows(&self, text: &mut String) -> Result<(), AllocError> {
+        let name = self.name();
+        writeln!(text, r#"<div class="paper">"#)?;
+        writeln!(text, "<h3>{name}</h3>\n<div class=\"rows\">")?;
+        writeln!(text, "<div>  from    to  lines         goes to</div>")?;
+        for block in self.blocks {
+            let mut row = String::new(*text.allocator());
+            add_block_row(&mut row, self.robot, block)?;
+            writeln!(text, "<div>{}</div>", row.trim_end())?;
+        }
+        writeln!(text, "</div>\n</div>")
+    }
+
     /// Adds the function's name, and the head of the graph.
     fn add_begin(&self, text: &mut String) -> Result<(), AllocError> {
-        let begin = self.blocks.first().map_or(0, |block| block.begin);
-        let name = self.robot.function_name(self.robot.function_at(begin));
+        let name = self.name();
         let right = self.left.saturating_add(WIDTH);
         let width = right.saturating_add(room(self.jumps.as_slice(), false));
-        let last = self.bottom(self.blocks.len().saturating_sub(1));
-        let height = last.saturating_add(2);
+        let height = self.height();
         writeln!(text, "<h3>{name}</h3>")?;
         write!(text, r#"<svg width="{width}" height="{height}""#)?;
         write!(text, r#" viewBox="-1 -1 {width} {height}" role="img""#)?;

@@ -1,21 +1,13 @@
-//! The tree of a source as text: indented, and as a graph in the language of Graphviz.
+//! The tree of a source as it is shown.
 
 use crate::labels::{Label, Named};
+use crate::outlines::{Outline, Standing};
 use crate::robots::Robot;
 use crate::texts::text_of;
 use derivations::{Body, NodeKind, SourceTree, locate};
 use grammar::Profile;
-use std::alloc::AllocError;
+use std::alloc::{AllocError, Global};
 use std::fmt;
-
-/// A node that was drawn.
-#[derive(Clone, Copy)]
-struct Drawn {
-    /// How many were drawn before it.
-    number: usize,
-    /// How many there are from the root down to it.
-    depth: usize,
-}
 
 /// What is still to be drawn.
 #[derive(Clone, Copy)]
@@ -31,84 +23,50 @@ enum Pending {
 struct Drawing<'a> {
     tree: &'a SourceTree,
     robot: &'a Robot,
-    text: &'a mut String,
-    is_graph: bool,
-    count: usize,
-    // each with the node above it, the next one last
-    pending: Vec<(Drawn, Pending)>,
+    outline: Outline,
+    // each with the number of the node above it, the next one last
+    pending: Vec<(usize, Pending)>,
 }
 
-/// Adds the tree of a source: its functions in the order of their definitions, a line for each node, indented by two
-/// blanks for each node above it; or a graph of the nodes, in the language of Graphviz. No label has a quote or a
-/// backslash.
-pub fn add_tree(
-    text: &mut String,
+/// Returns the tree of a source: its functions in the order of their definitions.
+pub fn tree_of(
+    alloc: Global,
     source: &[u8],
     profile: Profile,
     robot: &Robot,
-    is_graph: bool,
-) -> Result<(), AllocError> {
-    let tokens = locate(*text.allocator(), source)?;
+) -> Result<Outline, AllocError> {
+    let tokens = locate(alloc, source)?;
     let tree = SourceTree::of(tokens.as_slice(), profile);
-    Drawing::of(&tree, robot, text, is_graph).add_file()
+    let mut drawing = Drawing {
+        tree: &tree,
+        robot,
+        outline: Outline::new(alloc),
+        pending: Vec::new(alloc),
+    };
+    drawing.add_file()?;
+    Ok(drawing.outline)
 }
 
 impl<'a> Drawing<'a> {
-    /// Begins with nothing drawn.
-    fn of(
-        tree: &'a SourceTree,
-        robot: &'a Robot,
-        text: &'a mut String,
-        is_graph: bool,
-    ) -> Drawing<'a> {
-        Drawing {
-            pending: Vec::new(*text.allocator()),
-            tree,
-            robot,
-            text,
-            is_graph,
-            count: 0,
-        }
-    }
-
-    /// Adds a node below another one. The root is below itself.
-    fn add(&mut self, above: Drawn, label: impl fmt::Display + Drop) -> Result<Drawn, AllocError> {
-        let (number, depth) = (self.count, above.depth.saturating_add(1));
-        self.count = number.saturating_add(1);
-        if self.is_graph {
-            writeln!(self.text, r#"  n{number} [label="{label}"];"#)?;
-            if number != above.number {
-                writeln!(self.text, "  n{} -> n{number};", above.number)?;
-            }
-        } else {
-            let indent = above.depth.saturating_mul(2);
-            writeln!(self.text, "{:indent$}{label}", "")?;
-        }
-        Ok(Drawn { number, depth })
+    /// Adds a node below the one of a number.
+    fn add(&mut self, above: usize, label: impl fmt::Display + Drop) -> Result<usize, AllocError> {
+        self.outline.add(Some(above), Standing::Part, label)
     }
 
     /// Adds the file: its externals, and its functions.
     fn add_file(&mut self) -> Result<(), AllocError> {
-        if self.is_graph {
-            writeln!(self.text, "digraph tree {{")?;
-            writeln!(self.text, r#"  node [shape=box, fontname="monospace"];"#)?;
-        }
-        let root = Drawn {
-            number: 0,
-            depth: 0,
-        };
-        let root = self.add(root, "file")?;
+        let root = self.outline.add(None, Standing::Part, "file")?;
         for (number, name) in self.robot.names.externals().iter().enumerate() {
             self.add(root, Named::of("external E", number, text_of(name)))?;
         }
         for body in self.tree.bodies() {
             self.add_function(root, body)?;
         }
-        self.text.push_str(if self.is_graph { "}\n" } else { "" })
+        Ok(())
     }
 
     /// Adds a function with its variables and its statements.
-    fn add_function(&mut self, root: Drawn, body: &Body) -> Result<(), AllocError> {
+    fn add_function(&mut self, root: usize, body: &Body) -> Result<(), AllocError> {
         let number = usize::from(body.number);
         let name = self.robot.function_name(number);
         let node = self.add(root, Named::of("function ", number, name))?;
@@ -126,7 +84,7 @@ impl<'a> Drawing<'a> {
     }
 
     /// Notes what is to be drawn next below a node.
-    fn push(&mut self, above: Drawn, parts: &[Pending]) -> Result<(), AllocError> {
+    fn push(&mut self, above: usize, parts: &[Pending]) -> Result<(), AllocError> {
         for part in parts.iter().rev() {
             self.pending.push((above, *part))?;
         }
@@ -155,7 +113,7 @@ impl<'a> Drawing<'a> {
 
     /// Adds a node of the source. What is below it is drawn next. `-e`, `!e`, `~e` and `++v` are drawn as operators and
     /// assignments of a constant.
-    fn add_node(&mut self, above: Drawn, index: usize, function: usize) -> Result<(), AllocError> {
+    fn add_node(&mut self, above: usize, index: usize, function: usize) -> Result<(), AllocError> {
         let Some(&node) = self.tree.get(index) else {
             return Ok(());
         };

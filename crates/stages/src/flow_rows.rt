@@ -13,12 +13,17 @@ pub fn add_flow_rows(text: &mut String, robot: &Robot) -> Result<(), AllocError>
         if let Some(name) = robot.function_begun_at(block.begin) {
             writeln!(text, "{name}")?;
         }
-        let mut lines = String::new(*text.allocator());
-        add_lines(&mut lines, &robot.origins, block)?;
-        write!(text, "{:>6}{:>6}  {lines:<14}", block.begin, block.last)?;
-        add_ways(text, block)?;
+        add_block_row(text, robot, block)?;
     }
     Ok(())
+}
+
+/// Adds the line of a block.
+pub fn add_block_row(text: &mut String, robot: &Robot, block: &Block) -> Result<(), AllocError> {
+    let mut lines = String::new(*text.allocator());
+    add_lines(&mut lines, &robot.origins, block)?;
+    write!(text, "{:>6}{:>6}  {lines:<14}", block.begin, block.last)?;
+    add_ways(text, block)
 }
 
 /// Adds the lines that the instructions of a block come from, in their order: lines one after the other as a range.

@@ -9,8 +9,9 @@ pub const BEFORE_TITLE: &str = "<!DOCTYPE html>
 <title>";
 
 /// The look of all pages. On a narrow screen the code is below the source, and each scrolls by itself. On paper each
-/// line of the source is above its code, and nothing scrolls.
-pub const LOOK: &str = ": source and code</title>
+/// line of the source is above its code, nothing scrolls, all is dark on white, no heading is alone at the foot of a
+/// page, no row and no graph is cut in two, and what is left of a row is indented.
+pub const LOOK: &str = ": stages of a robot</title>
 <style>
 :root { color-scheme: light dark; --ground: #ffffff; --ink: #1b1f24; --faint: #59636e; --edge: #d1d9e0; --light: 92%; --strong: 80%; }
 @media (prefers-color-scheme: dark) {
@@ -47,17 +48,34 @@ svg .u rect { stroke-dasharray: 4; }
 svg path { fill: none; stroke: var(--faint); }
 svg .t { fill: var(--faint); }
 svg .m { fill: var(--faint); }
+.trees { font: 11.5px ui-monospace, monospace; }
+.trees text { fill: var(--ink); text-anchor: middle; }
+.trees .head { font-weight: bold; text-anchor: start; }
+.trees rect { fill: none; stroke: var(--edge); }
+.trees .w rect { fill: hsl(210 40% var(--light)); stroke: var(--faint); stroke-width: 2; }
+.trees .m rect { stroke: none; }
+.trees .m text { font-style: italic; }
 .paper { display: none; }
+@page { margin: 15mm; }
+@page landscape { size: landscape; }
 @media print {
+  :root { color-scheme: light; --ground: #ffffff; --ink: #000000; --faint: #444444; --edge: #999999; --light: 94%; }
+  body { padding: 0; font-size: 10pt; }
   .screen { display: none; }
   .paper { display: block; }
   main { display: block; }
   section { border: 0; max-height: none; overflow: visible; }
-  h2 { position: static; }
-  pre { margin: .3rem .6rem; white-space: pre-wrap; overflow-wrap: anywhere; }
-  .rows { width: auto; }
-  .rows > div { white-space: pre-wrap; overflow-wrap: anywhere; }
-  svg { max-width: 100%; height: auto; }
+  h2, h3 { break-after: avoid; }
+  h2 { position: static; margin-top: 1rem; padding-left: 0; }
+  .rows { width: auto; font-size: 9pt; }
+  .rows div { min-height: 0; white-space: pre-wrap; overflow-wrap: anywhere; break-inside: avoid; }
+  .rows > div, .b > div { padding-left: 8ch; text-indent: -8ch; border: 0; }
+  .rows > .b { padding-left: 0; text-indent: 0; white-space: normal; }
+  a, i, b { text-indent: 0; }
+  .landscape { page: landscape; }
+  .flow { padding: 0; }
+  .chart { break-inside: avoid; }
+  svg { max-width: 100%; max-height: 24cm; height: auto; }
 }
 ";
 
@@ -67,51 +85,37 @@ pub const BEFORE_NAME: &str = "</style>
 <body>
 <h1>";
 
-/// What is between the name and the code on paper.
-pub const BEFORE_PAPER: &str = "</h1>
-<p class=\"screen\">A line of the source and the instructions that come from it have one colour. The number of a line leads to the other side.</p>
+/// What is between the name and the first chapter.
+pub const BEHIND_NAME: &str = "</h1>
 <main>
-<section class=\"paper\">
-<h2>Each line of the source, and its code</h2>
-<pre>
 ";
 
-/// What is between that and the lines of the source.
-pub const BEFORE_SOURCE: &str = "</pre>
-</section>
-<section class=\"screen\" aria-label=\"Source\">
+/// What is before the code.
+pub const BEFORE_CODE: &str =
+    "<p class=\"wide screen\">A line of the source and the instructions that come from it have one colour. The number of a line leads to the other side.</p>
+";
+
+/// What is before the lines of the source.
+pub const BEFORE_LINES: &str = "<section class=\"screen\" aria-label=\"Source\">
 <h2>Source</h2>
 <div class=\"rows\">
 ";
 
 /// What is between both sides.
-pub const BEFORE_CODE: &str = "</div>
+pub const BEFORE_INSTRUCTIONS: &str = "</div>
 </section>
 <section class=\"screen\" aria-label=\"Code\">
 <h2>Code: line, address, instruction, name</h2>
 <div class=\"rows\">
 ";
 
-/// What is between the code and the control flow.
-pub const BEFORE_FLOW: &str = "</div>
+/// The end of a section with its rows.
+pub const END_SECTION: &str = "</div>
 </section>
-<section class=\"wide\" aria-label=\"Control flow\">
-<h2>Control flow: a jump is at the side, with a 0 if it is one of two ways; nothing leads to a block with a broken edge</h2>
-<div class=\"flow\">
-";
-
-/// What is between the control flow and what is known before a match.
-pub const BEFORE_FACTS: &str = "</div>
-</section>
-<section class=\"wide\" aria-label=\"Before a match\">
-<h2>Before a match: line, function, what a call or a turn takes</h2>
-<div class=\"rows\">
 ";
 
 /// The page's end.
-pub const TAIL: &str = "</div>
-</section>
-</main>
+pub const TAIL: &str = "</main>
 </body>
 </html>
 ";

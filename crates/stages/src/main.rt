@@ -1,38 +1,50 @@
 //! Shows what the compiler does with a robot, stage by stage: its tokens, its derivation, its tree, its code below or
 //! beside its lines, its operations, its control flow, what is known of it before it fights, and the cycles of its
-//! machine.
+//! machine. Of the grammar itself it shows FIRST and FOLLOW.
 #![tactic(auto)]
 
+mod chapters;
 mod charts;
 mod code_rows;
 mod cuts;
 mod derivation_rows;
+mod derivation_trees;
 mod drawings;
 mod execution;
+mod first_rows;
 mod flow;
 mod flow_rows;
 mod forms;
+mod items;
 mod labels;
+mod lookaheads;
 mod looks;
 mod markup;
 mod operation_rows;
 mod origins;
+mod outlines;
 mod pages;
+mod pictures;
 mod replies;
 mod robots;
+mod table_rows;
+mod terminals;
 mod texts;
 mod token_rows;
 
 use crate::code_rows::add_listing;
 use crate::cuts::add_listing_to_limit;
 use crate::derivation_rows::add_derivation_rows;
-use crate::drawings::add_tree;
+use crate::derivation_trees::derivation_tree;
+use crate::drawings::tree_of;
 use crate::execution::add_execution;
+use crate::first_rows::add_first_rows;
 use crate::flow_rows::add_flow_rows;
 use crate::forms::{Form, OPTIONS, Request};
 use crate::operation_rows::add_operation_rows;
 use crate::origins::Origins;
-use crate::pages::add_page;
+use crate::pages::Page;
+use crate::pictures::add_picture_file;
 use crate::robots::Robot;
 use crate::token_rows::add_token_rows;
 use derivations::{Compiled, compile};
@@ -50,7 +62,7 @@ use tools::{
 const FRAME: ProgramFrame = ProgramFrame {
     name: "crobots-stages",
     about: "Shows what the compiler makes of a robot, stage by stage.",
-    usage: "(--tokens | --derivation | --tree | --dot | --code | --operations | --flow | --bounds | --html | --run CYCLES [--replies LIST..]) [-pPROFILE] [-o FILE] FILE",
+    usage: "(--tokens | --derivation | --tree | --dot | --svg | --code | --operations | --flow | --bounds | --html [--chapters LIST] | --run CYCLES [--replies LIST..]) [-pPROFILE] [-o FILE] FILE | --first [-o FILE]",
     known: &[&OPTIONS, &PROFILE_OPTIONS, &OUTPUT_OPTIONS],
 };
 
@@ -65,10 +77,13 @@ struct Stages;
 impl Work for Stages {
     /// Reads the source, and writes the text that was asked for at once when it is whole.
     fn work(&self, rt: &HostRuntime, options: &Options<'_>) -> Result<(), Fault> {
-        let mut request = Request::read(rt.alloc(), options)?;
+        let mut text = String::new(rt.alloc());
+        let Some(mut request) = Request::read(rt.alloc(), options)? else {
+            add_first_rows(&mut text)?;
+            return write_to(rt, options, text.as_str());
+        };
         let source = source_of(rt, FRAME.name, request.file)?;
         let source = source.as_slice();
-        let mut text = String::new(rt.alloc());
         let mut feed = MemoryFeed::new(source, WINDOW_BYTES);
         match compile(request.profile, &mut feed) {
             Ok(made) => {
@@ -103,8 +118,12 @@ fn add_form(
     match request.form {
         Form::Tokens => add_token_rows(text, source, None)?,
         Form::Derivation => add_derivation_rows(text, source, None)?,
-        Form::Tree => add_tree(text, source, profile, &robot, false)?,
-        Form::Dot => add_tree(text, source, profile, &robot, true)?,
+        Form::Tree => tree_of(alloc, source, profile, &robot)?.add_indented(text)?,
+        Form::Dot => tree_of(alloc, source, profile, &robot)?.add_graph(text)?,
+        Form::Svg => {
+            let tree = tree_of(alloc, source, profile, &robot)?;
+            add_picture_file(text, &derivation_tree(alloc, source)?, &tree)?;
+        }
         Form::Code => add_listing(text, source, &robot)?,
         Form::Operations => add_operation_rows(text, &robot)?,
         Form::Flow => add_flow_rows(text, &robot)?,
@@ -113,12 +132,29 @@ fn add_form(
             add_rows(&mut rows, request.file, &known(alloc, source, profile)?);
             rows.move_behind(text)?;
         }
-        Form::Html => {
-            let facts = known(alloc, source, profile)?;
-            add_page(text, name_of(request.file), source, &robot, &facts)?;
-        }
+        Form::Html => add_page(text, request, source, &robot)?,
         Form::Run(cycles) => add_execution(text, &robot, cycles, &mut request.replies)?,
     }
+    Ok(())
+}
+
+/// Adds the page of a robot.
+fn add_page(
+    text: &mut String,
+    request: &Request<'_>,
+    source: &[u8],
+    robot: &Robot,
+) -> Result<(), Fault> {
+    let facts = known(*text.allocator(), source, request.profile)?;
+    let page = Page {
+        name: name_of(request.file),
+        source,
+        profile: request.profile,
+        robot,
+        facts: &facts,
+        chapters: request.chapters,
+    };
+    page.add(text)?;
     Ok(())
 }
 
@@ -144,6 +180,7 @@ fn add_before_fault(
         Form::Code
         | Form::Tree
         | Form::Dot
+        | Form::Svg
         | Form::Operations
         | Form::Flow
         | Form::Bounds

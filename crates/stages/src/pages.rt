@@ -1,46 +1,185 @@
-//! A page that shows a source and its code side by side, in the colours of their lines, and below what is known of it.
+//! A page that shows stages of a source by chapters, on a screen or on paper: its code side by side with its lines, in
+//! their colours, what is known of it, and others.
 
+use crate::chapters::{CHAPTERS, Chapter, Chapters};
 use crate::charts::add_chart;
 use crate::code_rows::add_listing;
+use crate::derivation_rows::add_derivation_rows;
+use crate::derivation_trees::derivation_tree;
+use crate::drawings::tree_of;
 use crate::flow::blocks_of;
 use crate::looks::{
-    BEFORE_CODE, BEFORE_FACTS, BEFORE_FLOW, BEFORE_NAME, BEFORE_PAPER, BEFORE_SOURCE, BEFORE_TITLE,
-    LOOK, TAIL,
+    BEFORE_CODE, BEFORE_INSTRUCTIONS, BEFORE_LINES, BEFORE_NAME, BEFORE_TITLE, BEHIND_NAME,
+    END_SECTION, LOOK, TAIL,
 };
 use crate::markup::{COLOURS, Escaped, hue};
+use crate::operation_rows::add_operation_rows;
 use crate::origins::Origins;
+use crate::outlines::Outline;
+use crate::pictures::add_pictures;
 use crate::robots::Robot;
 use crate::texts::{lines_of, shown};
+use crate::token_rows::add_token_rows;
 use facts::{Facts, Part, add_call, add_gap, add_room, add_shot, add_turn};
-use std::alloc::AllocError;
+use grammar::Profile;
+use std::alloc::{AllocError, Global};
 use tools::Draft;
 
-/// Adds the page of a robot, whose file has this name.
-pub fn add_page(
-    text: &mut String,
-    name: &str,
-    source: &[u8],
-    robot: &Robot,
-    facts: &Facts,
-) -> Result<(), AllocError> {
-    let name = shown(*text.allocator(), name.as_bytes())?;
-    let name = Escaped(name.as_str());
-    write!(text, "{BEFORE_TITLE}{name}{LOOK}")?;
-    add_colours(text, &robot.origins)?;
-    write!(text, "{BEFORE_NAME}{name}{BEFORE_PAPER}")?;
-    let mut listing = String::new(*text.allocator());
-    add_listing(&mut listing, source, robot)?;
-    write!(text, "{}{BEFORE_SOURCE}", Escaped(listing.as_str()))?;
-    add_source(text, source, robot)?;
-    text.push_str(BEFORE_CODE)?;
-    for address in 0..robot.program.instructions().len() {
-        add_instruction(text, robot, address)?;
+/// A page of a robot.
+#[derive(Clone, Copy)]
+pub struct Page<'a> {
+    /// The name of its file.
+    pub name: &'a str,
+    /// Its source.
+    pub source: &'a [u8],
+    /// The profile by which it compiles.
+    pub profile: Profile,
+    /// What it compiles to.
+    pub robot: &'a Robot,
+    /// What is known of it before a match.
+    pub facts: &'a Facts,
+    /// What the page has.
+    pub chapters: Chapters,
+}
+
+impl<'a> Page<'a> {
+    /// Adds the page.
+    pub fn add(&self, text: &mut String) -> Result<(), AllocError> {
+        let name = shown(*text.allocator(), self.name.as_bytes())?;
+        let name = Escaped(name.as_str());
+        write!(text, "{BEFORE_TITLE}{name}{LOOK}")?;
+        add_colours(text, &self.robot.origins)?;
+        write!(text, "{BEFORE_NAME}{name}{BEHIND_NAME}")?;
+        for (_, chapter) in &CHAPTERS {
+            if self.chapters.has(*chapter) {
+                self.add_chapter(text, *chapter)?;
+            }
+        }
+        text.push_str(TAIL)
     }
-    text.push_str(BEFORE_FLOW)?;
-    add_charts(text, robot)?;
-    text.push_str(BEFORE_FACTS)?;
-    add_facts(text, facts)?;
-    text.push_str(TAIL)
+
+    /// Adds a chapter.
+    fn add_chapter(&self, text: &mut String, chapter: Chapter) -> Result<(), AllocError> {
+        let mut rows = String::new(*text.allocator());
+        match chapter {
+            Chapter::Tokens => add_token_rows(&mut rows, self.source, None)?,
+            Chapter::Derivation => add_derivation_rows(&mut rows, self.source, None)?,
+            Chapter::Tree => self.tree(*text.allocator())?.add_indented(&mut rows)?,
+            Chapter::Operations => add_operation_rows(&mut rows, self.robot)?,
+            Chapter::Svg => return self.add_trees(text),
+            Chapter::Code => return self.add_code(text),
+            Chapter::Flow => return self.add_flow(text),
+            Chapter::Bounds => return self.add_bounds(text),
+        }
+        begin_section(text, "wide", chapter)?;
+        add_lines(text, rows.as_str(), false)?;
+        text.push_str(END_SECTION)
+    }
+
+    /// Returns its tree.
+    fn tree(&self, alloc: Global) -> Result<Outline, AllocError> {
+        tree_of(alloc, self.source, self.profile, self.robot)
+    }
+
+    /// Adds the pictures of its trees.
+    fn add_trees(&self, text: &mut String) -> Result<(), AllocError> {
+        let alloc = *text.allocator();
+        begin_section(text, "wide landscape", Chapter::Svg)?;
+        text.push_str("<div class=\"flow\">\n")?;
+        let derivation = derivation_tree(alloc, self.source)?;
+        add_pictures(text, &derivation, &self.tree(alloc)?, "")?;
+        text.push_str(END_SECTION)
+    }
+
+    /// Adds its code: beside its lines, and on paper below them.
+    fn add_code(&self, text: &mut String) -> Result<(), AllocError> {
+        text.push_str(BEFORE_CODE)?;
+        begin_section(text, "paper", Chapter::Code)?;
+        let mut listing = String::new(*text.allocator());
+        add_listing(&mut listing, self.source, self.robot)?;
+        add_lines(text, listing.as_str(), true)?;
+        text.push_str(END_SECTION)?;
+        text.push_str(BEFORE_LINES)?;
+        add_source(text, self.source, self.robot)?;
+        text.push_str(BEFORE_INSTRUCTIONS)?;
+        for address in 0..self.robot.program.instructions().len() {
+            add_instruction(text, self.robot, address)?;
+        }
+        text.push_str(END_SECTION)
+    }
+
+    /// Adds the control flow graph of each function.
+    fn add_flow(&self, text: &mut String) -> Result<(), AllocError> {
+        begin_section(text, "wide", Chapter::Flow)?;
+        text.push_str("<div class=\"flow\">\n")?;
+        let blocks = blocks_of(*text.allocator(), &self.robot.program)?;
+        let robot = self.robot;
+        for own in blocks.chunk_by(|_, next| robot.function_begun_at(next.begin).is_none()) {
+            add_chart(text, self.robot, own)?;
+        }
+        text.push_str(END_SECTION)
+    }
+
+    /// Adds what is known of it before a match.
+    fn add_bounds(&self, text: &mut String) -> Result<(), AllocError> {
+        begin_section(text, "wide", Chapter::Bounds)?;
+        text.push_str("<div class=\"rows\">\n")?;
+        add_facts(text, self.facts)?;
+        text.push_str(END_SECTION)
+    }
+}
+
+/// Begins the section of a chapter.
+fn begin_section(text: &mut String, class: &str, chapter: Chapter) -> Result<(), AllocError> {
+    let (label, heading) = heading_of(chapter);
+    writeln!(text, r#"<section class="{class}" aria-label="{label}">"#)?;
+    writeln!(text, "<h2>{heading}</h2>")
+}
+
+/// Returns the name of a chapter, and its heading.
+fn heading_of(chapter: Chapter) -> (&'static str, &'static str) {
+    match chapter {
+        Chapter::Tokens => ("Tokens", "Tokens: line, column, kind, text"),
+        Chapter::Derivation => ("Derivation", "Derivation: each step of the parser"),
+        Chapter::Tree => ("Tree", "Tree"),
+        Chapter::Svg => ("Pictures", "Derivation tree, and tree"),
+        Chapter::Code => ("Lines", "Each line of the source, and its code"),
+        Chapter::Operations => ("Operations", "Code, and the operations in its place"),
+        Chapter::Flow => (
+            "Control flow",
+            "Control flow: a jump is at the side, with a 0 if it is one of two ways; nothing leads to a block with a broken edge",
+        ),
+        Chapter::Bounds => (
+            "Before a match",
+            "Before a match: line, function, what a call or a turn takes",
+        ),
+    }
+}
+
+/// Adds lines of text as rows. If they are a listing, a line of the source is kept together with its code.
+fn add_lines(text: &mut String, lines: &str, is_listing: bool) -> Result<(), AllocError> {
+    text.push_str("<div class=\"rows\">\n")?;
+    let mut is_open = false;
+    for line in lines.trim_end().split('\n') {
+        if is_listing && begins_line(line) {
+            text.push_str(if is_open { "</div>\n" } else { "" })?;
+            text.push_str("<div class=\"b\">\n")?;
+            is_open = true;
+        }
+        writeln!(text, "<div>{}</div>", Escaped(line))?;
+    }
+    text.push_str(if is_open { "</div>\n" } else { "" })
+}
+
+/// Reports whether a line of a listing is one of the source.
+fn begins_line(line: &str) -> bool {
+    match line.split_once('|') {
+        Some((number, _)) => number
+            .trim_ascii()
+            .bytes()
+            .all(|byte| byte.is_ascii_digit()),
+        None => false,
+    }
 }
 
 /// Adds the colours, by their hue, and for each line that its rows are marked together.
@@ -94,15 +233,6 @@ fn add_instruction(text: &mut String, robot: &Robot, address: usize) -> Result<(
     write!(text, r##" id="c{address}"><a href="#s{line}">{line}</a>"##)?;
     write!(text, r#"<i class="n">{address}</i><b>{instruction}</b>"#)?;
     writeln!(text, "<i>{name}</i></div>")
-}
-
-/// Adds the control flow graph of each function.
-fn add_charts(text: &mut String, robot: &Robot) -> Result<(), AllocError> {
-    let blocks = blocks_of(*text.allocator(), &robot.program)?;
-    for own in blocks.chunk_by(|_, next| robot.function_begun_at(next.begin).is_none()) {
-        add_chart(text, robot, own)?;
-    }
-    Ok(())
 }
 
 /// Adds what is known before a match: the lines on room, the row of each function and of each loop, and the rows on what

@@ -1,0 +1,6 @@
+int hits;
+main()
+{
+  int dx;
+  return;
+}
