@@ -102,7 +102,7 @@ impl TellsOfFile for Wish {
             &mut MemoryFeed::new(file.source, WINDOW_BYTES),
         ) {
             Ok(_) if self.lint => {
-                let is_warned = tell_all_warnings(output, alloc, &file, tokens.as_slice())?;
+                let is_warned = tell_all_warnings(output, alloc, &file, tokens)?;
                 Ok(self.strict && is_warned)
             }
             Ok(_) => Ok(false),
@@ -119,17 +119,28 @@ impl TellsOfFile for Wish {
     }
 }
 
-/// Tells the warnings about a file that compiles. Reports whether there are some.
+/// Tells the warnings about a file that compiles. Reports whether there are some. Its tokens are given back before room is
+/// asked for.
 fn tell_all_warnings(
     output: &mut Output,
     alloc: Global,
     file: &SourceFile<'_>,
-    tokens: &[Located],
+    tokens: Vec<Located>,
 ) -> Result<bool, Fault> {
-    let warnings = warnings_of(file.source, tokens, file.profile);
-    tell_warnings(output, file, tokens, &warnings)?;
+    let is_warned = tell_code_warnings(output, file, tokens)?;
     let lacks = add_want_of_room(output.text(), alloc, file)?;
-    Ok(lacks || !warnings.list().is_empty())
+    Ok(lacks || is_warned)
+}
+
+/// Tells the warnings about the code of a file that compiles. Reports whether there are some.
+fn tell_code_warnings(
+    output: &mut Output,
+    file: &SourceFile<'_>,
+    tokens: Vec<Located>,
+) -> Result<bool, Fault> {
+    let warnings = warnings_of(file.source, tokens.as_slice(), file.profile);
+    tell_warnings(output, file, tokens.as_slice(), &warnings)?;
+    Ok(!warnings.list().is_empty())
 }
 
 /// Tells the first fault of a file, and the warnings before it if they are asked for.

@@ -34,7 +34,8 @@ returns-in-Restart-clause-told g c = λ sights f trace stands at told.
     c.in-Restart.ensures.code at in
     live_told (g.W.Watcher.told c.restart.new.watcher) sights turn.cycle turn.robot Restart
     (want_code c.args.self.now.code trace) f trace (sym (c.alive.ensures.stands f stands) ∙ c.if-not-alive.false) wants
-    (c.restart.ensures.told (sights ++ Runs turn.cycle turn.robot trace ∷ []) (c.turn.ensures.told sights trace at told))
+    (c.restart.ensures.told (sights ++ Runs turn.cycle turn.robot trace ∷ [])
+    (c.turn.ensures.told sights trace at told))
 
 pub returns-in-Ask-clause-told : goal.returns-in-Ask-clause-told
 returns-in-Ask-clause-told g c = λ sights f trace stands at told.
