@@ -65,7 +65,10 @@ def of_pair(lookup: Lookup, replays: Replays, pair: Pair) -> Iterator[Any]:
 
 def of_seats(it: BySeat) -> list[int | str]:
     """The seats of a pair's robots, the first one's score from there, and of each series the seed, the first number and how many it has."""
-    return [it.seat, it.against, *numbers(it.score), *(part for one in it.series for part in (str(one.seed), one.first, one.matches))]
+    series: list[int | str] = []
+    for one in it.series:
+        series += [str(one.seed), one.first, one.matches]
+    return [it.seat, it.against, *numbers(it.score), *series]
 
 
 def numbers(it: Score) -> list[int]:
