@@ -88,6 +88,7 @@ def way(it: Window, name: str) -> Iterator[str]:
     it.driver.value("document.getElementById('against').value = 'dying'")
     it.follow("#try")
     it.until(f"/1\\) won 10 tied 0 lost 0 {name}.r\\n.*2\\) won 0 tied 0 lost 10 dying.r/.test(document.getElementById('sent').textContent)")
+    it.driver.settle()
     it.picture(f"workbench-{it.width}")
     if (found := it.driver.value("document.scrollingElement.scrollWidth")) > it.width:
         yield f"it is {found} wide"
