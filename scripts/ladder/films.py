@@ -15,11 +15,13 @@ from sites.films import before_all, film, order
 from sites.markup import tag
 from tools.output import replaced
 
-from .judging import LIMITING
+from .judging import limiting
 from .live import folder_of
 
 FOLDER = "replays"
 AT_A_TIME, KEPT = 2, 400
+# What makes a film keeps what is said meanwhile in a file.
+BLOCKS = 1 << 16
 # What lets a film begin by itself: on the wall nobody presses a button.
 PLAYING = b"""<script>
 const waiting = setInterval(() => {
@@ -46,7 +48,7 @@ def page(store: Store, seating: int, number: int) -> bytes | None:
         hashes = store.one("SELECT hashes FROM seating WHERE number = ?", seating)[0].split(",")
         called = [it.robot for it in battle.seats]
         made = film(order(Settings(rules.matches, rules.cycles, rules.seed, rules.profile), battle,
-                          [(name, source(store, sha256)) for name, sha256 in zip(called, hashes)]), LIMITING)
+                          [(name, source(store, sha256)) for name, sha256 in zip(called, hashes)]), limiting(BLOCKS))
     if made:
         keep(path, made)
     return made or None

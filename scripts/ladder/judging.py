@@ -13,8 +13,6 @@ from tools.output import replaced
 # Seconds of the processor, and of the clock; KiB of memory. A proof says that the programs end: these are for the case that it doesn't
 # hold of what runs here.
 SECONDS, PATIENCE, MEMORY = 10, 30, 1 << 20
-LIMITED = f'ulimit -t {SECONDS}; ulimit -v {MEMORY}; ulimit -f 0; ulimit -c 0; exec "$@"'
-LIMITING = ("sh", "-c", LIMITED, "sh")
 WORDS_MAX = 4000
 FILE = "robot.r"
 
@@ -28,10 +26,15 @@ class Programs:
     trace: str = ""
 
 
+def limiting(blocks: int) -> tuple[str, ...]:
+    """The words before a program that limit it. A file that it writes has at most so many blocks of 512 bytes."""
+    return "sh", "-c", f'ulimit -t {SECONDS}; ulimit -v {MEMORY}; ulimit -f {blocks}; ulimit -c 0; exec "$@"', "sh"
+
+
 def ran(words: list[str]) -> subprocess.CompletedProcess[bytes]:
     """Runs a program with the limits."""
     try:
-        return subprocess.run([*LIMITING, *words], stdin=subprocess.DEVNULL, capture_output=True, timeout=PATIENCE, check=False)
+        return subprocess.run([*limiting(0), *words], stdin=subprocess.DEVNULL, capture_output=True, timeout=PATIENCE, check=False)
     except (OSError, subprocess.TimeoutExpired) as why:
         raise Fault(f"{words[0]} can't be run, or doesn't end", PROGRAM) from why
 

@@ -43,7 +43,8 @@ attempts.SECONDS = 86400.0
 
 
 def installed(folder: str, programs: list[str]) -> None:
-    """Lays the programs into a folder under the names of their commands."""
+    """Lays the programs into a folder under the names of their commands. A server that runs here finds them first, too."""
+    os.environ["PATH"] = f"{folder}/bin:{os.environ['PATH']}"
     os.makedirs(os.path.join(folder, "bin"))
     for name, program in zip(NAMES, programs):
         os.symlink(program, os.path.join(folder, "bin", name))
@@ -211,8 +212,7 @@ class Base:
     def __init__(self, folder: str) -> None:
         self._folder = os.path.join(folder, type(self).__name__)
         os.makedirs(self._folder)
-        path = f"{folder}/bin:{os.environ['PATH']}"
-        self._environment = os.environ | {"PYTHONPYCACHEPREFIX": f"{folder}/cache", "LC_ALL": "C.UTF-8", "PATH": path}
+        self._environment = os.environ | {"PYTHONPYCACHEPREFIX": f"{folder}/cache", "LC_ALL": "C.UTF-8"}
         self._environment.pop("PYTHONDONTWRITEBYTECODE", None)
         self._ladders: dict[str, Ladder] = {}
 

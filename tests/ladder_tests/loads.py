@@ -33,6 +33,8 @@ HAND_IN, READ, EACH = 1.0, 0.1, 2.0
 class Loads(Base):
     """Tests of load, with the player beside the server."""
 
+    _RULES = tuple(os.environ.get("LADDER_RULES", "-l300 -m 4").split())
+
     def all_are_answered(self) -> Iterator[str]:
         ladder = self._made("many")
         ladder.serve()

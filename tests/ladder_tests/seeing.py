@@ -229,6 +229,7 @@ class Seeing(Base):
 def fits(it: Window, name: str) -> Iterator[str]:
     """Whether a page is wider than its window was made, as one that is too wide makes the window of a telephone wider; a picture of it,
     if there are to be some."""
+    it.driver.settle()
     it.picture(f"{name}-{it.width}")
     if (found := it.driver.value(WIDTH)) > it.width:
         yield f"{name} is {found} wide, and the window {it.width}"

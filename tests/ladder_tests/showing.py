@@ -109,7 +109,7 @@ class Showing(Base):
         code = "import resource as it; print(*(it.getrlimit(one)[0] for one in (it.RLIMIT_CPU, it.RLIMIT_AS, it.RLIMIT_FSIZE)))"
         with mock.patch("sites.films.REPLAY", code), opened(ladder.folder) as store:
             found = films.page(store, 1, 1)
-        if not found or found.split() != [b"%d" % it for it in (judging.SECONDS, judging.MEMORY * 1024, 0)]:
+        if not found or found.split() != [b"%d" % it for it in (judging.SECONDS, judging.MEMORY * 1024, films.BLOCKS * 512)]:
             yield f"{found!r}"
 
     def a_rung_is_four_of_five_from_either_seat(self) -> Iterator[str]:

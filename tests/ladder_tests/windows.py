@@ -41,6 +41,9 @@ class Driver(Protocol):
     def look(self, width: int, height: int) -> None:
         """Gives the window a size."""
 
+    def settle(self) -> None:
+        """Shows a page that a link or a form led to in this size."""
+
     def type(self, text: str) -> None:
         """Writes into what has the focus."""
 
@@ -62,6 +65,9 @@ class Chromium:
         self.value, self.picture, self.look = browser.value, browser.picture, browser.look
         browser.call("Page.addScriptToEvaluateOnNewDocument", source=TRAP)
 
+    def settle(self) -> None:
+        pass
+
     def open(self, address: str) -> None:
         self._browser.call("Page.navigate", url=address)
 
@@ -82,7 +88,17 @@ class Fox:
     def __init__(self, driver: Firefox) -> None:
         self._driver = driver
         self.messages: list[str] = []
-        self.look = driver.set_window_size
+        self._width = 0
+
+    def look(self, width: int, height: int) -> None:
+        self._width = width
+        self._driver.set_window_size(width, height)
+
+    def settle(self) -> None:
+        self._driver.magnify()
+        end = time.monotonic() + SECONDS
+        while self.value("innerWidth") != self._width and time.monotonic() < end:
+            time.sleep(MOMENT)
 
     def value(self, expression: str) -> Any:
         return self._driver.execute_script(f"return {expression}")

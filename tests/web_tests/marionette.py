@@ -20,9 +20,7 @@ LOST_KEY, TRIES, SECONDS_BETWEEN = "NS_ERROR_FAILURE", 5, 0.1
 LEAST_WIDTH, SCALES = 500, (1, 1.5, 2)
 ELEMENT = "element-6066-11e4-a52e-4f735466cecf"
 PREFERENCES = {"marionette.port": 0, "browser.shell.checkDefaultBrowser": False, "datareporting.policy.dataSubmissionEnabled": False,
-               "browser.aboutwelcome.enabled": False, "app.update.enabled": False, "dom.w3c_touch_events.enabled": 1,
-               # a page that is reached by a link is magnified as the one before it
-               "browser.zoom.siteSpecific": False}
+               "browser.aboutwelcome.enabled": False, "app.update.enabled": False, "dom.w3c_touch_events.enabled": 1}
 
 
 def program() -> str | None:
@@ -97,6 +95,10 @@ class Firefox:
         before, self._scale = self._scale, next(it for it in SCALES if width * it >= LEAST_WIDTH)
         self.ask("WebDriver:SetWindowRect", width=round(width * self._scale), height=round(height * self._scale))
         self._magnify(before)
+
+    def magnify(self) -> None:
+        """Shows a page that a link or a form led to in the window's scale."""
+        self._magnify(0)
 
     def _magnify(self, present: float) -> None:
         """Shows the page in the window's scale, and no more in the present one; a page that is opened has that of 1."""
