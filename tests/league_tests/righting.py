@@ -139,6 +139,22 @@ class Righting(Base):
         ran = it.ran("correct", "entry", "--undo", "--why=x")
         return [] if ran.returncode == 2 and it.missing() == 100 else [f"status {ran.returncode}, {ran.stderr}"]
 
+    def robots_that_rules_name_stay(self) -> list[str]:
+        """Whoever has the fixed rating, or plays all others, can't leave until the rules name it no more, and nobody leaves with it; others may."""
+        wrong = []
+        for number, (named, unnamed, robot, other) in enumerate((("--anchor=a=5", "--anchor=none", "a", "b"), ("--mode=gauntlet:b", "--mode=pairs", "b", "a"))):
+            it = League(self, f"stays{number}", robots=("a.r", "b.r", "c.r"))
+            it.run("rules", named)
+            for words in ([robot], ["c", robot]):
+                ran = it.ran("withdraw", *words)
+                if ran.returncode != 2 or f"the rules name the robot {robot}, so it can't leave" not in ran.stderr:
+                    wrong.append(f"{named}, withdraw {words}: {ran.returncode}, {ran.stdout}{ran.stderr}")
+            if left := it.rows("SELECT robot FROM entry WHERE what = 'withdraw'"):
+                wrong.append(f"{named}: {left} left")
+            statuses = [it.ran(*words).returncode for words in (("withdraw", "c"), ("rules", unnamed), ("withdraw", robot), ("withdraw", other))]
+            wrong += [] if statuses == [0, 0, 0, 0] else [f"{named}: {statuses}"]
+        return wrong
+
     def what_is_no_file(self) -> list[str]:
         """A pipe that nobody writes to isn't waited for, and a file of anything is refused in one line."""
         it = League(self, "files", robots=("a.r", "b.r"))

@@ -41,7 +41,7 @@ def is_accepted(before: bytes, after: bytes, bit: int) -> bool:
 
 
 def begun(module: bytes) -> list[int]:
-    """With which values the globals of a module begin that change: only the stack's pointer does."""
+    """With which values the globals of a module begin that change: the first is the stack's pointer."""
     reader, found = Reader(parts_of(module)[GLOBAL]), []
     for _ in reader.items():
         _, is_changed, _, value, _ = reader.byte(), reader.byte(), reader.byte(), reader.number(True), reader.byte()
@@ -62,7 +62,7 @@ def stack(module: bytes) -> list[str]:
     """The stack has the first bytes of the memory, from its greatest address down to 0. So what is past it is no address, and nothing is
     spoiled: an access there ends the call."""
     pointers, places = begun(module), data_places(module)
-    wrong = [] if pointers == [STACK_BYTES] else [f"the stack begins at {pointers}"]
+    wrong = [] if pointers[:1] == [STACK_BYTES] else [f"the stack begins at {pointers}"]
     return wrong + ([] if places and min(places) >= STACK_BYTES else [f"data are at {sorted(places)[:3]}"])
 
 
