@@ -78,7 +78,7 @@ impl<'a> Lookaheads<'a> {
 
     /// Adds to FIRST of each symbol what each of its productions begins with. Reports whether something was new.
     fn grow_firsts(&mut self) -> bool
-        ensures still { result ≡ false → self.new ≡ self.old }
+        ensures still { result ≡ false → self.new.firsts.items ≡ self.old.firsts.items }
     {
         let mut grows = false;
         let table = self.table;
@@ -94,7 +94,7 @@ impl<'a> Lookaheads<'a> {
 
     /// Adds to FOLLOW of each symbol what comes after it in each production. Reports whether something was new.
     fn grow_follows(&mut self) -> bool
-        ensures still { result ≡ false → self.new ≡ self.old }
+        ensures still { result ≡ false → self.new.follows.items ≡ self.old.follows.items }
     {
         let mut grows = false;
         let table = self.table;
@@ -109,7 +109,7 @@ impl<'a> Lookaheads<'a> {
     /// Adds to FOLLOW of each symbol of a production what comes after it there. If that may be nothing, what follows the
     /// production's own symbol comes after it too. Reports whether something was new.
     fn grow_by_row(&mut self, row: &TableRow) -> bool
-        ensures still { result ≡ false → self.new ≡ self.old }
+        ensures still { result ≡ false → self.new.follows.items ≡ self.old.follows.items }
     {
         let mut grows = false;
         for (index, item) in row.items.iter().enumerate() {

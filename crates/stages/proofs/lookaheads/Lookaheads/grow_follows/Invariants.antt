@@ -3,4 +3,4 @@ use Rattle.stages.proofs.lookaheads.Lookaheads.grow_follows.Given as goal
 
 -- as long as nothing was new, the sets are as they were
 abbrev pub invariant-loop-row : goal.invariant-loop-row
-invariant-loop-row l = l.grows ≡ false → l.self ≡ l.initial.self
+invariant-loop-row l = l.grows ≡ false → l.self.follows.items ≡ l.initial.self.follows.items
