@@ -130,7 +130,8 @@ class Part:
         of_pairs = product(squares, those.variances[robot])
         freedom = together([(of_pairs, those.freedom[robot]), *((it, one.freedom) for (it, _), one in zip(spreads, those.spreads[robot]))])
         third = product([*map(mul, squares, far)], those.thirds[robot]) + sum(it for _, it in spreads)
-        upsets = [those.size(robot) / 2 * abs(it) * each for it, each in zip(far, those.each[robot])]
+        half = those.size(robot) / 2
+        upsets = [half * abs(it) * each for it, each in zip(far, those.each[robot])]
         unseen = [UNSEEN * it * it * part for it, part in zip(upsets, self._parts(robot, upsets))]
         among_all = product(squares, self._variances[robot]) + more
         return Own(of_pairs + more, third, sum(unseen), product(unseen, upsets), among_all, freedom, self._sparse)

@@ -18,8 +18,9 @@ import subprocess
 import tempfile
 import time
 import xml.etree.ElementTree
+from collections import Counter
 from pathlib import Path
-from typing import Any
+from typing import Any, Sequence
 
 from harness import skip
 from packages import lacking
@@ -52,6 +53,8 @@ FILES = {"switch.r": SWITCH, "switched.r": SWITCH.replace("5 /*", "9 /*"), "dies
          "unused.r": UNUSED, "bad.r": "main(){\nbreak; }", "plain.r": "main(){int a; a = 7;}", "field/a.r": STILL + "/* a */",
          "field/b.r": "main(){while(1) cannon(0,0);}", "field/notes.txt": "no robot"}
 WORDS = ("-l400", "--quiet")
+# So many seconds a script may take where a machine has much else to do.
+PATIENCE = 3000
 SAID = "tune: the tuned robot is judged against the robots that it was tuned against; --judge names others\n"
 Ran = subprocess.CompletedProcess[str]
 
@@ -72,7 +75,7 @@ class Playing:
         return [str(TOP / "scripts" / "tune"), *self._programs[:2 if "--crobots" in words else 4], *WORDS, *words]
 
     def _run(self, *words: str, **how: Any) -> Ran:
-        given: dict[str, Any] = {"capture_output": True, "text": True, "timeout": 300} | how
+        given: dict[str, Any] = {"capture_output": True, "text": True, "timeout": PATIENCE} | how
         return subprocess.run(self._words(*words), cwd=self._folder, check=False, **given)
 
     def _refused(self, said: str, *words: str, status: int = 2) -> list[str]:
@@ -228,8 +231,8 @@ class Playing:
     def how_many_matches_a_trial_has(self) -> list[str]:
         """Those of --round, half of them in each seat: most series are those of the evolution."""
         wrong = []
-        for matches in (24, 40):
-            self._run("-j1", "-m2", "--budget", "12000", "--round", str(matches), "--journal", f"round{matches}", "two.r", "still.r")
+        for matches in (12, 18):
+            self._run("-j1", "-m2", "--budget", "4000", "--round", str(matches), "--journal", f"round{matches}", "two.r", "still.r")
             counts = re.findall(r" count=(\d+) ", (self._folder / f"round{matches}").read_text(encoding="ascii"))
             wrong += [] if statistics.mode(counts) == str(matches // 2) else [f"{matches}: {counts[-20:]}"]
         return wrong
@@ -406,38 +409,44 @@ class Playing:
         """One line says why it ended; what is in the journal is whole, and from there it goes on to the same answer."""
         wrong = []
         limit = lambda: resource.setrlimit(resource.RLIMIT_FSIZE, (9000, 9000))  # noqa: E731
-        for number, words in enumerate((("--sweep", "-m40", "draws.r", "still.r", "other.r"), ("-m40", "--budget", "2000", "two.r", "still.r"))):
+        for number, words in enumerate((("--sweep", "-m20", "draws.r", "still.r", "other.r"), ("-m20", "--budget", "600", "two.r", "still.r"))):
             journal = self._folder / f"full{number}"
             ran = self._run(*words, "--journal", journal.name, preexec_fn=limit)
             kept = journal.read_text(encoding="ascii")
             right = (ran.stdout, ran.stderr.removeprefix(SAID), ran.returncode) == ("", f"tune: cannot write {journal.name}: File too large\n", 3)
             wrong += [] if right and kept.endswith("\n") and 5 < kept.count("\n") else [f"{words}: {ran!r:.400}, {len(kept)} bytes"]
-            wrong += [] if self._run(*words, "--journal", journal.name).stdout == self._run(*words).stdout else [f"{words}: another answer"]
-            grown = journal.read_text(encoding="ascii")
-            wrong += [] if grown.startswith(kept) and len({*grown.splitlines()}) == grown.count("\n") else [f"{words}: something was played twice"]
+            wrong += self._gone_on(journal, kept, (*words, "--journal", journal.name), words)
         return wrong
 
     def a_signal_that_stops_it(self) -> list[str]:
-        """It says how far it was, and the journal has that: nothing of it is played again."""
-        wrong = []
-        for words in (("-m40", "--budget", "40000", "two.r", "still.r"), ("--sweep", "-m4000", "draws.r", "still.r", "other.r")):
+        """It says how far it was, and the journal has that: nothing of it is played again. Here the eighth series sends the signal."""
+        wrong, stops = [], self._folder / "stops"
+        stops.write_text(f"""#!/bin/sh\ncase $1 in -c) ;; *) echo >> calls; [ $(wc -l < calls) -ne 8 ] || kill -INT $PPID;; esac\nexec {self._crobots} "$@"\n""",
+                         encoding="ascii")
+        stops.chmod(0o755)
+        for words in (("-m20", "--budget", "600", "--round", "20", "two.r", "still.r"), ("--sweep", "-m20", "draws.r", "still.r")):
+            (self._folder / "calls").unlink(missing_ok=True)
             journal = self._folder / f"stopped{len(words)}"
-            with subprocess.Popen(self._words(*words, "--journal", journal.name), cwd=self._folder, stdout=subprocess.PIPE, stderr=subprocess.PIPE, text=True) as child:
-                while child.poll() is None and not (journal.exists() and journal.read_bytes().count(b"\n") > 5):
-                    time.sleep(0.01)
-                child.send_signal(signal.SIGINT)
-                shown, told = child.communicate()
+            resumed = ("--crobots", str(stops), "-j1", *words, "--journal", journal.name)
+            ran = self._run(*resumed)
             kept = journal.read_text(encoding="ascii")
-            said = re.fullmatch(rf"tune: stopped: (\d+) of \d+ series were played, \d+ matches; {journal.name} has what was played\n", told.removeprefix(SAID))
-            wrong += [] if (shown, child.returncode) == ("", 130) and said and int(said[1]) == kept.count("\n") else [f"{words}: {shown} {told} {child.returncode}"]
-            wrong += [] if self._run(*words, "--journal", journal.name).stdout == self._run(*words).stdout else [f"{words}: another answer"]
-            grown = journal.read_text(encoding="ascii")
-            wrong += [] if grown.startswith(kept) and len({*grown.splitlines()}) == grown.count("\n") else [f"{words}: something was played twice"]
+            said = re.fullmatch(rf"tune: stopped: 7 of \d+ series were played, \d+ matches; {journal.name} has what was played\n", ran.stderr.removeprefix(SAID))
+            wrong += [] if (ran.stdout, ran.returncode, kept.count("\n")) == ("", 130, 7) and said else [f"{words}: {ran!r:.400}"]
+            wrong += self._gone_on(journal, kept, resumed, words)
         return wrong
+
+    def _gone_on(self, journal: Path, kept: str, resumed: Sequence[str], words: Sequence[str]) -> list[str]:
+        """Whether a journal that has this leads to the answer that there is without one, and no match is played twice."""
+        wrong = [] if self._run(*resumed).stdout == self._run(*words).stdout else [f"{words}: another answer"]
+        grown = journal.read_text(encoding="ascii")
+        heads = re.findall(r" seed=(\d+) first=(\d+) count=(\d+) sha256=(\S+) ", grown)
+        counts = Counter((seed, robots, int(first) + at) for seed, first, count, robots in heads for at in range(int(count)))
+        is_whole = grown.startswith(kept) and len(heads) == grown.count("\n") > kept.count("\n")
+        return wrong + ([] if is_whole and max(counts.values()) == 1 else [f"{words}: {counts.most_common(2)}, or the journal is another"])
 
     def _sh(self, command: str) -> Ran:
         """What a command of a shell comes to."""
-        return subprocess.run(["bash", "-c", command], cwd=self._folder, stdin=subprocess.DEVNULL, capture_output=True, text=True, check=False, timeout=300)
+        return subprocess.run(["bash", "-c", command], cwd=self._folder, stdin=subprocess.DEVNULL, capture_output=True, text=True, check=False, timeout=PATIENCE)
 
     def a_curve_as_it_is_seen(self) -> list[str]:
         """In a browser no text of the picture is beyond its edges."""
