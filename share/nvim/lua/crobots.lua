@@ -52,8 +52,6 @@ local function ask(name, arguments, act)
   end
   D.number = D.number + 1
   D.waits[D.number] = act or false
-  -- an empty table is a list to the encoder
-  arguments = next(arguments) and arguments or vim.empty_dict()
   local body = vim.json.encode({ seq = D.number, type = 'request', command = name, arguments = arguments })
   D.input:write('Content-Length: ' .. #body .. '\r\n\r\n' .. body)
 end
