@@ -1,8 +1,8 @@
 -- The names of lists of tokens, as the lists grow.
-use Rattle.std.specs.Prelude.{ℕ, ◌+◌, ◌≡◌, ◌<◌, List, [], ◌∷◌, ◌++◌, None, Option, length, slice_index_or, take}
-use Rattle.std.specs.List.{cons_option, filter_map}
+use Rattle.std.specs.Prelude.{ℕ, ◌+◌, ◌≡◌, ◌<◌, List, [], ◌∷◌, ◌++◌, None, length, slice_index_or, take}
+use Rattle.std.specs.List.{filter_map}
 use Rattle.std.proofs.Common.{ap, sym, ◌∙◌}
-use Rattle.std.proofs.lemmas.List.{append-nil, take_more}
+use Rattle.std.proofs.lemmas.List.{take_more}
 use Rattle.std.proofs.lemmas.List.Elements.{filter_map-append}
 use Rattle.derivations.specs.declared.locations.Located.{Located}
 use Rattle.know.specs.Names.{name_of, names_of}
@@ -25,9 +25,8 @@ names_more tokens i located less is =
 pub names_kept : (list : List Located) (located : Located) → name_of located.token ≡ None →
     names_of (list ++ located ∷ []) ≡ names_of list
 names_kept list located none =
-    names_joined list located
-    ∙ ap (λ (o : Option (List ℕ)). names_of list ++ cons_option o []) none
-    ∙ append-nil (names_of list)
+    let one : names_of (located ∷ []) ≡ [] = rw none in
+    grind (names_joined list located, one)
 
 -- the names of a list that grows with some tokens
 pub names_grown : (tokens old new : List Located) (i : ℕ) (located : Located) → i < length tokens →
