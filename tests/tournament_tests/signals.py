@@ -10,7 +10,7 @@ import signal
 import subprocess
 import time
 
-from web_tests.pages import as_loaded
+from web_tests.pages import is_in_time
 
 from .base import SCRIPTS, Base, read, write
 
@@ -36,12 +36,12 @@ class Signals(Base):
                 time.sleep(0.02)
             begun = time.monotonic()
             child.send_signal(number)
-            text, faults = child.communicate(timeout=20)
+            text, faults = child.communicate(timeout=300)
             taken = time.monotonic() - begun
             left = [it for it in os.listdir("/proc") if it.isdigit() and session_of(it) == child.pid]
             lines = len(self._lines(journal))
             said = f"tournament: stopped: {lines} of 78000 series were played, {4 * lines} matches; {journal} has what was played\n"
-            if (child.returncode, text, faults, left) != (128 + number, "", said, []) or taken > as_loaded(1):
+            if (child.returncode, text, faults, left) != (128 + number, "", said, []) or not is_in_time(taken, 1):
                 wrong.append(f"{child.returncode} {text!r} {faults!r} {left} {taken}")
         return wrong
 
@@ -68,7 +68,7 @@ class Signals(Base):
             assert child.stdout
             begun = child.stdout.read(6)
             child.send_signal(signal.SIGINT)
-            text, faults = child.communicate(timeout=20)
+            text, faults = child.communicate(timeout=300)
             got = (child.returncode, begun, text, faults)
             wrong += [] if got == (130, "rating", "", said) else [f"{got}, not {said}"]
         return wrong
