@@ -147,7 +147,8 @@ class Handing(Base):
         """While sources are hidden nothing of the site has a word of them, whatever it is asked for; when the season has ended all have it."""
         write(self.at("secret.r"), IDLE + "/* SECRET */")
         trace = self.at("bin/crobots-trace")
-        write(trace, "#!/bin/sh\necho 'Match 1: cycles = 300'; echo '   shots      SECRET 3 fired'\n")
+        objects = '{"match": 1, "cycles": 300, "robots": []}'
+        write(trace, f"#!/bin/sh\ncase \"$*\" in *--json*) echo '{objects}';; *) echo 'Match 1: cycles = 300'; echo '   shots      SECRET 3 fired';; esac\n")
         os.chmod(trace, 0o755)
         it = League(self, "hidden-league", "-m2", "--sources=hidden", robots=("secret.r", "a.r", "b.r"))
         it.run("play", "-j1")
