@@ -70,11 +70,7 @@ class Showing(Base):
 
     def a_lost_match_is_told_of_its_robot(self) -> Iterator[str]:
         """The page has the number of damage by its own shots, which the loser alone has, with names in place of hashes."""
-        ladder = self._made("told")
-        ladder.add("idle", other(1))
-        token = self._begun(ladder)
-        ladder.ask("PUT", "/robots/mine", SHOOTER, token=token)
-        ladder.run("play", "--quiet")
+        ladder, token = self._shot("told")
         text = ladder.ask("GET", "/robots/mine", token=token).text
         told = re.search('<pre class="sum">(.*?)</pre>', text, re.DOTALL)
         if "Against <bdi>idle</bdi>" not in text or not told or "mine" not in told[1] or re.search("[0-9a-f]{64}", told[1]):
@@ -84,11 +80,7 @@ class Showing(Base):
 
     def films_and_sources_have_no_origin(self) -> Iterator[str]:
         """So no script in them has a cookie, or reaches anything. A match that doesn't count by the rules of now has no film."""
-        ladder = self._made("films-origin")
-        ladder.add("idle", other(1))
-        token = self._begun(ladder)
-        ladder.ask("PUT", "/robots/mine", SHOOTER, token=token)
-        ladder.run("play", "--quiet")
+        ladder, token = self._shot("films-origin")
         for path, start in (("/replays/1/1", "sandbox allow-scripts;"), ("/robots/mine/versions/1", "sandbox;")):
             answer = ladder.ask("GET", path, token=token)
             policy = answer.heads.get("content-security-policy", "")
@@ -171,6 +163,15 @@ class Showing(Base):
             tempfile.tempdir = before
         if (found := sorted(os.listdir(folder))) != ["crobots-ladder-young", "other"]:
             yield f"{found}"
+
+    def _shot(self, name: str) -> tuple[Ladder, str]:
+        """A ladder in which an author's robot, which shoots, has played against another; and the author's token."""
+        ladder = self._made(name)
+        ladder.add("idle", other(1))
+        token = self._begun(ladder)
+        ladder.ask("PUT", "/robots/mine", SHOOTER, token=token)
+        ladder.run("play", "--quiet")
+        return ladder, token
 
     def _fought(self, ladder: Ladder, sides: dict[str, tuple[str, ...]]) -> None:
         """Keeps what `mine` and others did: results in the first seat, and in the second one."""
