@@ -46,10 +46,10 @@ impl Default for Located {
     }
 }
 
-/// Finds all tokens of a source, the last one included: the end, or a lexical error. The only error is that memory is
-/// refused.
+/// Finds all tokens of a source, the last one included: the end, or a lexical error. Memory is asked for once, for as
+/// many as there are. The only error is that it is refused.
 pub fn locate(alloc: Global, source: &[u8]) -> Result<Vec<Located>, AllocError> {
-    let mut tokens = Vec::new(alloc);
+    let mut tokens = Vec::with_capacity(alloc, count_tokens(source))?;
     let mut feed = MemoryFeed::new(source, WINDOW_BYTES);
     let Ok(mut cursor) = Cursor::open(&mut feed) else {
         return Ok(tokens);
@@ -63,6 +63,23 @@ pub fn locate(alloc: Global, source: &[u8]) -> Result<Vec<Located>, AllocError> 
         }
     }
     Ok(tokens)
+}
+
+/// Counts the tokens of a source, the last one included.
+fn count_tokens(source: &[u8]) -> usize {
+    let mut feed = MemoryFeed::new(source, WINDOW_BYTES);
+    let Ok(mut cursor) = Cursor::open(&mut feed) else {
+        return 0;
+    };
+    let mut count: usize = 0;
+    for _ in 0..MOST_SOURCE_BYTES + 2 {
+        let token = *cursor.peek();
+        count = count.saturating_add(1);
+        if token.token.is_last() || cursor.advance(&mut feed).is_err() {
+            break;
+        }
+    }
+    count
 }
 
 /// Tokens of a source that isn't too long, in memory of fixed size.
