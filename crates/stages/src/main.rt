@@ -54,7 +54,7 @@ use std::alloc::{AllocError, Global};
 use std::process::ExitCode;
 use tokens::{MemoryFeed, WINDOW_BYTES};
 use tools::{
-    Draft, Fault, OUTPUT_OPTIONS, Options, PROFILE_OPTIONS, ProgramFrame, Work, name_of, source_of,
+    Draft, Fault, OUTPUT_OPTIONS, Options, PROFILE_OPTIONS, Plain, ProgramFrame, Work, name_of, source_of,
     tell_diagnostic, write_to,
 };
 
@@ -65,6 +65,10 @@ const FRAME: ProgramFrame = ProgramFrame {
     usage: "(--tokens | --derivation | --tree | --dot | --svg | --code | --operations | --flow | --bounds | --html [--chapters LIST] | --run CYCLES [--replies LIST..]) [-pPROFILE] [-o FILE] FILE | --first [-o FILE]",
     known: &[&OPTIONS, &PROFILE_OPTIONS, &OUTPUT_OPTIONS],
 };
+
+/// The largest source of which a stage is shown, in bytes. A robot's whole code comes from a small part of that, and what
+/// is shown of a source can take over two hundred times its bytes in memory.
+const MOST_SHOWN_BYTES: usize = 262_144;
 
 /// Shows what the command line asks for, and returns the status.
 fn main(rt: HostRuntime) -> ExitCode {
@@ -85,13 +89,21 @@ impl Work for Stages {
         let source = source_of(rt, FRAME.name, request.file)?;
         let source = source.as_slice();
         let mut feed = MemoryFeed::new(source, WINDOW_BYTES);
+        let is_shown = source.len() <= MOST_SHOWN_BYTES;
         match compile(request.profile, &mut feed) {
+            Ok(_) if !is_shown => {
+                let file = Plain(name_of(request.file));
+                let _ = eprintln!(rt; "{file}: over {MOST_SHOWN_BYTES} bytes: no stage is shown");
+                Err(Fault::Source)
+            }
             Ok(made) => {
                 add_form(&mut text, &mut request, source, made)?;
                 write_to(rt, options, text.as_str())
             }
             Err(ParseFault::Source(fault)) => {
-                add_before_fault(&mut text, &request, source, fault)?;
+                if is_shown {
+                    add_before_fault(&mut text, &request, source, fault)?;
+                }
                 if !text.is_empty() {
                     write_to(rt, options, text.as_str())?;
                 }
