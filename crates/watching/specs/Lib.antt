@@ -6,6 +6,7 @@ pub mod Path
 pub mod Shots
 pub mod Runs
 pub mod Losses
+pub mod Heard
 pub mod Rounds
 pub mod Purposes
 pub mod Directions
@@ -13,5 +14,6 @@ pub mod Streaks
 pub mod Moments
 pub mod Hits
 pub mod KnownHits
+pub mod KnownHeard
 pub mod KnownSights
 pub mod Searches

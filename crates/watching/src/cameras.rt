@@ -1,6 +1,9 @@
 //! Cameras: what films a match as it is played.
 
-ghost use Rattle.std.specs.Prelude.{◌≡◌, ◌<◌, length};
+ghost use Rattle.std.specs.Prelude.{◌≡◌, ◌<◌, ◌++◌, ◌∷◌, List, [], length};
+ghost use Rattle.arena.specs.Field as field;
+ghost use Rattle.arena.specs.Representing.{RepresentsField};
+ghost use Rattle.watching.specs.Heard.{Heard, heard_of, restart_heard, shot_heard};
 
 use crate::events::{Event, Field, Listener};
 use crate::runs::Stance;
@@ -17,7 +20,9 @@ pub trait FilmRows: Listener {
 
     /// Takes an event of an earlier cycle, which goes before those of the last update.
     fn tell_before(&mut self, cycle: u32, robot: usize, event: &Event<'_>)
-        ensures { Self.keeps self.new ≡ Self.keeps self.old };
+        ensures heard { (events : List Heard) → Self.heard self.old events
+            → Self.heard self.new (events ++ heard_of cycle robot event.now ∷ []) }
+        ensures kept { Self.keeps self.new ≡ Self.keeps self.old };
 }
 
 /// What films a match: it is given what robots do, looks at them after each update, and gives rows to what takes them.
@@ -102,7 +107,10 @@ impl<R: FilmRows> Camera<R> {
         arena: &Arena,
     )
         requires { robot < length arena.now.robots }
-        ensures { R.keeps self.new.rows ≡ R.keeps self.old.rows }
+        ensures heard { (events : List Heard) (f : field.Field) → RepresentsField arena.now f
+            → R.heard self.old.rows events
+            → R.heard self.new.rows (events ++ shot_heard cycle robot arguments reply f ∷ []) }
+        ensures kept { R.keeps self.new.rows ≡ R.keeps self.old.rows }
     {
         let [degree, range] = arguments;
         let event = if reply == 0 {
@@ -137,7 +145,9 @@ impl<R: FilmRows> Camera<R> {
         function: &'n str,
         line: u32,
     )
-        ensures { R.keeps self.new.rows ≡ R.keeps self.old.rows }
+        ensures heard { (events : List Heard) → R.heard self.old.rows events
+            → R.heard self.new.rows (events ++ restart_heard cycle robot cause.entry function.entry line ∷ []) }
+        ensures kept { R.keeps self.new.rows ≡ R.keeps self.old.rows }
     {
         let line = Field::Number(i64::from(line));
         let fields = [Field::Text(cause), Field::Text(function), line];

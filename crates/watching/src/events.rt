@@ -1,6 +1,9 @@
 //! Events of a match: the kind of each, and what is said of it.
 
-ghost use Rattle.std.specs.Prelude.{◌≡◌, ◌≤◌, ℕ, List, [], length, map};
+ghost use Rattle.std.specs.Prelude.{◌≡◌, ◌≤◌, ◌++◌, ◌∷◌, ℕ, List, [], codes, length, map, pos};
+ghost use Rattle.arena.specs.Field as field;
+ghost use Rattle.arena.specs.Representing.{RepresentsField};
+ghost use Rattle.watching.specs.Heard.{Heard, heard_of, update_heard};
 ghost use Rattle.watching.specs.Losses.{loss_numbers, loss_word, number_of};
 
 use crate::runs::Stance;
@@ -71,7 +74,10 @@ impl<'a> Event<'a> {
     }
 
     /// Makes the event that a missile bursts: the place.
-    pub fn burst(burst: &Burst) -> Event<'a> {
+    pub fn burst(burst: &Burst) -> Event<'a>
+        ensures kind { result.kind.now ≡ codes "burst" }
+        ensures fields { result.fields.items ≡ map Field.Number (pos burst.now.at.x ∷ pos burst.now.at.y ∷ []) }
+    {
         Event::of_numbers("burst", &[i32::from(burst.x()), i32::from(burst.y())])
     }
 
@@ -96,23 +102,35 @@ impl<'a> Event<'a> {
     }
 }
 
-/// Takes the events of a match, one by one. `keeps` has numbers of it that no call changes, as where it writes to.
+/// Takes the events of a match, one by one. `heard` says whether it may have been told these, in this order: each call
+/// tells it one more. It holds always for a listener of which nothing is to be proved. `keeps` has numbers of it that no
+/// call changes, as where it writes to.
 pub trait Listener {
+    ghost heard: { Self → List Heard → Type 0 } = { λ _ _. Unit {0} };
+
     ghost keeps: { Self → List ℕ } = { λ _. [] };
 
     /// Takes an event of a robot in a cycle.
     fn tell(&mut self, cycle: u32, robot: usize, event: &Event<'_>)
-        ensures { keeps self.new ≡ keeps self.old };
+        ensures heard { (events : List Heard) → heard self.old events
+            → heard self.new (events ++ heard_of cycle robot event.now ∷ []) }
+        ensures kept { keeps self.new ≡ keeps self.old };
 
     /// Takes what the update does that follows this cycle: the bursts, and what each robot loses.
     fn tell_update(&mut self, cycle: u32, arena: &Arena)
-        ensures { keeps self.new ≡ keeps self.old }
+        ensures heard { (events : List Heard) (f : field.Field) → RepresentsField arena.now f
+            → length f.robots ≤ MOST_ROBOTS → heard self.old events → heard self.new (events ++ update_heard cycle f) }
+        ensures kept { keeps self.new ≡ keeps self.old }
     {
-        for burst in &arena.due() {
+        let due = arena.due();
+        let bursts = due.as_slice();
+        for burst in bursts {
             self.tell(cycle, burst.robot(), &Event::burst(burst));
         }
         for robot in 0..arena.robot_count() {
-            for loss in &losses(arena, robot) {
+            let lost = losses(arena, robot);
+            let parts = lost.as_slice();
+            for loss in parts {
                 self.tell(cycle, robot, &Event::loss(loss));
             }
         }
