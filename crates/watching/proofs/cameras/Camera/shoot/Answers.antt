@@ -19,26 +19,26 @@ returns-clause-heard g c = λ events f stands heard.
     elim c.if-reply-eq0.branch [
       | then-reply-eq0 w ↦
           rw (
-            ← refused_heard c.args.cycle c.args.robot event arguments c.args.reply f
-            (is_nothing c.args.reply c.ranges.reply w.if-reply-eq0.true)
-            (ap (λ (e : _). e.kind.now) w.event-is ∙ w.of_numbers-event.ensures.kind)
-            (ap (λ (e : _). e.fields.items) w.event-is
-            ∙ w.of_numbers-event.ensures.fields (omega arith)
-            ∙ ap₂ (λ a b. Number a ∷ Number b ∷ []) (to_z-of_z w32 _ first) (to_z-of_z w32 _ second)
-            ∙ ap (map Number) given)
+          ← refused_heard c.args.cycle c.args.robot event arguments c.args.reply f
+          (is_nothing c.args.reply c.ranges.reply w.if-reply-eq0.true)
+          (ap (λ (e : _). e.kind.now) w.event-is ∙ w.of_numbers-event.ensures.kind)
+          (ap (λ (e : _). e.fields.items) w.event-is
+          ∙ w.of_numbers-event.ensures.fields (omega arith)
+          ∙ ap₂ (λ a b. Number a ∷ Number b ∷ []) (to_z-of_z w32 _ first) (to_z-of_z w32 _ second)
+          ∙ ap (map Number) given)
           ) told
       | else-reply-eq0 w ↦
           rw (
-            ← fired_heard c.args.cycle c.args.robot event arguments c.args.reply f
-            (is_something c.args.reply w.if-reply-eq0.false)
-            (ap (λ (e : _). e.kind.now) w.event-is ∙ w.of_numbers-event-else-reply-eq0.ensures.kind)
-            (ap (λ (e : _). e.fields.items) w.event-is
-            ∙ w.of_numbers-event-else-reply-eq0.ensures.fields (omega arith)
-            ∙ four (to_z-of_z w32 _ first) (to_z-of_z w32 _ second)
-            (to_z-of_z w32 w.from.result (search rules) ∙ w.from.ensures ∙ ap pos (w.place-x.ensures.x f stands))
-            (to_z-of_z w32 w.from-else-reply-eq0.result (search rules)
-            ∙ w.from-else-reply-eq0.ensures
-            ∙ ap pos (w.place-x.ensures.y f stands))
-            ∙ ap (λ l. map Number (l ++ pos (place_x leg) ∷ pos (place_y leg) ∷ [])) given)
+          ← fired_heard c.args.cycle c.args.robot event arguments c.args.reply f
+          (is_something c.args.reply w.if-reply-eq0.false)
+          (ap (λ (e : _). e.kind.now) w.event-is ∙ w.of_numbers-event-else-reply-eq0.ensures.kind)
+          (ap (λ (e : _). e.fields.items) w.event-is
+          ∙ w.of_numbers-event-else-reply-eq0.ensures.fields (omega arith)
+          ∙ four (to_z-of_z w32 _ first) (to_z-of_z w32 _ second)
+          (to_z-of_z w32 w.from.result (search rules) ∙ w.from.ensures ∙ ap pos (w.place-x.ensures.x f stands))
+          (to_z-of_z w32 w.from-else-reply-eq0.result (search rules)
+          ∙ w.from-else-reply-eq0.ensures
+          ∙ ap pos (w.place-x.ensures.y f stands))
+          ∙ ap (λ l. map Number (l ++ pos (place_x leg) ∷ pos (place_y leg) ∷ [])) given)
           ) told
     ]
