@@ -18,7 +18,8 @@ use Rattle.watching.specs.KnownHeard.{KnownHeard}
 use Rattle.watching.specs.Losses.{losses_of}
 
 pub known : KnownHeard
-unfolding losses_heard shot_heard losses_of collides_with meets_wall due own_bursts burst_of next_leg taken_by is_live_at
+unfolding losses_heard shot_heard losses_of collides_with meets_wall due own_bursts burst_of next_leg taken_by
+    is_live_at
     answer fired field_with_wanted with_wanted argument_at degree_of clamped robot_at placed robot_at_rest is_alive
     damage_of no_robot shot aimed_x aimed_y flight in_air
     place_x place_y end_x end_y way_east way_north along leg_anew steered approached sped travelled is_outside hits_wall
