@@ -13,15 +13,17 @@ import subprocess
 import zlib
 from base64 import urlsafe_b64decode
 from dataclasses import replace
+from decimal import Decimal
 from pathlib import Path
 from typing import Any, Iterator
 
 from harness import skip
 from packages import lacking
-from sites import addresses, charts, colours, commands, links, lookups, names, notables, places, robot_data, scales, shares, sources, sums, verdicts
-from sites.facts import Battle, BySeat, Pair, Place, Score, Seat, Series, Settings
+from results.scores import Score
+from results.standings import Rating, Standing
+from sites import addresses, charts, colours, commands, links, lookups, names, notables, places, robot_data, scales, shares, sources, sums
+from sites.facts import Battle, BySeat, Pair, Seat, Series, Settings, Stay
 from sites.gathering import Gathering, Losses
-from sites.lookups import Stay, from_other_side
 from sites.markup import Markup, block, tag
 
 from . import made
@@ -105,12 +107,12 @@ def scores() -> Results:
     for counts, (low, high) in INTERVALS.items():
         found = shares.interval(Score(*counts))
         yield f"the interval of {counts}", abs(found[0] - low) < 5e-5 and abs(found[1] - high) < 5e-5
-    yield "the share of ties", shares.share(Score(6, 1, 3, 1)) == 0.7
-    yield "the other side", shares.turned(Score(6, 1, 3, 1)) == Score(2, 1, 7, 1)
+    yield "the share of ties", Score(6, 1, 3, 1).share == 0.7
+    yield "the other side", Score(6, 1, 3, 1).turned == Score(2, 1, 7, 1)
     even = Pair("a", "b", Score(5, 0, 5), 0.5, 0.5)
-    said = [verdicts.verdict(replace(even, low=low, high=high)).what for low, high in ((0.5, 0.9), (0.501, 0.9), (0.1, 0.5), (0.1, 0.499))]
+    said = [replace(even, low=low, high=high).decided.what for low, high in ((0.5, 0.9), (0.501, 0.9), (0.1, 0.5), (0.1, 0.499))]
     yield f"decided by the interval {said}", said == ["not decided", "better", "not decided", "worse"]
-    yield "no match", (shares.share(Score(0, 0, 0)), shares.interval(Score(0, 0, 0))) == (0.5, (0.0, 1.0))
+    yield "no match", (Score(0, 0, 0).share, shares.interval(Score(0, 0, 0))) == (0.5, (0.0, 1.0))
 
 
 def chosen() -> Results:
@@ -140,7 +142,7 @@ def gathered() -> Results:
     alone = tuple(Series(2**64 - number, number, 1) for number in (5, 4, 3, 2, 1))
     yield f"scores by seat {pair.seats}", pair.seats == (
         BySeat(1, 2, Score(1, 1, 3, 2), alone), BySeat(2, 1, Score(0, 0, 1, 0), (Series(2**64 - 9, 9, 1),)))
-    yield f"the score of both {pair.score}", pair.score == Score(1, 1, 4, 2) and abs(shares.share(pair.score) - 2.5 / 6) < 1e-9
+    yield f"the score of both {pair.score}", pair.score == Score(1, 1, 4, 2) and abs(pair.score.share - 2.5 / 6) < 1e-9
     yield from all_matches()
     lost = Losses({"a": 0, "b": 1, "c": 2, "x": 3})
     for robot, number in (("a", 2), ("b", 4), ("c", 6), ("c", 3)):
@@ -156,7 +158,7 @@ def all_matches() -> Results:
     one = next(it.pairs())
     series = {(by.seat, by.against): by.series for by in one.seats}
     yield f"all matches {series}", series == {(1, 2): (Series(3, 4, 1), Series(7, 1, 7)), (2, 1): (Series(8, 1, 2),)}
-    yield "turned", [(by.seat, by.series) for by in from_other_side(one).seats] == [(2, series[1, 2]), (1, series[2, 1])]
+    yield "turned", [(by.seat, by.series) for by in one.turned.seats] == [(2, series[1, 2]), (1, series[2, 1])]
 
 
 
@@ -280,7 +282,7 @@ def days_of_changes() -> Results:
     days = ["2026-03-05", "2026-03-12", "2026-03-20"]
     for day, is_drawn in CHANGES.items():
         yield f"a change on {day}", charts.during(days, [day]) == ([day] if is_drawn else [])
-    places_ = [Place(1, 10.0, 0.0, 20.0)] * 3
+    places_ = [Standing("a", 1, Score(), Decimal(0), Rating(10.0, 0.0, 20.0))] * 3
     stays = [Stay(day, "1", place) for day, place in zip(days, places_)]
     drawn = charts.over_time(stays, [*CHANGES], "a chart")
     xs = [float(it) for it in re.findall(r'<line x1="([\d.]+)" x2="[\d.]+" y1="[\d.]+" y2="[\d.]+" class="change">', drawn)]
