@@ -6,7 +6,7 @@ import argparse
 import os
 import re
 from dataclasses import replace
-from typing import Any
+from typing import Any, Iterable
 from urllib.parse import urlsplit
 
 from sites.addresses import page as address
@@ -157,6 +157,11 @@ class Words:
         self._playing()
         self._showing()
         self._serving()
+
+    @property
+    def names(self) -> Iterable[str]:
+        """The commands."""
+        return self._commands.choices
 
     def parse(self, arguments: list[str]) -> argparse.Namespace:
         """Reads the words. Options of a command and its other words may stand in any order."""

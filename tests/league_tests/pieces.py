@@ -6,6 +6,8 @@ import random
 
 from leagues import ladders, likeness, missing, seasons
 from leagues.entries import ADD, CHANGE, WITHDRAW, Entry
+from leagues.main import command
+from leagues.words import Words
 from tournaments.records import Series
 
 from .base import Base
@@ -13,6 +15,16 @@ from .base import Base
 
 class Pieces(Base):
     """What is worked out without a league."""
+
+    def commands_are_found(self) -> list[str]:
+        """Each command that the words have is a function of its own name, and no other word is one."""
+        names = [*Words("league").names]
+        wrong = [name for name in names if command(name).__name__ != name.replace("-", "_")]
+        try:
+            wrong.append(f"{command('tables')}")
+        except LookupError:
+            pass
+        return wrong + ([] if len(names) == 21 else [f"{names}"])
 
     def ladder_by_hand(self) -> list[str]:
         # robot 0 beats 1, 1 beats 2, 2 beats 0; 3 beats all

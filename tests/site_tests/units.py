@@ -21,10 +21,10 @@ from harness import skip
 from packages import lacking
 from results.scores import Score
 from results.standings import Rating, Standing
-from sites import addresses, charts, colours, commands, links, lookups, names, notables, places, robot_data, scales, shares, sources, sums
+from sites import addresses, charts, colours, columns, commands, index, links, lookups, names, notables, places, robot_data, scales, shares, sources, sums
 from sites.facts import Battle, BySeat, Pair, Seat, Series, Settings, Stay
 from sites.gathering import Gathering, Losses
-from sites.markup import Markup, block, tag
+from sites.markup import Markup, block, escaped, tag
 
 from . import made
 
@@ -68,6 +68,7 @@ def results() -> Results:
     yield from battle_links()
     yield from source_lines()
     yield from colour_steps()
+    yield from columns_of_tables()
     yield from axes()
     yield from days_of_changes()
     yield from addresses_of_pages()
@@ -271,6 +272,28 @@ def axes() -> Results:
     yield "a place beyond is the end", it.at(5000) == 100 and it.at(-5000) == 0
     yield "round numbers", it.ticks() == [0, 20, 40, 60]
     yield "one value", scales.scale([7.0], 0, 10).at(7) == 5
+
+
+def columns_of_tables() -> Results:
+    """Columns have names and numbers of their own, and one more stands on the page and in the data where it says, with what it says."""
+    for name, them in (("robots", columns.STANDINGS), ("pairs", columns.PAIRS)):
+        yield f"names of columns of {name}", len({it.name for it in them}) == len(them)
+        numbers_ = sorted(it.order for it in them if it.value)
+        yield f"numbers of columns of {name} {numbers_}", numbers_ == [*range(1, len(numbers_) + 1)]
+        yield f"columns of {name} without a cell or a value", all(it.cell or it.value or it.help for it in them)
+        yield f"titles of columns of {name}", all(bool(it.title) == bool(it.cell) for it in them)
+    lookup = lookups.Lookup(made.league(3))
+    more = [columns.Column[Standing]("half", "Half", "number", lambda _, row: f"{row.score.played / 2:g} <", 15, lambda _, row: row.score.played / 2),
+            *columns.STANDINGS]
+    csv = columns.written(lookup, more, lookup.facts.standings).splitlines()
+    # each has played ten against each of two
+    yield f"one more in the data {csv}", csv[0].endswith(",close,half") and all(line.endswith(",10.0") for line in csv[1:])
+    page = columns.tabled(columns.View(lookup), more, "Table", lookup.facts.standings)
+    yield "one more on the page", page.count('<th scope="col" class="number">Half</th><th scope="col" class="number">Rank</th>') == 1 and page.count(
+        '<td class="number">10 &lt;</td>') == 3
+    first = index.index(lookup)
+    said = [it.help.strip() for it in columns.STANDINGS if it.help]
+    yield "what is said of columns", len(said) >= 3 and all(escaped(it) in first for it in said)
 
 
 # Which changes are drawn in a chart of the days from the 5th to the 20th: those after the first table, up to the day of the last one.
