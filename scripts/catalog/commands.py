@@ -69,14 +69,14 @@ PROGRAMS = (
     Program("crobots-debug", "debug", ("--help",)),
 )
 SCRIPTS = (
-    Script("crobots-tournament", "tournament", ("tools", "tournaments", "sites", "replays"), "crobots"),
-    Script("crobots-challenge", "challenge", ("tools", "tournaments", "sites", "replays"), "crobots"),
-    Script("crobots-compare", "compare", ("tools", "comparisons", "tournaments", "sites", "replays"), "crobots-trace"),
+    Script("crobots-tournament", "tournament", ("tools", "tournaments", "results", "sites", "replays"), "crobots"),
+    Script("crobots-challenge", "challenge", ("tools", "tournaments", "results", "sites", "replays"), "crobots"),
+    Script("crobots-compare", "compare", ("tools", "comparisons", "tournaments", "results", "sites", "replays"), "crobots-trace"),
     Script("crobots-exercise", "exercise", ("tools", "exercises"), "crobots"),
-    Script("crobots-league", "league", ("tools", "leagues", "ladder", "tournaments", "sites", "replays"), "crobots"),
+    Script("crobots-league", "league", ("tools", "leagues", "ladder", "tournaments", "results", "sites", "replays"), "crobots"),
     Script("crobots-replay", "replay", ("tools", "replays"), "crobots-trace"),
     Script("crobots-step", "step", ("tools", "stepping"), "crobots-debug"),
-    Script("crobots-tune", "tune", ("tools", "tuning", "tournaments", "leagues", "sites", "replays"), "crobots"),
+    Script("crobots-tune", "tune", ("tools", "tuning", "tournaments", "leagues", "results", "sites", "replays"), "crobots"),
 )
 COMMANDS: tuple[Command, ...] = (*PROGRAMS, *SCRIPTS)
 # The game by itself, which is installed before the others.

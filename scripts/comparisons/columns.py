@@ -6,7 +6,7 @@ import os
 from typing import NamedTuple
 
 from tools.output import OUTPUT
-from tournaments.tables import width
+from tools.tables import width
 
 LEAST_WIDTH, MOST_LABEL = 80, 24
 SAME, OTHER = "   ", " | "

@@ -6,7 +6,7 @@ import argparse
 from typing import NoReturn
 
 from tools.faults import Fault
-from tournaments.words import CYCLES_MAX, DEFAULTS, MATCHES_MAX, SEED_MAX, Parser, within
+from tournaments.words import MATCHES_MAX, Parser, of_match, settle, within
 
 MOST_ROBOTS = 4
 
@@ -27,12 +27,7 @@ def parser(name: str) -> Parser:
     it.add_argument("--json", action="store_true", help="print the answer as JSON")
     it.add_argument("--robot", metavar="N", type=within(1, MOST_ROBOTS), default=1, help="number of the newer version among the files (default 1)")
     it.add_argument("-k", "-f", dest="match", metavar="MATCH", type=within(1, MATCHES_MAX), default=1, help="number of the match (default 1)")
-    it.add_argument("-l", dest="cycles", metavar="CYCLES", type=within(1, CYCLES_MAX), default=DEFAULTS["cycles"],
-                    help="most cycles of the match (default 500000)")
-    it.add_argument("-s", dest="seed", metavar="SEED", type=within(0, SEED_MAX), default=DEFAULTS["seed"],
-                    help="seed of the random numbers (default 1)")
-    it.add_argument("-p", dest="profile", metavar="PROFILE", type=within(1, 2), default=DEFAULTS["profile"],
-                    help="language profile, 1 or 2 (default 1)")
+    of_match(it, "most cycles of the match", "seed of the random numbers (default 1)")
     it.add_argument("files", metavar="FILE", nargs="+", help="the robots of the match, the newer version among them")
     return it
 
@@ -40,6 +35,7 @@ def parser(name: str) -> Parser:
 def read(name: str, arguments: list[str]) -> argparse.Namespace:
     """What the words ask for; refuses a match that isn't one of the newer version and others."""
     given = parser(name).read(arguments)
+    settle(given)
     if len(given.files) == 1:
         raise Fault("there is no robot to play against")
     if given.robot > len(given.files):

@@ -19,8 +19,8 @@ from leagues.words import checked
 from tools.faults import Fault
 from tools.output import say, show
 from tools.signals import watch
+from tools.tables import aligned, comma_separated
 from tournaments.programs import program
-from tournaments.tables import aligned, comma_separated
 
 from . import schema, seeds
 from .accounts import ORGANISER

@@ -14,7 +14,7 @@ from leagues.store import Store
 from sites.frames import section, sentence
 from sites.markup import Markup, joined, name_of, tag
 from sites.tables import NAME, NUMBER, TEXT, command_line, listed, table
-from tournaments.tables import comma_separated
+from tools.tables import comma_separated
 
 from .accounts import Who, authors, owners
 from .audits import last

@@ -11,13 +11,12 @@ from leagues.facts import is_hidden
 from leagues.naming import names
 from leagues.results import scores_of
 from leagues.rules import Rules
-from leagues.scores import mean
 from leagues.store import Store
+from results.scores import Score
 from sites import charts
 from sites.frames import section, sentence
 from sites.markup import Markup, block, joined, name_of, tag
 from sites.tables import NAME, NUMBER, TEXT, command_line, table
-from tournaments.tallies import Score
 
 from . import seeds
 from .accounts import Who, owners
@@ -168,7 +167,7 @@ def history(site: Site, store: Store, who: Who | None, name: str, may: bool) -> 
 
 def results(it: Score, rules: Rules) -> list[str]:
     """The cells of what a version did."""
-    return [str(it.played), str(it.won), str(it.tied), str(it.lost), f"{mean(it, rules):.3f}" if it.played else ""]
+    return [str(it.played), str(it.won), str(it.tied), str(it.lost), f"{rules.scoring.mean(it):.3f}" if it.played else ""]
 
 
 def version_links(site: Site, store: Store, who: Who | None, name: str, number: int, may: bool) -> list[str]:

@@ -12,8 +12,8 @@ from typing import Iterable, Iterator, Mapping
 from leagues.missing import gaps, needs
 from leagues.results import Results
 from leagues.schedules import Schedule
+from results.battles import Group
 from tournaments.records import Series
-from tournaments.settings import Group
 
 # A robot with fewer matches is a new one: it meets so many groups first.
 NEW, SPREAD = 24, 12

@@ -20,8 +20,11 @@ from leagues.schedules import Schedule
 from leagues.scores import ByRobot, points, scores, total
 from leagues.sessions import checked
 from leagues.sources import laid
-from leagues.standings import Standing, standings
+from leagues.standings import standings
 from leagues.store import Store, opened
+from results.battles import Group
+from results.scores import NONE, counted
+from results.standings import Standing
 from tools.faults import Fault
 from tools.output import replaced, say
 from tournaments.playing import Player
@@ -29,8 +32,6 @@ from tournaments.plans import Plan
 from tournaments.programs import Program, program, stamp
 from tournaments.records import Record, Series
 from tournaments.robots import Robot
-from tournaments.settings import Group
-from tournaments.tallies import Score
 
 from . import schema
 from .handing import author_names
@@ -195,10 +196,10 @@ def records(board: Board, until: float) -> Iterator[Record]:
 
 def count(parts: dict[Group, ByRobot], it: Record) -> None:
     """Adds a series to what was scored."""
-    of_group = parts.setdefault(it.series.group, {at: Score() for at in it.series.group})
+    of_group = parts.setdefault(it.series.group, {at: NONE for at in it.series.group})
     for letters in it.ended:
         for robot, letter in zip(it.series.seats, letters):
-            of_group[robot].add(letter, 1)
+            of_group[robot] = of_group[robot].plus(counted({letter: 1}))
 
 
 def fought(board: Board, it: Record) -> Fought:

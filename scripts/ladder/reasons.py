@@ -7,10 +7,11 @@ from typing import Iterator
 
 from leagues import seasons
 from leagues.naming import names
-from leagues.results import DEAD, Played, Results
+from leagues.results import Played, Results
 from leagues.schedules import Schedule
 from leagues.sources import laid
 from leagues.store import Store
+from results.battles import DEAD
 from sites.frames import section, sentence
 from sites.markup import Markup, block, joined, name_of, tag
 from tools.faults import Fault

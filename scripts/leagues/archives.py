@@ -12,12 +12,12 @@ import zipfile
 import zlib
 from typing import Iterable, Iterator, NamedTuple, Sequence
 
+from results.standings import Standing
 from tools.faults import FAULTY, FILE, Fault, unreadable, unwritable
 
 from . import older, tables
 from .entries import SOURCE_MAX, hashed
 from .schema import LATER, SCHEMA
-from .standings import Standing
 from .store import Store, filled, told
 
 # What reading an archive may come to that isn't one, or that somebody changed.

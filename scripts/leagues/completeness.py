@@ -9,8 +9,8 @@ from dataclasses import replace
 from functools import cached_property
 from typing import Iterable, Iterator, NamedTuple
 
+from results.battles import Group
 from tournaments.records import Series
-from tournaments.settings import Group
 
 from .entries import Entrant
 from .keys import copies_of, possible
@@ -20,7 +20,6 @@ from .results import Results
 from .rules import GAUNTLET, LADDER
 from .schedules import Schedule
 from .seasons import Field, Season, field, seasons
-from .sequential import FIRST, SECOND
 from .store import Store
 from .timelines import Ruled, State, is_known, ruled, within
 from .verdicts import Verdicts
@@ -119,8 +118,7 @@ class Judge:
 
         def won(newcomer: int, other: int) -> bool | None:
             met.append((min(newcomer, other), max(newcomer, other)))
-            it = self._verdicts.on(met[-1])
-            return it.better == (FIRST if newcomer < other else SECOND) if it.enough else None
+            return self._verdicts.won(newcomer, other)
 
         climbed(entering, won)
         return met

@@ -5,13 +5,12 @@ from __future__ import annotations
 from dataclasses import replace
 from typing import Callable, Iterator
 
-from tournaments.ratings import NOTHING
+from results.standings import NOTHING, Standing
 
 from . import chain
 from .entries import ADD, BEGIN, CHANGE, END, ENTRY, WITHDRAW, corrections, entries
 from .publications import SCALE, every, published, values
 from .seasons import seasons
-from .standings import Standing
 from .store import Store
 
 NEAR = 1e-6

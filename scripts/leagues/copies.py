@@ -9,6 +9,7 @@ import tempfile
 from dataclasses import dataclass
 from typing import Iterator, Sequence
 
+from results.standings import Standing
 from tools.faults import unwritable
 
 from .missing import missing
@@ -16,7 +17,7 @@ from .publications import Publication, publish
 from .results import Results
 from .schedules import Schedule
 from .seasons import Season, field, season
-from .standings import Standing, standings
+from .standings import standings
 from .store import NAME, Store, connected, path_of, told
 
 

@@ -5,11 +5,11 @@ from __future__ import annotations
 from collections import Counter
 from typing import Any, Iterator, Sequence
 
-from tournaments.tables import aligned, comma_separated
+from results.verdicts import BETTER, EVEN, OPEN, WORSE
+from tools.tables import aligned, comma_separated
 
 from .results import Results
 from .schedules import Schedule
-from .sequential import EVEN
 from .verdicts import Told, Verdicts, data, said
 
 HEAD = ["robot", "against", "tested", "won", "even", "lost", "share", "low", "high"]
@@ -28,19 +28,19 @@ def decided(schedule: Schedule, results: Results) -> Iterator[Pair]:
 
 def table(pairs: list[Pair]) -> str:
     """The pairs in columns, with the verdict in words."""
-    rows = [[one, other, *map(str, counts(it)), *(f"{100 * share:.1f} %" for share in (it.share, it.low, it.high)), said(it, one, other)]
+    rows = [[one, other, *map(str, counts(it)), *(f"{100 * share:.1f} %" for share in (it.score.share, it.low, it.high)), said(it, one, other)]
             for one, other, it in pairs]
     return aligned([[*HEAD, ""], *rows], (0, 1, len(HEAD)))
 
 
 def comma(pairs: list[Pair]) -> str:
     """The pairs as comma-separated values."""
-    return comma_separated([[*HEAD, "verdict"], *([one, other, *counts(it), *(f"{share:.4f}" for share in (it.share, it.low, it.high)),
+    return comma_separated([[*HEAD, "verdict"], *([one, other, *counts(it), *(f"{share:.4f}" for share in (it.score.share, it.low, it.high)),
                                                    data(it)["verdict"]] for one, other, it in pairs)])
 
 
 def counts(it: Told) -> tuple[int, int, int, int]:
-    return it.matches, it.count.won, it.count.even, it.count.lost
+    return it.score.played, it.score.won, it.score.even, it.score.yielded
 
 
 def everything(pairs: Sequence[Pair]) -> list[dict[str, Any]]:
@@ -50,5 +50,5 @@ def everything(pairs: Sequence[Pair]) -> list[dict[str, Any]]:
 
 def in_short(pairs: list[Pair]) -> str:
     """How many pairs are decided, and how."""
-    many = Counter("even" if it.decision == EVEN else "better" if it.decision else "not decided" for _, _, it in pairs)
-    return f"of {len(pairs)} pairs {many['better']} better, {many['even']} even, {many['not decided']} not decided"
+    many = Counter(it.decision for _, _, it in pairs)
+    return f"of {len(pairs)} pairs {many[BETTER] + many[WORSE]} {BETTER}, {many[EVEN]} {EVEN}, {many[OPEN]} {OPEN}"

@@ -7,11 +7,11 @@ from collections import defaultdict
 from dataclasses import dataclass, replace
 from typing import Iterable, Iterator, Sequence
 
-from sites.facts import Battle, Facts, Pair, Place, Program, Robot, Score, Seat, Settings, Standing, Sums, Table, Verdict, Version
+from results.battles import DEAD
+from results.standings import Standing
+from sites.facts import Battle, Facts, Pair, Program, Robot, Seat, Settings, Sums, Table, Version
 from sites.facts import Season as SiteSeason
 from sites.gathering import Gathering
-from sites.notables import DEAD
-from sites.verdicts import BETTER, EVEN, OPEN, WORSE
 
 from .entries import WITHDRAW, Entrant, Entry, entries, source
 from .naming import names as given_names
@@ -19,16 +19,12 @@ from .publications import final, publications, published
 from .results import Played, Results
 from .schedules import Schedule
 from .seasons import Season, seasons
-from .sequential import EVEN as NEITHER
-from .sequential import FIRST, SECOND
-from .standings import Standing as LeagueStanding
 from .store import Store
 from .verdicts import Verdicts
 
 # A robot's page has at most this number of its last lost matches.
 LOST = 5
 HIDDEN = "Sources and the archive are shown when the season ends."
-DECIDED = {FIRST: BETTER, SECOND: WORSE, NEITHER: EVEN}
 Lost = dict[str, list[tuple[str, Battle]]]
 # Robots in the order of their seats, and the seed of their matches.
 Seated = tuple[tuple[str, ...], int]
@@ -49,7 +45,7 @@ class Words:
     hash: str = ""
 
 
-def facts_of_league(store: Store, schedule: Schedule, results: Results, standings: Sequence[LeagueStanding], words: Words) -> Facts:
+def facts_of_league(store: Store, schedule: Schedule, results: Results, standings: Sequence[Standing], words: Words) -> Facts:
     """All that the site shows."""
     rules, season = schedule.field.rules, schedule.field.season
     happened = entries(store, season.last_entry)
@@ -60,7 +56,7 @@ def facts_of_league(store: Store, schedule: Schedule, results: Results, standing
     settings = Settings(rules.matches, rules.cycles, rules.seed, rules.profile, rules.sizes, tuple(more(season)))
     return Facts(
         words.title, settings, Program(rules.version, rules.program), tuple(robots(store, happened, season, lost, words)),
-        tuple(rows(standings)), tuple(decided(gathering.pairs(), schedule, results)), words.day,
+        rows(standings), tuple(decided(gathering.pairs(), schedule, results)), words.day,
         tuple(earlier(store, season, words.day)), "points a match", words.archive, words.verify, words.page, hash=words.hash,
         season=season.name, divisions=rules.divisions, seasons=tuple(past(store, season)),
         hidden=HIDDEN if is_hidden(season) else "")
@@ -81,7 +77,7 @@ def decided(pairs: Iterable[Pair], schedule: Schedule, results: Results) -> Iter
         told = verdicts.told((min(one, other), max(one, other)))
         assert told
         it = told if one < other else told.turned
-        yield replace(pair, low=it.low, high=it.high, verdict=Verdict(DECIDED.get(it.decision, OPEN), it.matches))
+        yield replace(pair, low=it.low, high=it.high, verdict=it.verdict)
 
 
 def is_hidden(season: Season) -> bool:
@@ -98,13 +94,9 @@ def more(season: Season) -> Iterator[tuple[str, str]]:
             yield name.capitalize(), value
 
 
-def rows(standings: Sequence[LeagueStanding]) -> Iterator[Standing]:
+def rows(standings: Sequence[Standing]) -> tuple[Standing, ...]:
     """The rows of the tables of all divisions, of robots that have a rating."""
-    for it in standings:
-        if it.is_rated:
-            score = Score(it.score.won, it.score.tied, it.score.lost)
-            rating = it.rating.value, it.rating.low, it.rating.high
-            yield Standing(it.robot, it.rank, score, it.points, *rating, it.close, it.division)
+    return tuple(it for it in standings if it.is_rated)
 
 
 def earlier(store: Store, season: Season, day: str) -> Iterator[Table]:
@@ -115,9 +107,7 @@ def earlier(store: Store, season: Season, day: str) -> Iterator[Table]:
             found[it.day, it.season] = it.number
     names = {it.number: it.name for it in seasons(store)}
     for (of_day, number), publication in sorted(found.items(), key=lambda it: (it[0][1], it[0][0])):
-        there = rows(published(store, publication))
-        places = {row.robot: Place(row.rank, row.rating, row.low, row.high, row.division) for row in there}
-        yield Table(of_day, places, names[number])
+        yield Table(of_day, {row.robot: row for row in rows(published(store, publication))}, names[number])
 
 
 def past(store: Store, season: Season) -> Iterator[SiteSeason]:
@@ -125,7 +115,7 @@ def past(store: Store, season: Season) -> Iterator[SiteSeason]:
     for it in seasons(store):
         if it.number < season.number:
             said = tuple((name.capitalize(), value) for name, value in it.rules.said())
-            yield SiteSeason(it.name, it.begun, it.ended, said, tuple(rows(final(store, it))), it.rules.divisions)
+            yield SiteSeason(it.name, it.begun, it.ended, said, rows(final(store, it)), it.rules.divisions)
 
 
 def robots(store: Store, happened: Sequence[Entry], season: Season, lost: Lost, words: Words) -> Iterator[Robot]:

@@ -3,7 +3,6 @@
 from __future__ import annotations
 
 import os
-import re
 import subprocess
 from concurrent.futures import ThreadPoolExecutor
 from typing import Iterable, Iterator, Mapping, NamedTuple, Sequence
@@ -14,8 +13,6 @@ from tournaments.programs import Program
 from .entries import WITHDRAW, Entry, hashed
 from .rules import rules
 from .store import Store
-
-FUNCTION = re.compile(r"^Function \d+ \w+ (vars \d+ at \d+)$", re.MULTILINE)
 
 
 class Compiled(NamedTuple):
@@ -40,7 +37,9 @@ def compiled(crobots: str, profile: int, path: str) -> Compiled:
 def code_of(listing: str) -> str:
     """The hash of a listing without its names: of functions their places and sizes stay, and all instructions."""
     head, _, code = listing.partition("\nCode ")
-    return hashed(f"{FUNCTION.findall(head)} {code}".encode())
+    # 'Function 1 NAME vars 2 at 3', as docs/listing.md has it
+    functions = [line.split(" ", 3)[3] for line in head.split("\n") if line.startswith("Function ")]
+    return hashed(f"{functions} {code}".encode())
 
 
 def codes(store: Store, profile: int, by: Program, sources: Mapping[str, str], jobs: int) -> dict[str, str]:

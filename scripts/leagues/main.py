@@ -2,25 +2,66 @@
 
 from __future__ import annotations
 
-import importlib
+import argparse
 from typing import Callable
 
 from .words import Words
 
-# The module of each command, which has a function of its name. It is read when it is needed.
-MODULES = {
-    "init": "entering", "rules": "entering", "add": "entering", "change": "entering", "withdraw": "entering",
-    "play": "sessions", "take": "taking", "season": "turning", "status": "showing", "table": "showing",
-    "publish": "publishing", "verify": "verifying", "drop": "dropping", "correct": "correcting", "history": "history",
-    "take-in": "handing", "serve": "ladder.serving", "invite": "ladder.inviting", "terms": "ladder.inviting", "send": "ladder.sending",
-    "final": "ladder.finals",
-}
+Does = Callable[[argparse.Namespace], None]
+
+
+def command(name: str) -> Does:
+    """What does a command. The modules that it needs are read here, since all of them together take longer than most commands."""
+    match name:
+        case "init" | "rules" | "add" | "change" | "withdraw":
+            from . import entering
+            return {"init": entering.init, "rules": entering.rules, "add": entering.add, "change": entering.change, "withdraw": entering.withdraw}[name]
+        case "take-in":
+            from .handing import take_in
+            return take_in
+        case "correct":
+            from .correcting import correct
+            return correct
+        case "play":
+            from .sessions import play
+            return play
+        case "take":
+            from .taking import take
+            return take
+        case "drop":
+            from .dropping import drop
+            return drop
+        case "season":
+            from .turning import season
+            return season
+        case "status" | "table":
+            from . import showing
+            return {"status": showing.status, "table": showing.table}[name]
+        case "history":
+            from .history import history
+            return history
+        case "publish":
+            from .publishing import publish
+            return publish
+        case "verify":
+            from .verifying import verify
+            return verify
+        case "serve":
+            from ladder.serving import serve
+            return serve
+        case "invite" | "terms":
+            from ladder import inviting
+            return {"invite": inviting.invite, "terms": inviting.terms}[name]
+        case "final":
+            from ladder.finals import final
+            return final
+        case "send":
+            from ladder.sending import send
+            return send
+    raise LookupError(f"there is no command {name}")
 
 
 def league(name: str, arguments: list[str]) -> None:
     """Does what the words ask for."""
     given = Words(name).parse(arguments)
-    module = MODULES[given.command]
-    there = importlib.import_module(module if "." in module else f"{__package__}.{module}")
-    does: Callable[[object], None] = getattr(there, given.command.replace("-", "_"))
-    does(given)
+    command(given.command)(given)

@@ -5,14 +5,13 @@ from __future__ import annotations
 from dataclasses import dataclass
 from typing import Callable, Iterable, Iterator
 
+from results.battles import Group
 from tournaments.records import Series
-from tournaments.settings import Group
 
 from .ladders import Ladder, climbed
 from .results import Results
 from .rules import LADDER
 from .schedules import Schedule
-from .sequential import FIRST, SECOND
 from .verdicts import Verdicts
 
 # How far apart the robots of a group are in the table.
@@ -71,11 +70,4 @@ def gaps(played: Iterable[int], most: int) -> list[tuple[int, int]]:
 def ladder(schedule: Schedule, verdicts: Verdicts) -> Ladder:
     """The ladder as far as it was played."""
     field = schedule.field
-    entering = sorted(range(len(field.robots)), key=lambda at: field.since[field.robots[at].robot])
-
-    def won(newcomer: int, other: int) -> bool | None:
-        pair = min(newcomer, other), max(newcomer, other)
-        it = verdicts.on(pair)
-        return it.better == (FIRST if newcomer < other else SECOND) if it.enough else None
-
-    return climbed(entering, won)
+    return climbed(sorted(range(len(field.robots)), key=lambda at: field.since[field.robots[at].robot]), verdicts.won)

@@ -6,12 +6,12 @@ from dataclasses import dataclass, replace
 from decimal import Decimal
 from typing import Sequence
 
-from tournaments.ratings import VERSION, Rating
-from tournaments.tallies import Score
+from results.scores import Score
+from results.standings import Rating, Standing, ranked
+from tournaments.ratings import VERSION
 
 from . import chain
 from .seasons import Season
-from .standings import Standing, placed
 from .store import Store
 
 COLUMNS = "division, rank, robot, sha256, won, tied, lost, points, rating, low, high, close"
@@ -63,9 +63,8 @@ def latest(store: Store) -> Publication | None:
 
 
 def values(it: Standing) -> tuple[object, ...]:
-    score, rating = it.score, it.rating
-    return (it.division, it.rank, it.robot, it.sha256, score.won, score.tied, score.lost, str(it.points),
-            rating.value, rating.low, rating.high, int(it.close))
+    score = it.score
+    return (it.division, it.rank, it.robot, it.sha256, score.won, score.tied, score.lost, str(it.points), *it.rating, int(it.close))
 
 
 def every(store: Store) -> list[Publication]:
@@ -82,18 +81,17 @@ def publications(store: Store) -> list[Publication]:
 def published(store: Store, number: int) -> list[Standing]:
     """The table of a publication."""
     rows = store.rows(f"SELECT {COLUMNS} FROM standing WHERE publication = ? ORDER BY division, rank, robot", number)
-    found: list[Standing] = []
-    for division, rank, robot, sha256, won, tied, lost, points, rating, low, high, close in rows:
-        it = Standing(division, rank, robot, sha256, Score(won, tied, lost), Decimal(points), Rating(rating, low, high))
-        found.append(replace(placed(found, it), close=overlaps(found, it) if close is None else bool(close)))
-    return found
+    found = [*ranked(Standing(robot, rank, Score(won, tied, lost), Decimal(points), Rating(rating, low, high), bool(close), division, sha256)
+                     for division, rank, robot, sha256, won, tied, lost, points, rating, low, high, close in rows)]
+    # tables of the first scale don't say who is close
+    return [replace(it, close=overlaps(above, it)) if row[-1] is None else it for above, it, row in zip([None, *found], found, rows)]
 
 
-def overlaps(above: Sequence[Standing], it: Standing) -> bool:
+def overlaps(above: Standing | None, it: Standing) -> bool:
     """Reports whether a robot was close to the one above by the first scale: their intervals overlap in whole numbers."""
-    if not above or above[-1].division != it.division or not (above[-1].is_rated and it.is_rated):
+    if above is None or above.division != it.division or not (above.is_rated and it.is_rated):
         return False
-    ours, theirs = it.rating, above[-1].rating
+    ours, theirs = it.rating, above.rating
     return round(ours.low) <= round(theirs.high) and round(theirs.low) <= round(ours.high)
 
 

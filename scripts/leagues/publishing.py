@@ -7,10 +7,8 @@ import os
 import shlex
 
 from ladder.terms import keeps_back
-from sites.facts import Facts
-from sites.folders import Foreign
-from sites.publishing import publish as write_site
-from tools.faults import FILE, Fault, plain, unwritable
+from sites.publishing import published as write_site
+from tools.faults import Fault, plain
 from tools.output import show
 from tournaments.programs import program
 
@@ -59,16 +57,6 @@ def publish(given: argparse.Namespace) -> None:
             shown = ("", "") if is_hidden(now.season) else (archive, verify)
             words = Words(given.title or name, day, *shown, given.page, said, copied, now.publication.hash)
             facts = facts_of_league(now.store, now.schedule, now.results, now.table, words)
-            write(facts, given)
+            write_site(facts, given.site, given.replays, given.jobs)
     show([f"{len(now.table)} robots, {len(facts.pairs)} pairs in {plain(given.site)}\n",
           f"publication {now.publication.number} has the hash {now.publication.hash}\n"])
-
-
-def write(facts: Facts, given: argparse.Namespace) -> None:
-    """Writes the site into its folder."""
-    try:
-        write_site(facts, given.site, given.replays, given.jobs)
-    except Foreign as why:
-        raise Fault(str(why), FILE) from why
-    except OSError as why:
-        unwritable(given.site, why)

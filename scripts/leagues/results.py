@@ -2,21 +2,22 @@
 
 from __future__ import annotations
 
+from collections import Counter
 from itertools import groupby
 from operator import itemgetter
 from typing import Collection, Iterator, NamedTuple, Sequence
 
+from results.battles import DEAD, Match, letters, match
+from results.scores import Score, between, counted
 from tools.faults import FILE, Fault
-from tournaments.records import Match, match
-from tournaments.tallies import Score
 
 from .rules import Rules
-from .sequential import Count
 from .store import Store
 
 # Hashes in the order of seats, with commas between them, and the seed of the matches.
 Seated = tuple[str, str]
-DEAD = 100
+# Whether the first robot of a pair died, and whether the second did.
+DIED = [(one, other) for one in (False, True) for other in (False, True)]
 BY = "seating.cycles = ? AND profile = ? AND program = ?"
 COLUMNS = "seating, battle.number, battle.cycles, damage1, damage2, damage3, damage4, battle.day"
 FOUGHT = "number, cycles, damage1, damage2, damage3, damage4, day"
@@ -67,13 +68,13 @@ class Results:
         """The matches of a seating, by their numbers; none if nothing of it was played."""
         return matches(self._store, self.number(where))
 
-    def counts(self, look: int) -> dict[int, dict[int, Count]]:
+    def counts(self, look: int) -> dict[int, dict[int, Score]]:
         """Of each seating of two robots what the first one did, in each part of `look` matches."""
-        query = (f"SELECT seating, (battle.number - 1) / {look}, count(*), sum(damage1 < {DEAD} AND damage2 = {DEAD}), "
-                 f"sum(damage1 = {DEAD} AND damage2 < {DEAD}) {JOINED} AND damage3 IS NULL GROUP BY 1, 2")
-        found: dict[int, dict[int, Count]] = {}
-        for seating, part, played, won, lost in self._store.database.execute(query, self._by):
-            found.setdefault(seating, {})[part] = Count(won, played - won - lost, lost)
+        ended = ", ".join(f"sum((damage1 = {DEAD}) = {one:d} AND (damage2 = {DEAD}) = {other:d})" for one, other in DIED)
+        query = f"SELECT seating, (battle.number - 1) / {look}, {ended} {JOINED} AND damage3 IS NULL GROUP BY 1, 2"
+        found: dict[int, dict[int, Score]] = {}
+        for seating, part, *counts in self._store.database.execute(query, self._by):
+            found.setdefault(seating, {})[part] = between(dict(zip(DIED, counts)))
         return found
 
     def endings(self) -> dict[int, dict[str, int]]:
@@ -82,8 +83,7 @@ class Results:
         found: dict[int, dict[str, int]] = {}
         query = f"SELECT seating, count(*), {died} {JOINED} GROUP BY 1, 3, 4, 5, 6"
         for seating, count, *dead in self._store.database.execute(query, self._by):
-            damage = [DEAD if it else 0 for it in dead if it is not None]
-            found.setdefault(seating, {})[Match(0, tuple(damage)).results] = count
+            found.setdefault(seating, {})[letters([it for it in dead if it is not None])] = count
         return found
 
     def each(self) -> Iterator[tuple[int, list[Played]]]:
@@ -96,15 +96,15 @@ class Results:
 def scores_of(store: Store, rules: Rules, wanted: Collection[str]) -> dict[str, Score]:
     """What robots with these bytes did by some rules, each against whomever it met: by the hashes of the bytes. Of all seatings those that
     have none of these aren't kept in memory."""
-    found = {it: Score() for it in wanted}
+    found = {it: Counter[str]() for it in wanted}
     by = (rules.cycles, rules.profile, rules.program)
     each = ((number, hashes.split(",")) for number, hashes in store.database.execute(f"SELECT number, hashes FROM seating WHERE {BY}", by))
     for number, there in [it for it in each if not found.keys().isdisjoint(it[1])]:
         for _, it, _ in matches(store, number):
             for sha256, letter in zip(there, it.results):
                 if sha256 in found:
-                    found[sha256].add(letter, 1)
-    return found
+                    found[sha256][letter] += 1
+    return {sha256: counted(letters_of) for sha256, letters_of in found.items()}
 
 
 def matches(store: Store, seating: int | None) -> list[Played]:

@@ -7,6 +7,7 @@ from dataclasses import asdict, dataclass, fields, replace
 from decimal import Decimal
 from typing import Any
 
+from results.scores import Scoring
 from tournaments.programs import Program, version
 
 PAIRS, THREES, FOURS, SIZES, LADDER, GAUNTLET = "pairs", "threes", "fours", "sizes", "ladder", "gauntlet"
@@ -52,6 +53,10 @@ class Rules:
     def weight(self, size: int) -> Decimal:
         """With which weight points a match of a size count."""
         return Decimal(self.weights[size - 2]) if self.mode == SIZES else Decimal(1)
+
+    @property
+    def scoring(self) -> Scoring:
+        return Scoring(Decimal(self.win), Decimal(self.tie))
 
     def text(self) -> str:
         """The rules as the database has them."""

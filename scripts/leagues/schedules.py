@@ -5,10 +5,11 @@ from __future__ import annotations
 import itertools
 from typing import Iterator, Sequence
 
+from results.battles import Group
 from tools.faults import Fault
 from tournaments import groups as grouping
 from tournaments import seats
-from tournaments.settings import Group, Settings
+from tournaments.settings import Settings
 
 from .results import Seated, seated
 from .rules import GAUNTLET

@@ -6,9 +6,10 @@ from collections import Counter
 from decimal import Decimal
 from typing import Mapping
 
+from results.battles import Group
+from results.scores import NONE, Score
+from results.tallies import Tally, group_of
 from tournaments.closeness import Weight
-from tournaments.settings import Group
-from tournaments.tallies import Score
 
 from .results import Results
 from .rules import Rules
@@ -17,26 +18,28 @@ from .schedules import Schedule
 ByRobot = dict[int, Score]
 
 
-def scores(schedule: Schedule, results: Results) -> dict[Group, ByRobot]:
-    """What the robots of each group did there, if it was played."""
+def tallied(schedule: Schedule, results: Results) -> Tally:
+    """All matches of a season added up."""
     ended = results.endings()
-    found: dict[Group, ByRobot] = {}
+    found = {}
     for group in schedule.groups():
         for robots, seed in schedule.seatings(group):
-            for letters, matches in ended.get(results.number(schedule.seated(robots, seed)) or 0, {}).items():
-                of_group = found.setdefault(group, {at: Score() for at in group})
-                for robot, letter in zip(robots, letters):
-                    of_group[robot].add(letter, matches)
-    return found
+            if endings := ended.get(results.number(schedule.seated(robots, seed)) or 0):
+                found[robots] = Counter(endings)
+    return Tally(found)
+
+
+def scores(schedule: Schedule, results: Results) -> dict[Group, ByRobot]:
+    """What the robots of each group did there, if it was played."""
+    return tallied(schedule, results).scores(group_of)
 
 
 def total(parts: Mapping[Group, ByRobot], robots: int) -> list[Score]:
     """What each robot did in all groups."""
-    found = [Score() for _ in range(robots)]
+    found = [NONE] * robots
     for of_group in parts.values():
         for robot, score in of_group.items():
-            for letter, matches in (("w", score.won), ("t", score.tied), ("l", score.lost)):
-                found[robot].add(letter, matches)
+            found[robot] = found[robot].plus(score)
     return found
 
 
@@ -45,7 +48,7 @@ def points(parts: Mapping[Group, ByRobot], robots: int, rules: Rules) -> list[De
     means: list[dict[int, list[Decimal]]] = [{} for _ in range(robots)]
     for group, of_group in parts.items():
         for robot, score in of_group.items():
-            means[robot].setdefault(len(group), []).append(mean(score, rules))
+            means[robot].setdefault(len(group), []).append(rules.scoring.mean(score))
     return [weighed(rules, sizes) for sizes in means]
 
 
@@ -54,18 +57,8 @@ def weighed(rules: Rules, sizes: Mapping[int, list[Decimal]]) -> Decimal:
     return sum((rules.weight(size) * average(them) for size, them in sorted(sizes.items())), Decimal(0))
 
 
-def mean(score: Score, rules: Rules) -> Decimal:
-    """Points a match."""
-    return (Decimal(rules.win) * score.won + Decimal(rules.tie) * score.tied) / score.played
-
-
 def average(numbers: list[Decimal]) -> Decimal:
     return sum(numbers, Decimal(0)) / len(numbers)
-
-
-def worth(rules: Rules) -> dict[str, float]:
-    """What a match that ended so is worth."""
-    return {"w": float(rules.win), "t": float(rules.tie), "l": 0.0}
 
 
 def weights(parts: Mapping[Group, ByRobot], rules: Rules) -> Weight:

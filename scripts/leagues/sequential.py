@@ -3,8 +3,8 @@
 A match counts x for the first robot: 1 if it alone survived, 0 if the second did, and 1/2 otherwise. Let m be the mean
 of x over all starts, and over both seatings alike. Three things may be decided:
 
-    FIRST   the first robot is better: m > 1/2
-    SECOND  the second robot is better: m < 1/2
+    BETTER  the first robot is better: m > 1/2
+    WORSE   the second robot is better: m < 1/2
     EVEN    neither is better by much: 1/2 - MARGIN < m < 1/2 + MARGIN
 
 The sides. With w matches for the first robot and l for the second, and any number of others,
@@ -16,7 +16,7 @@ For one p a match multiplies the ratio by 1 + (2p - 1)(2x - 1). If m = 1/2, the 
 1/2 - d, so a match of each is expected to multiply it by (1 + a)(1 - a) <= 1. So after whole rounds of both seatings
 the ratios and their average are supermartingales, and by Ville's inequality `sides` ever comes to 1 / SHARE with a
 chance of at most SHARE. If m > 1/2 the same is true of the average over p < 1/2 alone, which is at least as large as `sides`
-when l > w. So SECOND is decided with a chance of at most SHARE then, and so is FIRST if m < 1/2.
+when l > w. So WORSE is decided with a chance of at most SHARE then, and so is BETTER if m < 1/2.
 
 Even. For a bet b let each match multiply by
 
@@ -42,8 +42,10 @@ from __future__ import annotations
 
 import functools
 import math
-from dataclasses import dataclass
 from typing import Iterable
+
+from results.scores import NONE, Score
+from results.verdicts import BETTER, EVEN, OPEN, WORSE
 
 ERROR = 0.05
 SHARE = ERROR / 2
@@ -55,57 +57,36 @@ BETS = (0.4, 1.0, 2.2)
 LOOK = 10
 # Of an interval: by how many halvings its ends are found, and at how many chances p the average is taken, at least.
 HALVINGS, NODES = 20, 80
-FIRST, SECOND, EVEN = "first", "second", "even"
 
 
-@dataclass(frozen=True)
-class Count:
-    """How many matches of a pair the first robot won, how many counted a half, and how many it lost."""
-
-    won: int = 0
-    even: int = 0
-    lost: int = 0
-
-    def plus(self, other: Count) -> Count:
-        return Count(self.won + other.won, self.even + other.even, self.lost + other.lost)
-
-    @property
-    def turned(self) -> Count:
-        return Count(self.lost, self.even, self.won)
-
-    @property
-    def played(self) -> int:
-        return self.won + self.even + self.lost
-
-
-def sides(it: Count) -> float:
+def sides(it: Score) -> float:
     """The logarithm of how much more likely the matches are if one robot is better, by the average over all chances."""
-    both = it.won + it.lost
-    return both * math.log(2) + math.lgamma(it.won + 1) + math.lgamma(it.lost + 1) - math.lgamma(both + 2)
+    both = it.won + it.yielded
+    return both * math.log(2) + math.lgamma(it.won + 1) + math.lgamma(it.yielded + 1) - math.lgamma(both + 2)
 
 
-def against(it: Count, mean: float) -> float:
+def against(it: Score, mean: float) -> float:
     """The logarithm of how much more likely the matches are than by this mean, by the average over all chances."""
     nodes = NODES + 2 * math.isqrt(it.played)
     logs = []
     for node in range(nodes):
         won, lost = (node + 0.5) / nodes / mean, (nodes - node - 0.5) / nodes / (1 - mean)
-        logs.append(it.won * math.log(won) + it.lost * math.log(lost) + it.even * math.log((won + lost) / 2))
+        logs.append(it.won * math.log(won) + it.yielded * math.log(lost) + it.even * math.log((won + lost) / 2))
     most = max(logs)
     return most + math.log(sum(math.exp(one - most) for one in logs) / nodes)
 
 
 @functools.cache
-def interval(it: Count) -> tuple[float, float]:
+def interval(it: Score) -> tuple[float, float]:
     """All means against which the matches don't speak enough, whenever play stopped; all there are if nothing was played."""
     if not it.played:
         return 0.0, 1.0
     return 1 - upper(it.turned), upper(it)
 
 
-def upper(it: Count) -> float:
+def upper(it: Score) -> float:
     """The upper end of the interval. It is on the side of 1/2 on which the decision says it is."""
-    near, far = (it.won + it.even / 2) / it.played, 1.0
+    near, far = it.share, 1.0
     if near == far:
         return far
     if near < 0.5:
@@ -116,27 +97,27 @@ def upper(it: Count) -> float:
     return far
 
 
-def below(it: Count) -> float:
+def below(it: Score) -> float:
     """The logarithm of how much the matches speak against a first robot that is better by the margin or more."""
     middle = 0.5 + MARGIN
-    logs = [sum(times * math.log1p(bet * (middle - x)) for times, x in ((it.won, 1.0), (it.even, 0.5), (it.lost, 0.0)))
+    logs = [sum(times * math.log1p(bet * (middle - x)) for times, x in ((it.won, 1.0), (it.even, 0.5), (it.yielded, 0.0)))
             for bet in BETS]
     most = max(logs)
     return most + math.log(sum(math.exp(one - most) for one in logs) / len(logs))
 
 
-def looked(it: Count) -> str:
-    """What is decided if these are all matches; nothing if more are needed."""
+def looked(it: Score) -> str:
+    """What is decided of the first robot if these are all matches."""
     if sides(it) >= ENOUGH:
-        return FIRST if it.won > it.lost else SECOND
-    return EVEN if min(below(it), below(it.turned)) >= ENOUGH else ""
+        return BETTER if it.won > it.yielded else WORSE
+    return EVEN if min(below(it), below(it.turned)) >= ENOUGH else OPEN
 
 
-def decision(parts: Iterable[Count]) -> tuple[str, int]:
-    """What is decided, if anything, and after how many matches; these are given from each look to the next."""
-    so_far = Count()
+def decision(parts: Iterable[Score]) -> tuple[str, int]:
+    """What is decided of the first robot, and after how many matches; these are given from each look to the next."""
+    so_far = NONE
     for part in parts:
         so_far = so_far.plus(part)
-        if found := looked(so_far):
+        if (found := looked(so_far)) != OPEN:
             return found, so_far.played
-    return "", so_far.played
+    return OPEN, so_far.played

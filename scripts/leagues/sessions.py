@@ -7,6 +7,7 @@ import math
 from contextlib import closing
 from dataclasses import dataclass, replace
 
+from results.battles import Group
 from tools.faults import Fault
 from tools.output import say, show
 from tools.signals import Stopped, watch
@@ -17,7 +18,6 @@ from tournaments.progress import Progress
 from tournaments.records import Record, Series
 from tournaments.robots import Robot
 from tournaments.sessions import done
-from tournaments.settings import Group
 
 from .days import given_day
 from .farm import planned

@@ -4,6 +4,7 @@ from __future__ import annotations
 
 import argparse
 
+from results.standings import Standing
 from tools.faults import Fault
 from tools.output import show
 
@@ -14,7 +15,7 @@ from .publications import final, publications
 from .results import Results
 from .schedules import Schedule
 from .seasons import Field, Season, field, season
-from .standings import Standing, standings
+from .standings import standings
 from .store import Store, opened
 
 

@@ -11,9 +11,11 @@ import functools
 import math
 from typing import NamedTuple
 
+from results.scores import Score
+from results.verdicts import OPEN
 from tournaments.evidence import Share
 
-from .sequential import LOOK, Count, looked
+from .sequential import LOOK, looked
 
 
 class Chance(NamedTuple):
@@ -28,11 +30,11 @@ class Chance(NamedTuple):
 Ways = tuple[list[float], list[float], list[float]]
 
 
-def share(it: Count, first: Count) -> Share:
+def share(it: Score, first: Score) -> Share:
     """The share of a pair, by all that the test has seen of it, and by its first look."""
-    won = it.won + it.lost
+    won = it.won + it.yielded
     found = chances(it.played, won)[it.won] or plain(it.won, won)
-    part = (first.won + first.lost) / first.played
+    part = (first.won + first.yielded) / first.played
     away = found.one - 0.5
     own = part * part * max(0.0, found.one**2 - found.both)
     variance = own + away**2 * part * (1 - part) / max(first.played - 1, 1)
@@ -71,7 +73,7 @@ def begun(have: int) -> Ways:
 
 def further(ways: Ways, played: int, have: int, more: int) -> Ways:
     """The ways to win so many of more matches, if play didn't stop before them; their common scale is no matter."""
-    going = [won for won in range(have + 1) if not looked(Count(won, played - have, have - won))]
+    going = [won for won in range(have + 1) if looked(Score(won, played - have, have - won)) == OPEN]
     each = [math.comb(more, won) for won in range(more + 1)]
     found: Ways = ([0.0] * (have + more + 1), [0.0] * (have + more + 1), [0.0] * (have + more + 1))
     for old, new in zip(ways, found):

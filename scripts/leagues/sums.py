@@ -7,10 +7,10 @@ from concurrent.futures import ThreadPoolExecutor
 from typing import Sequence
 
 from replays.main import TRACE
+from results.battles import Group
 from sites.facts import Sums
 from tools.faults import Fault
 from tools.programs import found
-from tournaments.settings import Group
 
 from .results import Results
 from .schedules import Schedule

@@ -5,10 +5,11 @@ from __future__ import annotations
 import argparse
 from dataclasses import replace
 
+from results.standings import Standing
 from tools.faults import Fault
 from tools.output import show
+from tools.tables import aligned
 from tournaments.programs import program
-from tournaments.tables import aligned
 from tournaments.words import SEED_MAX
 
 from . import publications, seasons
@@ -19,7 +20,7 @@ from .results import Results
 from .rules import Rules, played_by
 from .schedules import Schedule
 from .seasons import Season
-from .standings import Standing, standings
+from .standings import standings
 from .store import Store, opened
 from .words import checked, ruled
 

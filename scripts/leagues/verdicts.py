@@ -9,21 +9,23 @@ from __future__ import annotations
 from dataclasses import dataclass
 from typing import Any
 
-from tournaments.settings import Group
+from results.battles import Group
+from results.scores import NONE, Score, added
+from results.verdicts import BETTER, EVEN, OPEN, OTHER, WORSE, Verdict
 
 from .results import Results
 from .schedules import Schedule
-from .sequential import EVEN, FIRST, LOOK, SECOND, Count, decision, interval
+from .sequential import LOOK, decision, interval
 
 # Matches of each seating from one look to the next.
 EACH_LOOK = LOOK // 2
 
 
 @dataclass(frozen=True)
-class Verdict:
-    """Which robot of a pair is better so far, how many matches of each seating say so, and whether they are enough."""
+class SoFar:
+    """What is to be said of a pair's first robot so far, how many matches of each seating say so, and whether they are enough."""
 
-    better: str
+    what: str
     each: int
     enough: bool
 
@@ -32,44 +34,34 @@ class Verdict:
 class Told:
     """What the test says of a pair, from the side of its first robot.
 
-    The decision is FIRST, SECOND or EVEN, and nothing if there is none yet. The counts are those of the matches that the test
-    has seen: up to the decision, or all. The interval is that of the first robot's share, from 0 to 1."""
+    The score is that of the matches that the test has seen: up to the decision, or all. The interval is that of the first robot's
+    share, from 0 to 1."""
 
     decision: str
-    count: Count
+    score: Score
     low: float
     high: float
 
     @property
-    def matches(self) -> int:
-        return self.count.played
-
-    @property
-    def share(self) -> float:
-        """The first robot's wins and half of what neither won, of all."""
-        return (self.count.won + self.count.even / 2) / self.count.played if self.count.played else 0.5
+    def verdict(self) -> Verdict:
+        return Verdict(self.decision, self.score.played)
 
     @property
     def turned(self) -> Told:
         """The same from the other robot's side."""
-        decision = {FIRST: SECOND, SECOND: FIRST}.get(self.decision, self.decision)
-        return Told(decision, self.count.turned, 1 - self.high, 1 - self.low)
+        return Told(OTHER[self.decision], self.score.turned, 1 - self.high, 1 - self.low)
 
 
 def said(it: Told, first: str, second: str) -> str:
     """The decision in words, with the robots' names."""
-    by = f"after {it.matches} matches"
-    if it.decision == EVEN:
-        return f"even, by the test {by}"
-    if it.decision:
-        return f"{first if it.decision == FIRST else second} is better, by the test {by}"
-    return f"not decided {by}"
+    by = f"after {it.score.played} matches"
+    words = {BETTER: f"{first} is better, by the test ", WORSE: f"{second} is better, by the test ", EVEN: "even, by the test "}
+    return words.get(it.decision, f"{OPEN} ") + by
 
 
 def data(it: Told) -> dict[str, Any]:
     """The decision as fields for JSON, about the first robot: 'better', 'worse', 'even' or 'not decided'."""
-    verdict = {FIRST: "better", SECOND: "worse", EVEN: "even"}.get(it.decision, "not decided")
-    return {"verdict": verdict, "tested": it.matches, "share": it.share, "low": it.low, "high": it.high}
+    return {"verdict": it.decision, "tested": it.score.played, "share": it.score.share, "low": it.low, "high": it.high}
 
 
 class Verdicts:
@@ -81,18 +73,21 @@ class Verdicts:
         self._counts = results.counts(EACH_LOOK)
         self._each = schedule.settings.each(2)
 
-    def on(self, pair: Group) -> Verdict:
+    def on(self, pair: Group) -> SoFar:
         """The verdict: if all matches don't make it sure either, it is that of more wins, as without the test."""
         parts = self._parts(pair)
         if self._schedule.field.rules.sure:
-            better, matches = decision(parts)
-            if better:
-                return Verdict(better, matches // 2, True)
-        total = Count()
-        for part in parts:
-            total = total.plus(part)
-        better = FIRST if total.won > total.lost else SECOND if total.won < total.lost else EVEN
-        return Verdict(better, total.played // 2, total.played // 2 >= self._each)
+            what, matches = decision(parts)
+            if what != OPEN:
+                return SoFar(what, matches // 2, True)
+        total = added(parts)
+        what = BETTER if total.won > total.yielded else WORSE if total.won < total.yielded else EVEN
+        return SoFar(what, total.played // 2, total.played // 2 >= self._each)
+
+    def won(self, one: int, other: int) -> bool | None:
+        """Reports whether a robot is better than another, if enough was played."""
+        it = self.on((min(one, other), max(one, other)))
+        return it.what == (BETTER if one < other else WORSE) if it.enough else None
 
     def wanted(self, pair: Group) -> int:
         """How many matches of each seating are wanted: all, or as many as there are until the next look."""
@@ -106,32 +101,32 @@ class Verdicts:
         if not self._schedule.field.rules.sure:
             return None
         parts = self._parts(pair)
-        count = until(parts)
-        return Told(decision(parts)[0], count, *interval(count))
+        score = until(parts)
+        return Told(decision(parts)[0], score, *interval(score))
 
-    def looked(self, pair: Group) -> tuple[Count, Count]:
+    def looked(self, pair: Group) -> tuple[Score, Score]:
         """What the test has seen of a pair, and what its first look has."""
         parts = self._parts(pair)
-        return until(parts), parts[0] if parts else Count()
+        return until(parts), parts[0] if parts else NONE
 
-    def _parts(self, pair: Group) -> list[Count]:
+    def _parts(self, pair: Group) -> list[Score]:
         """What the first robot did from each look to the next, as far as both seatings were played."""
         one, other = (self._counts.get(self._results.number(self._schedule.seated(*it)) or 0, {})
                       for it in self._schedule.seatings(pair))
         found = []
         for part, begin in enumerate(range(0, self._each, EACH_LOOK)):
-            there, turned = one.get(part, Count()), other.get(part, Count())
+            there, turned = one.get(part, NONE), other.get(part, NONE)
             if min(there.played, turned.played) < min(EACH_LOOK, self._each - begin):
                 break
             found.append(there.plus(turned.turned))
         return found
 
 
-def until(parts: list[Count]) -> Count:
+def until(parts: list[Score]) -> Score:
     """The matches up to the decision; all, if there is none."""
     matches = decision(parts)[1]
-    count = Count()
+    score = NONE
     for part in parts:
-        if count.played < matches:
-            count = count.plus(part)
-    return count
+        if score.played < matches:
+            score = score.plus(part)
+    return score

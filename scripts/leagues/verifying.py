@@ -10,6 +10,8 @@ from dataclasses import dataclass, replace
 from itertools import zip_longest
 from typing import Iterator
 
+from results.battles import Match
+from results.standings import NOTHING, Standing
 from tools.faults import FAULTY, Fault
 from tools.output import replaced, say, show
 from tools.signals import watch
@@ -17,8 +19,7 @@ from tournaments import seats
 from tournaments.playing import Player
 from tournaments.programs import Program, program, version
 from tournaments.progress import Progress
-from tournaments.ratings import NOTHING
-from tournaments.records import Match, Record, Series
+from tournaments.records import Record, Series
 from tournaments.robots import Robot, private
 from tournaments.settings import Settings
 
@@ -32,7 +33,7 @@ from .publications import final
 from .results import Results, ended
 from .schedules import Schedule
 from .seasons import Season, field, seasons
-from .standings import Standing, standings
+from .standings import standings
 from .store import Store
 
 MATCHES = 100

@@ -6,12 +6,12 @@ import argparse
 import os
 import re
 from dataclasses import replace
-from typing import Any
+from typing import Any, Iterable
 from urllib.parse import urlsplit
 
 from sites.addresses import page as address
 from tools.faults import Fault
-from tournaments.words import CYCLES_MAX, MATCHES_MAX, SEED_MAX, Parser, decimals, within
+from tournaments.words import MATCHES_MAX, Parser, decimals, of_match, within
 
 from .days import day
 from .entries import BEGIN, END, ENTRY, ID
@@ -63,10 +63,7 @@ def of_rules(it: argparse.ArgumentParser) -> None:
     one("--mode", metavar="MODE", type=mode, help=f"who plays whom: {MODES} (default pairs)")
     one("-m", dest="matches", metavar="MATCHES", type=within(1, MATCHES_MAX),
         help="matches of each group (default 100)")
-    one("-l", dest="cycles", metavar="CYCLES", type=within(1, CYCLES_MAX), help="cycles of a match (default 500000)")
-    one("-s", dest="seed", metavar="SEED", type=within(0, SEED_MAX),
-        help="seed (default 1; each season has the next one)")
-    one("-p", dest="profile", metavar="PROFILE", type=within(1, 2), help="language profile, 1 or 2 (default 1)")
+    of_match(rules, seed="seed (default 1; each season has the next one)")
     one("--points", metavar="WIN,TIE", type=points, help="what a win and a tie count (default 3,1)")
     one("--sample", metavar="N", type=within(0, 10_000_000),
         help="play only N groups, drawn by their robots; 0 for all (default 0)")
@@ -157,6 +154,11 @@ class Words:
         self._playing()
         self._showing()
         self._serving()
+
+    @property
+    def names(self) -> Iterable[str]:
+        """The commands."""
+        return self._commands.choices
 
     def parse(self, arguments: list[str]) -> argparse.Namespace:
         """Reads the words. Options of a command and its other words may stand in any order."""

@@ -4,12 +4,13 @@ from __future__ import annotations
 
 from typing import AbstractSet
 
+from results.battles import DID
+
 from . import charts, commands
 from .facts import Battle, Seat
 from .films import MOST_CYCLES
 from .lookups import Lookup
 from .markup import Markup, joined, tag
-from .notables import DEAD
 from .numbers import count
 from .tables import command_line
 
@@ -18,7 +19,7 @@ Replays = AbstractSet[str]
 
 def card(lookup: Lookup, replays: Replays, heading: Markup, battle: Battle, up: str) -> Markup:
     """A match with its heading. Its replay is linked if it is one of those that there are."""
-    seats = tag("ol", *(seat(lookup, battle, it, up) for it in battle.seats), class_="seats")
+    seats = tag("ol", *(seat(lookup, it, DID[letter], up) for it, letter in zip(battle.seats, battle.results)), class_="seats")
     return tag("article", heading, tag("p", ended(battle), class_="ended"), seats, ways(lookup, replays, battle, up),
                command(lookup, battle), class_="battle")
 
@@ -27,16 +28,8 @@ def ended(battle: Battle) -> str:
     return f"Match {battle.number}, {count(battle.cycles)} cycles"
 
 
-def outcome(battle: Battle, it: Seat) -> str:
-    """What a robot did: it won if it alone survived."""
-    if it.damage >= DEAD:
-        return "lost"
-    return "won" if sum(other.damage < DEAD for other in battle.seats) == 1 else "tied"
-
-
-def seat(lookup: Lookup, battle: Battle, it: Seat, up: str) -> Markup:
-    """A robot in its seat, with its damage."""
-    did = outcome(battle, it)
+def seat(lookup: Lookup, it: Seat, did: str, up: str) -> Markup:
+    """A robot in its seat, with its damage and what it did."""
     return tag("li", tag("span", lookup.robot_link(it.robot, up)), tag("span", did, class_=f"did {did}"),
                tag("span", charts.damage(it.damage), f" {it.damage} % damage", class_="hurt"))
 

@@ -5,9 +5,12 @@ from __future__ import annotations
 import datetime
 import functools
 from itertools import groupby
-from typing import Protocol, Sequence
+from typing import Sequence
 
-from .facts import Place, Score
+from results.scores import Score
+from results.standings import Rating
+
+from .facts import Stay
 from .markup import Markup, joined, tag
 from .scales import Scale, scale
 
@@ -37,9 +40,9 @@ def upright(x: float, low: float, high: float, kind: str) -> Markup:
     return tag("line", x1=x, x2=x, y1=low, y2=high, class_=kind)
 
 
-def rating_scale(places: Sequence[Place]) -> Scale:
+def rating_scale(ratings: Sequence[Rating]) -> Scale:
     """The axis of all rows of a table."""
-    return scale([end for it in places for end in (it.low, it.high)], 8, ROW_WIDTH - 8)
+    return scale([end for it in ratings for end in (it.low, it.high)], 8, ROW_WIDTH - 8)
 
 
 def rating_axis(axis: Scale) -> Markup:
@@ -47,10 +50,10 @@ def rating_axis(axis: Scale) -> Markup:
     return svg(ROW_WIDTH, 18, *(text(axis.at(tick), 13, whole(tick)) for tick in axis.ticks()), kind="axis")
 
 
-def rating_row(axis: Scale, it: Place) -> Markup:
+def rating_row(axis: Scale, it: Rating) -> Markup:
     """A rating as a dot on its interval. An arrow says that it goes on beyond the axis."""
     grid = [upright(axis.at(tick), 0, ROW_HEIGHT, "grid") for tick in axis.ticks()]
-    return svg(ROW_WIDTH, ROW_HEIGHT, *grid, *span(axis, it.low, it.rating, it.high, ROW_HEIGHT / 2), kind="row")
+    return svg(ROW_WIDTH, ROW_HEIGHT, *grid, *span(axis, it.low, it.value, it.high, ROW_HEIGHT / 2), kind="row")
 
 
 def span(axis: Scale, low: float, value: float, high: float, y: float) -> list[Markup]:
@@ -105,19 +108,6 @@ def during(days: Sequence[str], changes: Sequence[str]) -> list[str]:
     return [day for day in changes if days[0] < day <= days[-1]]
 
 
-class Stay(Protocol):
-    """Where a robot was on a day, in a season."""
-
-    @property
-    def day(self) -> str: ...
-
-    @property
-    def season(self) -> str: ...
-
-    @property
-    def place(self) -> Place: ...
-
-
 def over_time(found: Sequence[Stay], changes: Sequence[str], label: str) -> Markup:
     """A rating over time with its interval, and a dotted line at each day of a new version.
 
@@ -126,7 +116,7 @@ def over_time(found: Sequence[Stay], changes: Sequence[str], label: str) -> Mark
     every = sorted({*days, *during(days, changes)})
     times = dict(zip(every, moments(every)))
     across = Scale(times[days[0]], max(times[days[-1]], times[days[0]] + 1), TIME_LEFT + 6, TIME_WIDTH - 14)
-    up = scale([end for it in found for end in (it.place.low, it.place.high)], TIME_HEIGHT - TIME_BOTTOM, TIME_TOP)
+    up = scale([end for it in found for end in it.place.rating[1:]], TIME_HEIGHT - TIME_BOTTOM, TIME_TOP)
     xs = [across.at(times[day]) for day in days]
     new = [upright(across.at(times[day]), TIME_TOP, TIME_HEIGHT - TIME_BOTTOM, "change") for day in during(days, changes)]
     parts = [[*part] for _, part in groupby(zip(xs, found), lambda it: it[1].season)]
@@ -137,9 +127,9 @@ def over_time(found: Sequence[Stay], changes: Sequence[str], label: str) -> Mark
 
 def of_season(up: Scale, part: Sequence[tuple[float, Stay]]) -> Markup:
     """The line of a season, with its band and its points."""
-    xs, places = [x for x, _ in part], [it.place for _, it in part]
-    way = tag("polyline", points=" ".join(f"{x},{up.at(it.rating)}" for x, it in zip(xs, places)), class_="way")
-    return joined(band(up, xs, places), way, *(point(x, up, it.day, it.place) for x, it in part))
+    xs, ratings = [x for x, _ in part], [it.place.rating for _, it in part]
+    way = tag("polyline", points=" ".join(f"{x},{up.at(it.value)}" for x, it in zip(xs, ratings)), class_="way")
+    return joined(band(up, xs, ratings), way, *(point(x, up, it) for x, it in part))
 
 
 def season_mark(x: float, season: str) -> Markup:
@@ -162,14 +152,15 @@ def first_and_last(days: Sequence[str], xs: Sequence[float]) -> list[Markup]:
     return [text(xs[0], y, days[0], "start")] + ([text(xs[-1], y, days[-1], "end")] if len(days) > 1 else [])
 
 
-def band(up: Scale, xs: Sequence[float], places: Sequence[Place]) -> Markup:
+def band(up: Scale, xs: Sequence[float], ratings: Sequence[Rating]) -> Markup:
     """The intervals over time."""
-    above = [f"{x},{up.at(it.high)}" for x, it in zip(xs, places)]
-    below = [f"{x},{up.at(it.low)}" for x, it in zip(xs, places)]
+    above = [f"{x},{up.at(it.high)}" for x, it in zip(xs, ratings)]
+    below = [f"{x},{up.at(it.low)}" for x, it in zip(xs, ratings)]
     return tag("polygon", points=" ".join(above + below[::-1]), class_="interval")
 
 
-def point(x: float, up: Scale, day: str, it: Place) -> Markup:
+def point(x: float, up: Scale, it: Stay) -> Markup:
     """A rating of a day."""
-    said = f"{day}: {whole(it.rating)} ({whole(it.low)} to {whole(it.high)}), rank {it.rank}"
-    return tag("circle", tag("title", said), cx=x, cy=up.at(it.rating), r=3.5, class_="value")
+    value, low, high = it.place.rating
+    said = f"{it.day}: {whole(value)} ({whole(low)} to {whole(high)}), rank {it.place.rank}"
+    return tag("circle", tag("title", said), cx=x, cy=up.at(value), r=3.5, class_="value")

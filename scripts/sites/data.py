@@ -2,52 +2,30 @@
 
 from __future__ import annotations
 
-import csv
-import io
 import json
-from dataclasses import asdict
 from typing import Any, Iterable, Iterator
 
+from results import columns
+from results.columns import COUNTS, WORTH
+from results.scores import Score
+from results.standings import Standing
+
 from . import commands, places
-from .facts import Battle, Pair, Robot, Score, Season, Standing, Table, Version
+from .columns import PAIRS, STANDINGS, written
+from .facts import Battle, Pair, Robot, Season, Table, Version
 from .lookups import Lookup
-from .names import shown
-from .numbers import decimal, tenth
-from .shares import share
-from .verdicts import said, verdict
 
-TABLE = ("division", "rank", "robot", "name", "author", "played", "won", "tied", "lost", "points", "rating", "low", "high", "close")
-PAIRS = ("robot", "against", "played", "won", "tied", "lost", "both_lost", "share", "low", "high", "verdict")
-
-
-def comma_separated(head: Iterable[str], rows: Iterable[Iterable[object]]) -> str:
-    text = io.StringIO()
-    writer = csv.writer(text, lineterminator="\n")
-    writer.writerow(head)
-    writer.writerows(rows)
-    return shown_lines(text.getvalue())
-
-
-def shown_lines(text: str) -> str:
-    """Text without what can't be shown, but with its lines."""
-    return "\n".join(map(shown, text.split("\n")))
+NAMES = ("division", "rank", "robot", *COUNTS, *WORTH)
 
 
 def table(lookup: Lookup) -> str:
     """The table, a row a robot."""
-    return comma_separated(TABLE, (
-        (it.division, it.rank, it.robot, lookup.robots[it.robot].name, lookup.robots[it.robot].author, it.score.played, it.score.won,
-         it.score.tied, it.score.lost, decimal(it.points), tenth(it.rating), tenth(it.low), tenth(it.high),
-         "close" if it.close else "")
-        for it in lookup.facts.standings))
+    return written(lookup, STANDINGS, lookup.facts.standings)
 
 
 def pairs(lookup: Lookup) -> str:
     """The pairs, a row for each of both sides."""
-    return comma_separated(PAIRS, (
-        (it.one, it.other, it.score.played, it.score.won, it.score.tied, it.score.lost, it.score.both,
-         round(share(it.score), 4), round(it.low, 4), round(it.high, 4), said(verdict(it)))
-        for robot in lookup.facts.robots for it in lookup.opponents(robot.id)))
+    return written(lookup, PAIRS, (pair for robot in lookup.facts.robots for pair in lookup.opponents(robot.id)))
 
 
 def everything(lookup: Lookup) -> str:
@@ -114,12 +92,13 @@ def version(robot: Robot, it: Version) -> dict[str, Any]:
 
 
 def standing(it: Standing) -> dict[str, Any]:
-    return {"division": it.division, "rank": it.rank, "robot": it.robot, **score(it.score), "points": float(it.points), "rating": it.rating,
-            "low": it.low, "high": it.high, "close": it.close}
+    return columns.data(NAMES, it)
 
 
 def earlier(it: Table) -> dict[str, Any]:
-    return {"day": it.day, "season": it.season, "table": {robot: asdict(place) for robot, place in it.places.items()}}
+    places = {robot: {"rank": row.rank, "rating": row.rating.value, "low": row.rating.low, "high": row.rating.high, "division": row.division}
+              for robot, row in it.places.items()}
+    return {"day": it.day, "season": it.season, "table": places}
 
 
 def season(it: Season) -> dict[str, Any]:
@@ -128,8 +107,8 @@ def season(it: Season) -> dict[str, Any]:
 
 
 def pair(it: Pair) -> dict[str, Any]:
-    return {"robot": it.one, "against": it.other, **both(it.score), "share": round(share(it.score), 4), "low": round(it.low, 4),
-            "high": round(it.high, 4), "verdict": said(verdict(it)), "page": places.pair_page(it.one, it.other)}
+    return {"robot": it.one, "against": it.other, **both(it.score), "share": round(it.score.share, 4), "low": round(it.low, 4),
+            "high": round(it.high, 4), "verdict": it.decided.said, "page": places.pair_page(it.one, it.other)}
 
 
 def battle(lookup: Lookup, it: Battle) -> dict[str, Any]:

@@ -6,26 +6,14 @@ the site leaves it out. Texts may have any letters, also the surrogates in names
 from __future__ import annotations
 
 from dataclasses import dataclass
-from decimal import Decimal
 from typing import Mapping, NamedTuple
 
+from results.battles import DEAD, letters
+from results.scores import Score
+from results.standings import Standing
+from results.verdicts import BETTER, OPEN, WORSE, Verdict
+
 RobotId = str
-
-
-@dataclass(frozen=True, slots=True)
-class Score:
-    """How often one robot won, tied and lost. A robot that died has lost, even if all others died too.
-
-    Against one other robot it is also said how many of the lost matches both lost."""
-
-    won: int
-    tied: int
-    lost: int
-    both: int = 0
-
-    @property
-    def played(self) -> int:
-        return self.won + self.tied + self.lost
 
 
 @dataclass(frozen=True)
@@ -79,6 +67,11 @@ class Battle:
     # the page that plays it, if there is one already
     replay: str = ""
 
+    @property
+    def results(self) -> str:
+        """What each robot did: a letter w, t or l for each."""
+        return letters([seat.damage >= DEAD for seat in self.seats])
+
 
 @dataclass(frozen=True)
 class Sums:
@@ -106,39 +99,21 @@ class Robot:
     copied: RobotId = ""
 
 
-@dataclass(frozen=True, slots=True)
-class Standing:
-    """A row of the table. Its rank is one of its division. It is close if its points may be those of the row above."""
-
-    robot: RobotId
-    rank: int
-    score: Score
-    points: Decimal
-    rating: float
-    low: float
-    high: float
-    close: bool = False
-    division: int = 1
-
-
-@dataclass(frozen=True, slots=True)
-class Place:
-    """Where a robot was in an earlier table: its rank is one of its division."""
-
-    rank: int
-    rating: float
-    low: float
-    high: float
-    division: int = 1
-
-
 @dataclass(frozen=True)
 class Table:
     """An earlier table, as it was published on a day in a season."""
 
     day: str
-    places: Mapping[RobotId, Place]
+    places: Mapping[RobotId, Standing]
     season: str = ""
+
+
+class Stay(NamedTuple):
+    """Where a robot was on a day, in a season."""
+
+    day: str
+    season: str
+    place: Standing
 
 
 @dataclass(frozen=True)
@@ -181,16 +156,6 @@ class Notable:
 
 
 @dataclass(frozen=True, slots=True)
-class Verdict:
-    """What is decided of a pair, from its first robot's side, and after how many matches the sequential test did so.
-
-    The number is 0 if no such test was made: then it goes by the interval."""
-
-    what: str
-    matches: int = 0
-
-
-@dataclass(frozen=True, slots=True)
 class Pair:
     """What two robots did to each other, from the first one's side.
 
@@ -204,6 +169,18 @@ class Pair:
     seats: tuple[BySeat, ...] = ()
     notable: tuple[Notable, ...] = ()
     verdict: Verdict | None = None
+
+    @property
+    def decided(self) -> Verdict:
+        """What is decided: by the sequential test, or by the interval if there was no test."""
+        return self.verdict or Verdict(BETTER if self.low > 0.5 else WORSE if self.high < 0.5 else OPEN)
+
+    @property
+    def turned(self) -> Pair:
+        """The same pair with its robots exchanged."""
+        seats = tuple(BySeat(it.against, it.seat, it.score.turned, it.series) for it in self.seats)
+        return Pair(self.other, self.one, self.score.turned, 1 - self.high, 1 - self.low, seats, self.notable,
+                    self.verdict and self.verdict.turned)
 
 
 @dataclass(frozen=True)

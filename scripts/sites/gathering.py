@@ -6,12 +6,15 @@ from __future__ import annotations
 
 import functools
 import itertools
-from collections import defaultdict
+from collections import Counter, defaultdict
 from dataclasses import dataclass, replace
 from typing import Iterable, Iterator, Mapping, Sequence
 
-from .facts import Battle, BySeat, Notable, Pair, RobotId, Score, Series
-from .notables import DEAD, notables, shortness
+from results.battles import DEAD
+from results.scores import Score, added, between
+
+from .facts import Battle, BySeat, Notable, Pair, RobotId, Series
+from .notables import notables, shortness
 from .shares import interval
 
 
@@ -36,7 +39,7 @@ class Gathering:
         for (seat, one), (against, other) in itertools.permutations(enumerate(robots, 1), 2):
             if self._rows[one] < self._rows[other]:
                 it = self._pairs[one, other]
-                more = by_seat(seat, against, *score(battles, seat, against))
+                more = by_seat(seat, against, score(battles, seat, against))
                 it.seats = with_more(it.seats, replace(more, series=series(battles)) if len(robots) == 2 else more)
                 it.notable = notables([*dict.fromkeys(known.battle for known in it.notable), *battles], one, other)
 
@@ -70,24 +73,21 @@ class Losses:
         return tuple(dict.fromkeys(battle for _, battle in found))[:most]
 
 
-def score(battles: Iterable[Battle], seat: int, against: int) -> tuple[int, int, int, int]:
-    """What the robot in one seat did to that in another: its wins, ties and losses, and how many of these both lost."""
-    died = [(it.seats[seat - 1].damage >= DEAD, it.seats[against - 1].damage >= DEAD) for it in battles]
-    both, lost = died.count((True, True)), died.count((True, False))
-    return died.count((False, True)), died.count((False, False)), lost + both, both
+def score(battles: Iterable[Battle], seat: int, against: int) -> Score:
+    """What the robot in one seat did to that in another."""
+    return between(Counter((it.seats[seat - 1].damage >= DEAD, it.seats[against - 1].damage >= DEAD) for it in battles))
 
 
 @functools.lru_cache(1 << 14)
-def by_seat(seat: int, against: int, won: int, tied: int, lost: int, both: int) -> BySeat:
+def by_seat(seat: int, against: int, score: Score) -> BySeat:
     """A score by seat. In a large league many are equal, so they are one."""
-    return BySeat(seat, against, Score(won, tied, lost, both))
+    return BySeat(seat, against, score)
 
 
 def with_more(seats: tuple[BySeat, ...], more: BySeat) -> tuple[BySeat, ...]:
     """The scores by seat, with one more, in the order of the seats."""
     same = [it for it in seats if (it.seat, it.against) == (more.seat, more.against)]
-    total = added(it.score for it in (*same, more))
-    one = by_seat(more.seat, more.against, total.won, total.tied, total.lost, total.both)
+    one = by_seat(more.seat, more.against, added(it.score for it in (*same, more)))
     if parts := joined(part for it in (*same, more) for part in it.series):
         one = replace(one, series=parts)
     return tuple(sorted([*(it for it in seats if it not in same), one], key=lambda it: (it.seat, it.against)))
@@ -108,9 +108,3 @@ def joined(them: Iterable[Series]) -> tuple[Series, ...]:
         else:
             found.append(it)
     return tuple(found)
-
-
-def added(scores: Iterable[Score]) -> Score:
-    """The sum of scores."""
-    won, tied, lost, both = map(sum, zip(*((it.won, it.tied, it.lost, it.both) for it in scores)))
-    return Score(won, tied, lost, both)

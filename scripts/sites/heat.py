@@ -4,14 +4,15 @@ from __future__ import annotations
 
 import functools
 
+from results.standings import Standing
+
 from . import colours, places
-from .facts import Pair, Standing
+from .facts import Pair
 from .frames import page, sentence
 from .lookups import Lookup
 from .markup import Markup, tag
 from .names import named
 from .numbers import count, percent
-from .shares import share
 from .tables import scrolling
 
 # From this number of robots on the cells have no room for numbers, and the site's script lets them lead to the pairs.
@@ -65,7 +66,7 @@ def cell(lookup: Lookup, one: Standing, other: Standing, is_dense: bool) -> Mark
     pair = lookup.pair(one.robot, other.robot)
     if pair is None or not pair.score.played:
         return tag("td", class_="same" if one is other else "none")
-    value = share(pair.score)
+    value = pair.score.share
     if is_dense:
         return bare(colours.step(value))
     link = tag("a", f"{100 * value:.0f}", href=places.pair_page(one.robot, other.robot), title=told(lookup, pair))
@@ -81,4 +82,4 @@ def bare(step: int) -> Markup:
 def told(lookup: Lookup, pair: Pair) -> str:
     """The same in words."""
     one, other = (named(lookup.robots[it].name) for it in (pair.one, pair.other))
-    return f"{one} against {other}: {percent(share(pair.score))}"
+    return f"{one} against {other}: {percent(pair.score.share)}"

@@ -2,15 +2,12 @@
 
 from __future__ import annotations
 
-from dataclasses import replace
-from typing import NamedTuple
+from results.standings import Standing
 
 from . import links, places
 from .addresses import is_page
-from .facts import Battle, BySeat, Facts, Pair, Place, RobotId, Standing, Table, Version
+from .facts import Battle, Facts, Pair, RobotId, Stay, Table, Version
 from .markup import Markup, name_of, tag
-from .shares import turned
-from .verdicts import from_other_side as turned_verdict
 
 
 class Lookup:
@@ -38,7 +35,7 @@ class Lookup:
     def pair(self, one: RobotId, other: RobotId) -> Pair | None:
         """What two robots did to each other, from this one's side."""
         found, turned_one = self._pairs.get((one, other)), self._pairs.get((other, one))
-        return from_other_side(turned_one) if found is None and turned_one else found
+        return turned_one.turned if found is None and turned_one else found
 
     def opponents(self, robot: RobotId) -> list[Pair]:
         """The pairs of a robot from its side, in the order of the table."""
@@ -81,28 +78,9 @@ class Lookup:
         """Where a robot was in all tables, this one last."""
         found = [Stay(it.day, it.season, it.places[robot]) for it in self.facts.earlier if robot in it.places]
         now = self.standing(robot)
-        return found + ([Stay(self.facts.day, self.facts.season, place_of(now))] if now else [])
+        return found + ([Stay(self.facts.day, self.facts.season, now)] if now else [])
 
     def before(self) -> Table | None:
         """The last earlier table of the same season, with which this one is compared."""
         same = [it for it in self.facts.earlier if it.season == self.facts.season]
         return same[-1] if same else None
-
-
-class Stay(NamedTuple):
-    """Where a robot was on a day, in a season."""
-
-    day: str
-    season: str
-    place: Place
-
-
-def place_of(it: Standing) -> Place:
-    return Place(it.rank, it.rating, it.low, it.high, it.division)
-
-
-def from_other_side(pair: Pair) -> Pair:
-    """The same pair with its robots exchanged."""
-    seats = tuple(BySeat(it.against, it.seat, turned(it.score), it.series) for it in pair.seats)
-    return replace(pair, one=pair.other, other=pair.one, score=turned(pair.score), low=1 - pair.high, high=1 - pair.low,
-                   seats=seats, verdict=turned_verdict(pair.verdict))

@@ -4,11 +4,9 @@ from __future__ import annotations
 
 from typing import Iterable, Iterator
 
-from tournaments import records
+from results.battles import DEAD
 
 from .facts import Battle, Notable, RobotId
-
-DEAD = records.DEAD
 
 
 def shortness(battle: Battle) -> tuple[int, int, int]:

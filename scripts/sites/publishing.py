@@ -7,9 +7,11 @@ from dataclasses import dataclass
 from functools import partial
 from typing import Callable, Iterator, Sequence
 
+from tools.faults import FILE, Fault, unwritable
+
 from . import colours, data, films, places, robot_data
 from .facts import Battle, Facts
-from .folders import Folder
+from .folders import Folder, Foreign
 from .heat import heat_map
 from .index import index
 from .lookups import Lookup
@@ -39,6 +41,16 @@ def publish(facts: Facts, folder: str, replays: int = 0, jobs: int = 1) -> None:
         contents = files(lookup, there, older)
         site.fill({**wanted.given, **contents})
         site.keep({*contents, *there, *older})
+
+
+def published(facts: Facts, folder: str, replays: int, jobs: int) -> None:
+    """Does the same, or says why the folder can't have it."""
+    try:
+        publish(facts, folder, replays, jobs)
+    except Foreign as why:
+        raise Fault(str(why), FILE) from why
+    except OSError as why:
+        unwritable(folder, why)
 
 
 @dataclass(frozen=True)

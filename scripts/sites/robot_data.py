@@ -8,13 +8,14 @@ from __future__ import annotations
 import json
 from typing import Any, Iterator, Sequence
 
+from results.scores import Score
+
 from . import places, sources
 from .addresses import is_page
 from .battles import Replays
-from .facts import Battle, BySeat, Notable, Pair, Robot, RobotId, Score
+from .facts import Battle, BySeat, Notable, Pair, Robot, RobotId
 from .lookups import Lookup
 from .names import file_name, named, shown
-from .verdicts import verdict
 
 # The kinds of matches that are worth a look, as the bits of a number.
 WHAT = ("closest", "shortest", "longest", "greatest upset")
@@ -54,7 +55,7 @@ def robot_data(lookup: Lookup, replays: Replays, it: Robot) -> str:
 
 def of_pair(lookup: Lookup, replays: Replays, pair: Pair) -> Iterator[Any]:
     """A pair's score, interval and verdict from this robot's side; and what it did by seat, and the matches that are worth a look."""
-    said = verdict(pair)
+    said = pair.decided
     yield numbers(pair.score)
     yield [round(pair.low, 4), round(pair.high, 4)]
     yield [said.what, said.matches] if said.matches else [said.what]

@@ -5,21 +5,21 @@ from __future__ import annotations
 from itertools import compress
 from typing import Sequence
 
+from results.standings import Standing
+
 from . import charts, places, sources, sums
 from .battles import Replays, card
-from .facts import Battle, Pair, Robot, Standing
+from .columns import PAIRS, STANDINGS, View, cells, chosen, heads, tabled
+from .facts import Battle, Pair, Robot, Stay
 from .frames import above, page, section, sentence
-from .lookups import Lookup, Stay
+from .lookups import Lookup
 from .markup import Markup, block, joined, name_of, separated, tag
 from .names import file_name, named
-from .numbers import INTERVAL, count, counted, decimal, interval, percent
-from .shares import share
+from .numbers import INTERVAL, count, counted, decimal, interval
 from .tables import NUMBER, TEXT, Column, listed, scrolling, table
 
 # How many opponents are listed as the best, and how many as the worst.
 FEW = 5
-COLUMNS = [("Opponent", TEXT), ("Share", NUMBER), (INTERVAL, TEXT), ("Won", NUMBER), ("Tied", NUMBER),
-           ("Lost", NUMBER), ("Results", TEXT), ("Pair", TEXT)]
 
 
 def robot_page(lookup: Lookup, replays: Replays, it: Robot) -> str:
@@ -60,7 +60,7 @@ def tiles(lookup: Lookup, row: Standing) -> list[tuple[str, Markup]]:
     within = f" of {many}" + (f" in division {row.division}" if lookup.facts.divisions > 1 else "")
     return [
         ("Rank", joined(str(row.rank), tag("small", within))),
-        ("Rating", joined(charts.whole(row.rating), tag("small", f" {interval(row.low, row.high)}"))),
+        ("Rating", joined(charts.whole(row.rating.value), tag("small", f" {interval(*row.rating[1:])}"))),
         (lookup.facts.points.capitalize(), joined(decimal(row.points))),
         ("Won", joined(count(score.won), tag("small", f" of {count(score.played)}"))),
         ("Tied", joined(count(score.tied))), ("Lost", joined(count(score.lost))),
@@ -77,34 +77,33 @@ def history(lookup: Lookup, it: Robot) -> Markup:
     if len(found) < 2:
         return Markup("")
     days = [stay.day for stay in found]
-    first, last = (charts.whole(stay.place.rating) for stay in (found[0], found[-1]))
+    first, last = (charts.whole(stay.place.rating.value) for stay in (found[0], found[-1]))
     label = f"Rating from {days[0]} to {days[-1]}: from {first} to {last}"
     changes = [version.day for version in it.versions[1:] if version.day]
     chart = scrolling(charts.over_time(found, changes, label), label)
     note = " A dotted line is a new version." if charts.during(days, changes) else ""
     note += " Each season has a line of its own: its matches and opponents are others." if len({stay.season for stay in found}) > 1 else ""
     return section("Rating over time", chart, sentence(f"The band is the {INTERVAL}.{note}", kind="note"),
-                   tag("details", tag("summary", "As a table"), by_day(found)))
+                   tag("details", tag("summary", "As a table"), by_day(lookup, found)))
 
 
-def by_day(found: Sequence[Stay]) -> Markup:
+def by_day(lookup: Lookup, found: Sequence[Stay]) -> Markup:
     """The same as a table, the last day first; with seasons and divisions if there are several."""
-    columns: list[Column] = [("Day", TEXT), ("Season", TEXT), ("Division", NUMBER), ("Rank", NUMBER), ("Rating", NUMBER), (INTERVAL, TEXT)]
-    shown = [True, len({it.season for it in found}) > 1, any(it.place.division > 1 for it in found), True, True, True]
-    rows = [[it.day, tag("bdi", named(it.season)), str(it.place.division), str(it.place.rank), charts.whole(it.place.rating),
-             interval(it.place.low, it.place.high)] for it in found[::-1]]
-    return table("Rating by day", [*compress(columns, shown)], [[*compress(row, shown)] for row in rows])
+    view, columns = View(lookup), chosen(STANDINGS, "rank", "rating", "interval")
+    head: list[Column] = [("Day", TEXT), ("Season", TEXT), ("Division", NUMBER), *heads(view, columns)]
+    is_there = [True, len({it.season for it in found}) > 1, any(it.place.division > 1 for it in found), *[True] * len(columns)]
+    rows = [[it.day, tag("bdi", named(it.season)), str(it.place.division), *cells(view, columns, it.place)] for it in found[::-1]]
+    return table("Rating by day", [*compress(head, is_there)], [[*compress(row, is_there)] for row in rows])
 
 
 def past(lookup: Lookup, it: Robot, up: str) -> Markup:
     """Where it was at the end of each past season, the last one first."""
+    view, columns = View(lookup, up), chosen(STANDINGS, "rank", "points", "rating", "interval", "played", "won", "tied", "lost")
     rows = [[tag("a", tag("bdi", named(season.name)), href=up + places.season_page(season.name)),
-             str(row.division) if season.divisions > 1 else "-", str(row.rank), decimal(row.points), charts.whole(row.rating),
-             interval(row.low, row.high), count(row.score.played), count(row.score.won), count(row.score.tied), count(row.score.lost)]
+             str(row.division) if season.divisions > 1 else "-", *cells(view, columns, row)]
             for season in reversed(lookup.facts.seasons) for row in season.standings if row.robot == it.id]
-    columns: list[Column] = [("Season", TEXT), ("Division", NUMBER), ("Rank", NUMBER), (lookup.facts.points.capitalize(), NUMBER), ("Rating", NUMBER), (INTERVAL, TEXT),
-               ("Played", NUMBER), ("Won", NUMBER), ("Tied", NUMBER), ("Lost", NUMBER)]
-    return section("Past seasons", table("At the end of each season", columns, rows)) if rows else Markup("")
+    head = [("Season", TEXT), ("Division", NUMBER), *heads(view, columns)]
+    return section("Past seasons", table("At the end of each season", head, rows)) if rows else Markup("")
 
 
 def played(lookup: Lookup, it: Robot) -> list[Pair]:
@@ -122,7 +121,7 @@ def opponents(lookup: Lookup, it: Robot, up: str) -> Markup:
     every = played(lookup, it)
     if not every:
         return Markup("")
-    best = sorted(every, key=lambda pair: -share(pair.score))
+    best = sorted(every, key=lambda pair: -pair.score.share)
     if len(every) <= 2 * FEW:
         return section("Opponents", against(lookup, "Opponents, the best results first", best, up))
     return section("Opponents", against(lookup, "Its best opponents", best[:FEW], up),
@@ -132,15 +131,7 @@ def opponents(lookup: Lookup, it: Robot, up: str) -> Markup:
 
 def against(lookup: Lookup, caption: str, pairs: list[Pair], up: str) -> Markup:
     """Rows of opponents."""
-    return table(caption, COLUMNS, [opponent(lookup, pair, up) for pair in pairs], style="opponents")
-
-
-def opponent(lookup: Lookup, pair: Pair, up: str) -> list[str]:
-    score = pair.score
-    against = tag("span", " against ", name_of(lookup.robots[pair.other].name), class_="unseen")
-    matches = tag("a", "matches", against, href=up + places.pair_page(pair.one, pair.other))
-    return [lookup.robot_link(pair.other, up), percent(share(score)), f"{percent(pair.low)} to {percent(pair.high)}",
-            count(score.won), count(score.tied), count(score.lost), charts.parts(score, 80), matches]
+    return tabled(View(lookup, up), PAIRS, caption, pairs, "opponents")
 
 
 def summed(it: Robot) -> Markup:

@@ -6,15 +6,15 @@ import hashlib
 import os
 from typing import Iterable, Iterator, Mapping, Sequence
 
+from results.standings import Standing
 from tournaments.programs import version
 from tournaments.records import Record
 from tournaments.robots import Robot
 from tournaments.settings import SIZE_NAMES
 from tournaments.settings import Settings as TournamentSettings
-from tournaments.standings import Scoring
-from tournaments.standings import Standing as TournamentStanding
+from tournaments.standings import Weighed
 
-from .facts import Battle, Facts, Program, Score, Seat, Settings, Standing, Version
+from .facts import Battle, Facts, Program, Seat, Settings, Version
 from .facts import Robot as SiteRobot
 from .gathering import Gathering, Losses
 
@@ -23,12 +23,12 @@ LOST = 5
 
 
 def facts_of_tournament(
-        title: str, settings: TournamentSettings, scoring: Scoring, among: Sequence[Robot],
-        sources: Mapping[str, bytes], standings: Sequence[TournamentStanding], records: Iterable[Record],
+        title: str, settings: TournamentSettings, scoring: Weighed, among: Sequence[Robot],
+        sources: Mapping[str, bytes], standings: Sequence[Standing], records: Iterable[Record],
         page: str = "") -> Facts:
     """What the site of a tournament shows. The sources of robots are found by their hashes."""
-    names = {it.robot: it.name for it in standings}
-    places = {it.name: row for row, it in enumerate(standings)}
+    names = {it.place: it.robot for it in standings}
+    places = {it.robot: row for row, it in enumerate(standings)}
     gathering, losses = Gathering(places), Losses(places)
     for record in records:
         fought = [*battles(record, names)]
@@ -39,7 +39,7 @@ def facts_of_tournament(
     robots = [SiteRobot(names[at], names[at], (it,), lost=losses.of(names[at], LOST))
               for at, it in enumerate(versions)]
     return Facts(
-        title, rules(settings, scoring), Program(version(settings.program), settings.program), tuple(robots), tuple(map(standing, standings)),
+        title, rules(settings, scoring), Program(version(settings.program), settings.program), tuple(robots), tuple(standings),
         tuple(gathering.pairs()), points="points" if scoring.weights else "points a match", page=page)
 
 
@@ -50,12 +50,7 @@ def battles(record: Record, names: Mapping[int, str]) -> Iterator[Battle]:
         yield Battle(tuple(map(Seat, seated, match.damage)), number, record.series.seed, match.cycles)
 
 
-def standing(it: TournamentStanding) -> Standing:
-    score, rating = Score(it.score.won, it.score.tied, it.score.lost), it.rating
-    return Standing(it.name, it.rank, score, it.points, rating.value, rating.low, rating.high, it.close)
-
-
-def rules(settings: TournamentSettings, scoring: Scoring) -> Settings:
+def rules(settings: TournamentSettings, scoring: Weighed) -> Settings:
     """The settings, with those that only a tournament has."""
     more = [("Points", f"{scoring.won} for a win, {scoring.tied} for a tie")]
     if scoring.weights:

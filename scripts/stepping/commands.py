@@ -9,7 +9,7 @@ from typing import Callable, Sequence
 from tools import shells
 
 from . import telling
-from .marks import Mark, breakpoint_of, watch_of
+from .marks import Mark, breakpoint_of, number, watch_of
 from .moments import Moment
 from .pipes import Refused
 from .sessions import BACKWARDS, FORWARDS, LAST_CYCLE, Found, Session, any_line, line_of_call, outside
@@ -183,12 +183,6 @@ def one(text: str, form: str) -> str:
     if len(text.split()) != 1:
         raise Refused(f"{text or form.split()[0]}: the form is {form}")
     return text
-
-
-def number(word: str, least: int, most: int) -> int:
-    if not re.fullmatch("[0-9]{1,10}", word) or not least <= int(word) <= most:
-        raise Refused(f"{word}: no number from {least} to {most}")
-    return int(word)
 
 
 def moves(way: str, before: str, letter: str, about: str) -> list[Command]:

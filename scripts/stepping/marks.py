@@ -81,17 +81,17 @@ def ranges_of(term: str) -> list[Range]:
     found = CONDITION.fullmatch(term)
     if not found:
         raise Refused(f"{term or 'if'}: {FORM}")
-    operator, number = found[1], number_of(found[2])
-    below, above = (LEAST, number - 1), (number + 1, MOST)
-    parts = {"==": [(number, number)], "!=": [below, above], "<": [below], ">": [above],
-             "<=": [(LEAST, number)], ">=": [(number, MOST)]}[operator]
+    operator, value = found[1], number(found[2])
+    below, above = (LEAST, value - 1), (value + 1, MOST)
+    parts = {"==": [(value, value)], "!=": [below, above], "<": [below], ">": [above],
+             "<=": [(LEAST, value)], ">=": [(value, MOST)]}[operator]
     return [part for part in parts if part[0] <= part[1]]
 
 
-def number_of(word: str) -> int:
-    """A number of 32 bits."""
-    if not re.fullmatch(r"-?[0-9]{1,10}", word) or not LEAST <= int(word) <= MOST:
-        raise Refused(f"{word}: no number from {LEAST} to {MOST}")
+def number(word: str, least: int = LEAST, most: int = MOST) -> int:
+    """Reads a whole number within limits; without them one of 32 bits."""
+    if not re.fullmatch(("-?" if least < 0 else "") + "[0-9]{1,10}", word) or not least <= int(word) <= most:
+        raise Refused(f"{word}: no number from {least} to {most}")
     return int(word)
 
 

@@ -6,10 +6,10 @@ if there are few columns; then the field, what the last command said, and the pr
 from __future__ import annotations
 
 import textwrap
-import unicodedata
 from dataclasses import dataclass
 
 from tools.faults import plain
+from tools.tables import width
 
 from . import telling
 from .sessions import Session
@@ -127,8 +127,3 @@ def cut(text: str, columns: int) -> str:
         if used > columns:
             return text[:place]
     return text
-
-
-def width(text: str) -> int:
-    """How many columns a text takes: letters of East Asia take two, and marks above others none."""
-    return sum(0 if unicodedata.combining(it) else 2 if unicodedata.east_asian_width(it) in "WF" else 1 for it in text)

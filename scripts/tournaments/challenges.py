@@ -12,10 +12,12 @@ import statistics
 from dataclasses import dataclass
 from typing import Any, Iterator
 
+from results.battles import DID
 from sites import commands
 from tools.faults import Fault
 from tools.output import show
 from tools.signals import stopping
+from tools.tables import aligned, comma_separated
 
 from . import plans, programs, robots, words
 from .intervals import Mean, mean
@@ -25,7 +27,6 @@ from .robots import Robot
 from .seats import keys, seatings
 from .sessions import session, tell_rounded
 from .settings import Settings
-from .tables import RESULTS, aligned, comma_separated
 from .versions import CHALLENGER, NEW, OLD, Place, Versions
 
 
@@ -109,7 +110,7 @@ class Challenge:
         said: dict[str, Any] = {
             "new": names[NEW], "old": names[OLD], "matches": len(whole.of_each[0][NEW]),
             "opponents": [{AGAINST: names[opponent], **of_one.values()} for opponent, of_one in worth.items()],
-            "all": whole.values(), "each_other": {how: did.count(how) for how in RESULTS.values()},
+            "all": whole.values(), "each_other": {how: did.count(how) for how in DID.values()},
         }
         if self._all:
             said["changed"] = [{AGAINST: names[opponent], **it.row(opponent, place)} for _, opponent, place in self._changes()]
@@ -137,7 +138,7 @@ class Challenge:
     def _both(self) -> str:
         """What both versions did against each other."""
         did = [self._it.did(NEW, OLD, place) for place in self._it.places(OLD)]
-        counts = ", ".join(f"{how} {did.count(how)}" for how in RESULTS.values())
+        counts = ", ".join(f"{how} {did.count(how)}" for how in DID.values())
         return f"{self._it.names[NEW]} against {self._it.names[OLD]}: {counts} of {len(did)} matches\n"
 
     def _lost(self) -> str:

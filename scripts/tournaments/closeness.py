@@ -10,9 +10,10 @@ from collections import Counter, defaultdict
 from functools import cache
 from typing import Callable, Mapping
 
+from results.battles import Group
+from results.tallies import Ended, Tally, strata
+
 from .intervals import quantile
-from .settings import Group
-from .tallies import Ended, Tally, strata
 
 # How much one match of a group counts in a robot's points.
 Weight = Callable[[int, Group], float]

@@ -13,9 +13,11 @@ from dataclasses import dataclass
 from operator import sub
 from typing import Iterator, Mapping, NamedTuple, Sequence
 
+from results.battles import Group
+from results.scores import Score
+from results.tallies import Ended, Tally, strata
+
 from .matrices import Matrix, Vector, product
-from .settings import Group
-from .tallies import Ended, Pair, Tally, strata
 
 
 class Share(NamedTuple):
@@ -75,14 +77,13 @@ def evidence(tally: Tally, robots: int) -> Evidence:
     return Evidence(robots, shares, spreads)
 
 
-def share(pair: Pair, alone: Sequence[Counter[Ended]]) -> Share:
+def share(pair: Score, alone: Sequence[Counter[Ended]]) -> Share:
     """The share of a pair by all of its matches, with what those of both alone show of how sure it is."""
     each = 1 / pair.played
-    value = (pair.beaten[0] + (pair.played - sum(pair.beaten)) / 2) / pair.played
     those = strata(alone)
     parts = [moments(it["wl"], it.total() - it["wl"] - it["lw"], it["lw"]) for it in those]
     variance, third = (sum(part[at] for part in parts) for at in (0, 1))
-    return Share(value, each**2 * variance, each**3 * third, each, sum(it.total() - 1 for it in those))
+    return Share(pair.share, each**2 * variance, each**3 * third, each, sum(it.total() - 1 for it in those))
 
 
 @functools.cache
@@ -97,7 +98,7 @@ def moments(won: int, even: int, lost: int) -> tuple[float, float]:
     return square * played / (played - 1), third * played**2 / (played - 1) / (played - 2) if played > 2 else 0.0
 
 
-def spread(group: Group, seatings: Sequence[Counter[Ended]], pairs: Mapping[Group, Pair]) -> Spread:
+def spread(group: Group, seatings: Sequence[Counter[Ended]], pairs: Mapping[Group, Score]) -> Spread:
     """How matches of a group differ."""
     each = [[1 / pairs[min(one, other), max(one, other)].played if one != other else 0.0 for other in group] for one in group]
     those = strata(seatings)

@@ -9,11 +9,12 @@ import math
 from functools import lru_cache
 from typing import Iterable, Iterator, Sequence
 
+from results.battles import Group
 from tools.faults import Fault
 
 from .records import Series
 from .seats import seatings
-from .settings import Group, Settings
+from .settings import Settings
 
 MOST_NUMBERED = 5_000_000
 

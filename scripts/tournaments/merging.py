@@ -6,6 +6,7 @@ import contextlib
 from collections import Counter, defaultdict
 from typing import IO, Iterable, Iterator
 
+from results.battles import Group
 from tools.faults import FILE, Fault, unreadable
 from tools.output import INPUT
 
@@ -13,7 +14,7 @@ from .groups import whole_series
 from .records import NoRecord, Record, Series, planned, played
 from .robots import Robot
 from .seats import keys
-from .settings import Group, Settings, difference
+from .settings import Settings, difference
 
 Runs = list[tuple[int, int]]
 

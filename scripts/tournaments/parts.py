@@ -5,9 +5,10 @@ from __future__ import annotations
 from dataclasses import dataclass, field
 from typing import Iterable, Sequence
 
+from results.battles import Group
+
 from .evidence import Evidence, Share, Spread
 from .matrices import Matrix
-from .settings import Group
 from .strengths import capped
 
 

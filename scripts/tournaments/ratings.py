@@ -9,9 +9,10 @@ rather one of those that would move it most. What others' matches do adds by squ
 from __future__ import annotations
 
 import math
-from dataclasses import dataclass
 from operator import mul
 from typing import Iterator, NamedTuple, Sequence
+
+from results.standings import NOTHING, Rating
 
 from .evidence import Evidence
 from .intervals import NORMAL, quantile, together
@@ -25,19 +26,6 @@ SCALE = 400 / math.log(10)
 UNSEEN = 0.1
 SKEWED = (1 + 2 * NORMAL**2) / 6
 STEPS_MAX, STEP_MAX, EXACT = 60, 1.0, 1e-9
-
-
-@dataclass(frozen=True)
-class Rating:
-    """A rating with its 95 % interval."""
-
-    value: float
-    low: float
-    high: float
-
-
-# The rating of a robot of which nothing is known: its interval ends before it begins.
-NOTHING = Rating(0.0, 1.0, -1.0)
 
 
 def ratings(those: Evidence, anchor: int | None = None) -> list[Rating]:

@@ -7,14 +7,16 @@ import hashlib
 import itertools
 import os
 import re
-from dataclasses import dataclass
 from operator import ge
 from typing import Iterator, NamedTuple, Sequence
 from urllib.parse import quote, unquote_to_bytes
 
+from results.battles import Group, Match, endings, match
+from results.tallies import group_of
+
 from . import settings as setting
 from .robots import Robot
-from .settings import NUMBER, Group, Settings
+from .settings import NUMBER, Settings
 
 # The number is that of the format.
 BEGIN, OLDER = "series 2 ", "series m="
@@ -22,7 +24,7 @@ HEAD = re.compile(rf"{BEGIN}({setting.PATTERN}) seats=(\d{{1,9}}(?:,\d{{1,9}}){{
                   rf"first=({NUMBER}) count=({NUMBER}) sha256=([0-9a-f,]+) files=([^\s']+)")
 RESULT = r"\d{1,10}(?::\d{1,3})+"
 WHOLE = re.compile(rf"({HEAD.pattern} results=({RESULT}(?:,{RESULT})*)) sum=([0-9a-f]{{16}})\n")
-DEAD, UPDATE = 100, 15
+UPDATE = 15
 
 
 class NoRecord(Exception):
@@ -43,21 +45,7 @@ class Series(NamedTuple):
 
     @property
     def group(self) -> Group:
-        return tuple(sorted(self.seats))
-
-
-@dataclass(frozen=True)
-class Match:
-    """How a match ended: its cycles, and the damage of each robot."""
-
-    cycles: int
-    damage: tuple[int, ...]
-
-    @property
-    def results(self) -> str:
-        """What each robot did, as the totals of `crobots` count it: a letter w, t or l for each."""
-        alive = sum(it < DEAD for it in self.damage)
-        return "".join("l" if it >= DEAD else "w" if alive == 1 else "t" for it in self.damage)
+        return group_of(self.seats)
 
 
 class Record(NamedTuple):
@@ -106,25 +94,6 @@ def encoded(path: str) -> str:
 def robot(file: str, sha256: str) -> Robot:
     """The robot of a path without blanks, commas and quotes."""
     return Robot(os.fsdecode(unquote_to_bytes(file)), sha256)
-
-
-def match(result: str) -> Match:
-    """Reads a result, as 22275:0:100."""
-    cycles, *damage = map(int, result.split(":"))
-    return Match(cycles, tuple(damage))
-
-
-@functools.lru_cache(1)
-def endings(results: str) -> list[str]:
-    """What the robots of each match did. A record is checked and then added up, so the last one's are kept."""
-    return [letters(it.partition(":")[2]) for it in results.split(",")]
-
-
-@functools.lru_cache(1 << 16)
-def letters(damage: str) -> str:
-    """What each robot did, of damage as 0:100; nothing if that can't be."""
-    it = match(f"0:{damage}")
-    return it.results if max(it.damage) <= DEAD else ""
 
 
 def planned(text: str) -> Record | None:

@@ -6,7 +6,7 @@ import functools
 import re
 from collections import Counter
 
-from .records import endings
+from results.battles import endings
 
 # A report, in which # stands for a number, and the totals.
 HEAD = r"Match #: cycles = #\n"

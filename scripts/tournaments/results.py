@@ -7,21 +7,25 @@ import os
 from functools import cached_property
 from typing import Iterable, Sequence
 
-from sites.tournament_facts import kept_sources
+from results.standings import Standing
+from results.tallies import Tally
+from sites.publishing import published
+from sites.tournament_facts import facts_of_tournament, kept_sources
 from tools.faults import Fault, unwritable
 from tools.output import say, show, write
+from tools.tables import comma_separated
 
 from . import robots, tables
 from .parts import parts
-from .publishing import write_site
 from .records import Record
 from .robots import Robot
 from .settings import SIZE_NAMES, Settings
 from .spools import Spool
-from .standings import Scoring, Standing, faced, standings
-from .tallies import Tally
+from .standings import Weighed, standings
 
 WITH_MATCHES = {"long", "json"}
+# How many new pages of matches a site gets if nothing else is said.
+REPLAYS = 100
 
 
 class Results:
@@ -35,7 +39,7 @@ class Results:
         self._sources: dict[str, bytes] = {}
 
     def add(self, record: Record) -> None:
-        self._tally.add(record)
+        self._tally.add(record.series.seats, record.ended)
         if self._spool:
             self._spool.add(record)
 
@@ -79,7 +83,7 @@ class Forms:
     def __init__(self, given: argparse.Namespace, settings: Settings, among: list[Robot], tally: Tally, spool: Spool | None) -> None:
         weights = dict(zip(SIZE_NAMES, given.by_size)) if given.by_size else None
         self._given = given
-        self._scoring = Scoring(given.points[0], given.points[1], weights)
+        self._scoring = Weighed(given.points[0], given.points[1], weights)
         self._settings = settings
         self._robots = among
         self._tally = tally
@@ -92,7 +96,10 @@ class Forms:
 
     def write_site(self, sources: dict[str, bytes]) -> None:
         """Writes the site, with these sources by their hashes."""
-        write_site(self._given, self._settings, self._scoring, self._robots, sources, self._standings, self._records())
+        it, replays = self._given, REPLAYS if self._given.replays is None else self._given.replays
+        facts = facts_of_tournament(it.title or "Tournament", self._settings, self._scoring, self._robots, sources, self._standings,
+                                    self._records(), it.page or "")
+        published(facts, it.html, replays, it.jobs)
 
     def pieces(self, form: str) -> Iterable[str]:
         """A form, piece by piece."""
@@ -100,13 +107,13 @@ class Forms:
             return tables.long(self._records(), self._names)
         by_size = self._scoring.weights is not None
         if form == "csv":
-            return [tables.comma_separated(tables.rows(self._standings, by_size))]
+            return [comma_separated(tables.rows(self._standings, by_size))]
         if form == "table":
             return [tables.table(self._standings, by_size)]
-        both = faced(self._tally, len(self._names))
+        faced = self._tally.faced()
         if form == "matrix":
-            return [tables.matrix(self._standings, both)]
-        return tables.everything(self._settings, self._scoring, self._robots, self._standings, both, self._records())
+            return [tables.matrix(self._standings, faced)]
+        return tables.everything(self._settings, self._scoring, self._robots, self._standings, faced, self._records())
 
     def _records(self) -> Iterable[Record]:
         return self._spool.records() if self._spool else ()

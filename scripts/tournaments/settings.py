@@ -5,9 +5,10 @@ from __future__ import annotations
 from dataclasses import dataclass
 from functools import cache, cached_property
 
+from results.battles import Group
+
 from .seats import rounded
 
-Group = tuple[int, ...]
 SIZE_NAMES = {2: "pairs", 3: "threes", 4: "fours"}
 
 

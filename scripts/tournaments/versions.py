@@ -8,14 +8,14 @@ import argparse
 from decimal import Decimal
 from typing import Any, Collection, Sequence
 
+from results.battles import DID, Match
 from sites import commands
 from sites.facts import Battle
 from sites.facts import Settings as SiteSettings
 from tools.faults import plain
 
 from . import robots
-from .records import Match, Record
-from .tables import RESULTS
+from .records import Record
 
 NEW, OLD = 0, 1
 # What is in the place of both versions' keys, so that they have the same seeds.
@@ -55,7 +55,7 @@ class Versions:
 
     def did(self, version: int, opponent: int, place: Place) -> str:
         """What a version did in a match: 'won', 'tied' or 'lost'."""
-        return RESULTS[self._letter(version, opponent, place)]
+        return DID[self._letter(version, opponent, place)]
 
     def points(self, version: int, opponent: int, place: Place) -> float:
         """What a match was worth to a version."""

@@ -14,7 +14,7 @@ from tools.output import show
 from tools.programs import number
 
 
-MATCHES_MAX, CYCLES_MAX, SEED_MAX = 1_000_000, 1_000_000_000, 2**64 - 1
+MATCHES_MAX, CYCLES_MAX, SEED_MAX, PROFILE_MAX = 1_000_000, 1_000_000_000, 2**64 - 1, 2
 
 # The settings of matches that weren't given: what each is then.
 DEFAULTS = {"matches": 100, "cycles": 500_000, "seed": 1, "profile": 1, "size": 2, "sample": 0, "those": ()}
@@ -165,6 +165,13 @@ class Parser(argparse.ArgumentParser):
         show([self.format_help()])
 
 
+def of_match(it: argparse._ActionsContainer, cycles: str = "cycles of a match", seed: str = "seed (default 1)") -> None:
+    """The words on which a match depends beside its robots, with what is said of two of them."""
+    for name, word, limits, said in (("cycles", "CYCLES", (1, CYCLES_MAX), f"{cycles} (default {DEFAULTS['cycles']})"), ("seed", "SEED", (0, SEED_MAX), seed),
+                                     ("profile", "PROFILE", (1, PROFILE_MAX), "language profile, 1 or 2 (default 1)")):
+        it.add_argument(WORDS[name], dest=name, metavar=word, type=within(*limits), help=said)
+
+
 def common(name: str, does: str) -> Parser:
     """The words that both scripts take."""
     it = Parser(prog=name, description=does, allow_abbrev=False)
@@ -172,9 +179,7 @@ def common(name: str, does: str) -> Parser:
     it.add_version()
     it.add_argument("-j", dest="jobs", metavar="JOBS", type=within(1, 1024), default=os.cpu_count() or 1, help="series at a time (default: the processors)")
     it.add_argument("-m", dest="matches", metavar="MATCHES", type=within(1, MATCHES_MAX), help="matches of each group, rounded up to a multiple of its size (default 100)")
-    it.add_argument("-l", dest="cycles", metavar="CYCLES", type=within(1, CYCLES_MAX), help="cycles of a match (default 500000)")
-    it.add_argument("-s", dest="seed", metavar="SEED", type=within(0, SEED_MAX), help="seed (default 1)")
-    it.add_argument("-p", dest="profile", metavar="PROFILE", type=within(1, 2), help="language profile, 1 or 2 (default 1)")
+    of_match(it)
     it.add_argument("--points", metavar="WIN,TIE", type=decimals(2), default=[Decimal(3), Decimal(1)], help="what a win and a tie count (default 3,1)")
     it.add_argument("--journal", metavar="FILE", help="keep what was played in this file, and go on from it")
     it.add_argument("--quiet", action="store_true", help="don't say how far it is")

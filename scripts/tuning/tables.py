@@ -5,8 +5,8 @@ from __future__ import annotations
 import json
 from typing import Any, Iterator, Sequence
 
+from tools.tables import aligned, comma_separated
 from tournaments.intervals import Mean
-from tournaments.tables import aligned, comma_separated
 
 from .breakdowns import ALL, breakdown, distinct, listed
 from .games import Games

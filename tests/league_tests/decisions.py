@@ -15,7 +15,8 @@ from collections import Counter
 from contextlib import closing
 
 from leagues import sequential, stopped, verdicts
-from leagues.sequential import EVEN, FIRST, SECOND, Count
+from results.scores import Score
+from results.verdicts import BETTER, EVEN, OPEN, WORSE
 
 from .base import Base, League
 
@@ -32,14 +33,14 @@ def played(source: random.Random, chance: float, ties: float, favour: float) -> 
     return sequential.decision([look(source, chance, ties, favour) for _ in range(MOST // sequential.LOOK)])
 
 
-def look(source: random.Random, chance: float, ties: float, favour: float) -> Count:
+def look(source: random.Random, chance: float, ties: float, favour: float) -> Score:
     """A made pair's matches from one look to the next."""
     won = even = lost = 0
     for seat in (favour, -favour) * (sequential.LOOK // 2):
         drawn = source.random()
         is_won = ties <= drawn < ties + (1 - ties) * (chance + seat)
         won, even, lost = won + is_won, even + (drawn < ties), lost + (drawn >= ties and not is_won)
-    return Count(won, even, lost)
+    return Score(won, even, lost)
 
 
 class Decisions(Base):
@@ -49,29 +50,29 @@ class Decisions(Base):
         wrong = []
         # ten wins: 2**10 * 10! / 11! = 1024 / 11; nine and one: 2**10 * 9! / 11! = 1024 / 110
         for count, expected in (
-            (Count(10), 1024 / 11),
-            (Count(9, 5, 1), 1024 / 110),
-            (Count(), 1.0),
-            (Count(0, 0, 10), 1024 / 11),
+            (Score(10), 1024 / 11),
+            (Score(9, 5, 1), 1024 / 110),
+            (Score(), 1.0),
+            (Score(0, 0, 10), 1024 / 11),
         ):
             if not math.isclose(math.exp(sequential.sides(count)), expected):
                 wrong.append(f"the sides of {count} are {math.exp(sequential.sides(count))} and not {expected}")
         # two ties: 1.04, 1.1 and 1.22, squared each; a win: 0.84, 0.6 and 0.12; a loss: 1.24, 1.6 and 2.32
         for count, expected in (
-            (Count(0, 2, 0), (1.0816 + 1.21 + 1.4884) / 3),
-            (Count(1), 1.56 / 3),
-            (Count(0, 0, 1), 5.16 / 3),
+            (Score(0, 2, 0), (1.0816 + 1.21 + 1.4884) / 3),
+            (Score(1), 1.56 / 3),
+            (Score(0, 0, 1), 5.16 / 3),
         ):
             if not math.isclose(math.exp(sequential.below(count)), expected):
                 wrong.append(f"{count} speaks by {math.exp(sequential.below(count))} and not by {expected}")
         # decided at 40: by ten wins (93), not by nine of ten (9.3), by 18 of 20 (2**20 / 21 / 190 = 263); by 30 ties
         for parts, decided in (
-            ([Count(10)], (FIRST, 10)),
-            ([Count(0, 0, 10)], (SECOND, 10)),
-            ([Count(9, 0, 1)], ("", 10)),
-            ([Count(9, 0, 1)] * 2, (FIRST, 20)),
-            ([Count(0, 10)] * 9, (EVEN, 30)),
-            ([Count(5, 0, 5)] * 10, ("", 100)),
+            ([Score(10)], (BETTER, 10)),
+            ([Score(0, 0, 10)], (WORSE, 10)),
+            ([Score(9, 0, 1)], (OPEN, 10)),
+            ([Score(9, 0, 1)] * 2, (BETTER, 20)),
+            ([Score(0, 10)] * 9, (EVEN, 30)),
+            ([Score(5, 0, 5)] * 10, (OPEN, 100)),
         ):
             if sequential.decision(parts) != decided:
                 wrong.append(f"{parts} is decided as {sequential.decision(parts)} and not as {decided}")
@@ -89,11 +90,11 @@ class Decisions(Base):
             found = Counter(played(source, chance, ties, favour)[0] for _ in range(PAIRS // len(cases)))
             mean = 0.5 + (1 - ties) * (chance - 0.5)
             is_false = (
-                {FIRST, SECOND}
+                {BETTER, WORSE}
                 if chance == 0.5
-                else {SECOND, EVEN}
+                else {WORSE, EVEN}
                 if mean >= 0.5 + sequential.MARGIN - 1e-9
-                else {SECOND}
+                else {WORSE}
             )
             share = sum(found[it] for it in is_false) / found.total()
             if share > sequential.ERROR:
@@ -112,10 +113,10 @@ class Decisions(Base):
         39.95 at 0.4103. The other side is the same, turned; nothing is known of no matches."""
         wrong = []
         for count, low, high in (
-            (Count(10), 440**-0.1, 1.0),
-            (Count(9, 0, 1), 0.41823, 0.9998),
-            (Count(0, 30), 0.41015, 0.58985),
-            (Count(), 0.0, 1.0),
+            (Score(10), 440**-0.1, 1.0),
+            (Score(9, 0, 1), 0.41823, 0.9998),
+            (Score(0, 30), 0.41015, 0.58985),
+            (Score(), 0.0, 1.0),
         ):
             for it, wanted in ((count, (low, high)), (count.turned, (1 - high, 1 - low))):
                 found = sequential.interval(it)
@@ -129,12 +130,12 @@ class Decisions(Base):
         for played in range(1, 25):
             for won in range(played + 1):
                 for lost in range(0, played - won + 1, 3):
-                    it = Count(won, played - won - lost, lost)
+                    it = Score(won, played - won - lost, lost)
                     low, high = sequential.interval(it)
-                    side = FIRST if low >= 0.5 else SECOND if high <= 0.5 else ""
+                    side = BETTER if low >= 0.5 else WORSE if high <= 0.5 else OPEN
                     decided = sequential.looked(it)
                     share = (it.won + it.even / 2) / played
-                    if side != (decided if decided != EVEN else "") or not low <= share <= high:
+                    if side != (decided if decided != EVEN else OPEN) or not low <= share <= high:
                         wrong.append(f"{it}: {low} to {high}, {decided}")
         return wrong
 
@@ -144,7 +145,7 @@ class Decisions(Base):
         for chance, ties, favour in ((0.5, 0.0, 0.3), (0.75, 0.0, 0.0), (0.95, 0.3, 0.0), (0.6, 0.6, 0.1)):
             mean, failed = 0.5 + (1 - ties) * (chance - 0.5), 0
             for _ in range(60):
-                so_far, is_held = Count(), True
+                so_far, is_held = Score(), True
                 for _ in range(20):
                     so_far = so_far.plus(look(source, chance, ties, favour))
                     low, high = sequential.interval(so_far)
@@ -161,12 +162,12 @@ class Decisions(Base):
         chance, both = 126 / 145, 108 / 145
         own = chance**2 - both
         cases = (
-            (Count(10), Count(10), 1.0, 0.0, 0.0),
-            (Count(18, 0, 2), Count(9, 0, 1), chance, own, own * (1 - 252 / 145) / 20),
-            (Count(2, 0, 18), Count(1, 0, 9), 1 - chance, own, own * (252 / 145 - 1) / 20),
-            (Count(0, 30), Count(0, 10), 0.5, 0.0, 0.0),
-            (Count(6, 0, 4), Count(6, 0, 4), 0.6, 0.6**2 - 30 / 90, (0.6**2 - 30 / 90) * -0.2 / 10),
-            (Count(3, 5, 2), Count(3, 5, 2), 0.55, 0.25 * (0.36 - 0.3) + 0.01 * 0.25 / 9, 0.125 * (0.36 - 0.3) * -0.2 / 5),
+            (Score(10), Score(10), 1.0, 0.0, 0.0),
+            (Score(18, 0, 2), Score(9, 0, 1), chance, own, own * (1 - 252 / 145) / 20),
+            (Score(2, 0, 18), Score(1, 0, 9), 1 - chance, own, own * (252 / 145 - 1) / 20),
+            (Score(0, 30), Score(0, 10), 0.5, 0.0, 0.0),
+            (Score(6, 0, 4), Score(6, 0, 4), 0.6, 0.6**2 - 30 / 90, (0.6**2 - 30 / 90) * -0.2 / 10),
+            (Score(3, 5, 2), Score(3, 5, 2), 0.55, 0.25 * (0.36 - 0.3) + 0.01 * 0.25 / 9, 0.125 * (0.36 - 0.3) * -0.2 / 5),
         )
         wrong = []
         for count, first, *wanted in cases:
@@ -182,10 +183,10 @@ class Decisions(Base):
         for chance, ties in ((0.75, 0.0), (0.9, 0.2)):
             found, plain = [], []
             for _ in range(3000):
-                parts: list[Count] = []
-                while len(parts) < 10 and not sequential.decision(parts)[0]:
+                parts: list[Score] = []
+                while len(parts) < 10 and sequential.decision(parts)[0] == OPEN:
                     parts.append(look(source, chance, ties, 0.0))
-                every = functools.reduce(Count.plus, parts)
+                every = functools.reduce(Score.plus, parts)
                 found.append(stopped.share(every, parts[0]))
                 plain.append((every.won + every.even / 2) / every.played)
             mean = 0.5 + (1 - ties) * (chance - 0.5)
@@ -198,9 +199,9 @@ class Decisions(Base):
 
     def verdicts_in_words(self) -> list[str]:
         """Of both sides, and as fields."""
-        count = Count(18, 0, 2)
-        it = verdicts.Told(FIRST, count, *sequential.interval(count))
-        even, open_ = (verdicts.Told(decision, Count(0, 30), 0.41, 0.59) for decision in (EVEN, ""))
+        count = Score(18, 0, 2)
+        it = verdicts.Told(BETTER, count, *sequential.interval(count))
+        even, open_ = (verdicts.Told(decision, Score(0, 30), 0.41, 0.59) for decision in (EVEN, OPEN))
         said = [verdicts.said(one, "a", "b") for one in (it, it.turned, even, open_)]
         wanted = ["a is better, by the test after 20 matches", "b is better, by the test after 20 matches",
                   "even, by the test after 30 matches", "not decided after 30 matches"]

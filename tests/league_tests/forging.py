@@ -16,7 +16,8 @@ from leagues.results import Results
 from leagues.schedules import Schedule
 from leagues.schema import SCHEMA
 from leagues.seasons import field, seasons
-from leagues.standings import Standing, standings
+from leagues.standings import standings
+from results.standings import Standing
 from tools.faults import Fault
 from tournaments.programs import program
 

@@ -3,9 +3,15 @@
 from __future__ import annotations
 
 import random
+from decimal import Decimal
 
 from leagues import ladders, likeness, missing, seasons
 from leagues.entries import ADD, CHANGE, WITHDRAW, Entry
+from leagues.main import command
+from leagues.words import Words
+from results.scores import Score
+from results.standings import NOTHING, Standing, marked, ranked
+from results.tallies import Tally, group_of
 from tournaments.records import Series
 
 from .base import Base
@@ -13,6 +19,50 @@ from .base import Base
 
 class Pieces(Base):
     """What is worked out without a league."""
+
+    def commands_are_found(self) -> list[str]:
+        """Each command that the words have is a function of its own name, and no other word is one."""
+        names = [*Words("league").names]
+        wrong = [name for name in names if command(name).__name__ != name.replace("-", "_")]
+        try:
+            wrong.append(f"{command('tables')}")
+        except LookupError:
+            pass
+        return wrong + ([] if len(names) == 21 else [f"{names}"])
+
+    def scores_by_hand(self) -> list[str]:
+        """0 and 1 meet in a match of two and in one of three: in that of three a robot that lived has beaten each that died, and two that
+        lived have tied, and so have none that died."""
+        tally = Tally()
+        tally.add((0, 1), ["wl", "ll", "tt"])
+        tally.add((2, 1, 0), ["tlt", "wll", "lll"])
+        both = {(0, 1): Score(2, 1, 3, 3), (0, 2): Score(0, 1, 2, 1), (1, 2): Score(0, 0, 3, 1)}
+        wrong = [f"{pair}: {tally.pairs().get(pair)}" for pair in both if tally.pairs().get(pair) != both[pair]]
+        turned = {(1, 0): Score(0, 1, 5, 3), (2, 0): Score(1, 1, 1, 1), (2, 1): Score(2, 0, 1, 1)}
+        wrong += [] if tally.faced() == both | turned else [f"{tally.faced()}"]
+        # 0 wins one of two's matches, loses one and ties one; of the three's it ties one and loses two
+        sizes = {2: {0: Score(1, 1, 1), 1: Score(0, 1, 2)}, 3: {0: Score(0, 1, 2), 1: Score(0, 0, 3), 2: Score(1, 1, 1)}}
+        wrong += [] if tally.scores(len) == sizes else [f"{tally.scores(len)}"]
+        wrong += [] if tally.scores(group_of) == {(0, 1): sizes[2], (0, 1, 2): sizes[3]} else [f"{tally.scores(group_of)}"]
+        share = both[0, 1].share
+        return wrong + ([] if share == 4 / 6 and Score().share == 0.5 else [f"{share}"])
+
+    def ranks_by_hand(self) -> list[str]:
+        """Equal points have an equal rank, each division has its own, and one that has a rank keeps it. Who is close is asked of neighbours
+        of a division that both have played, by their places."""
+        rows = [Standing(name, rank, Score(played), Decimal(points), NOTHING, division=division, place=at)
+                for at, (name, division, points, rank, played) in enumerate((
+                    ("a", 1, 3, 0, 1), ("b", 1, 3, 0, 1), ("c", 1, 2, 0, 0), ("d", 1, 1, 9, 1), ("e", 2, 1, 0, 1), ("f", 2, 0, 0, 1)))]
+        asked: list[tuple[int, int, float]] = []
+
+        def are_close(one: int, other: int, apart: float) -> bool:
+            asked.append((one, other, apart))
+            return one == 0
+
+        found = [*marked([*ranked(rows)], are_close)]
+        told = [(row.robot, row.rank, row.close) for row in found]
+        right = [("a", 1, False), ("b", 1, True), ("c", 3, False), ("d", 9, False), ("e", 1, False), ("f", 2, False)]
+        return [] if told == right and asked == [(0, 1, 0.0), (4, 5, 1.0)] else [f"{told} {asked}"]
 
     def ladder_by_hand(self) -> list[str]:
         # robot 0 beats 1, 1 beats 2, 2 beats 0; 3 beats all

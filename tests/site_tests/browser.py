@@ -13,7 +13,7 @@ from typing import Iterator
 from browsers import Browser, chromium
 from harness import skip
 from packages import lacking
-from sites.facts import Verdict
+from results.verdicts import Verdict
 from sites.publishing import publish
 
 from . import made

@@ -17,7 +17,8 @@ from leagues.rules import Rules
 from leagues.schedules import Schedule
 from leagues.standings import standings
 from leagues.store import Store, made, opened
-from sites.facts import Facts, Verdict
+from results.verdicts import Verdict
+from sites.facts import Facts
 from sites.publishing import publish
 
 from .reading import Element, dangling, files, read, rows

@@ -5,8 +5,9 @@ from __future__ import annotations
 import hashlib
 from decimal import Decimal
 
-from sites.facts import (Battle, BySeat, Facts, Notable, Pair, Place, Program, Robot, Score, Seat, Series, Settings,
-                         Standing, Sums, Table, Version)
+from results.scores import NONE, Score
+from results.standings import Rating, Standing
+from sites.facts import Battle, BySeat, Facts, Notable, Pair, Program, Robot, Seat, Series, Settings, Sums, Table, Version
 
 SCRIPT = "<script>alert(1)</script>.r"
 NAMES = ["hunter.r", SCRIPT, "a \"quoted\" & 'named' one.r", "  two  blanks .r", "caf\udce9.r", "..", "CON", "index",
@@ -67,14 +68,14 @@ def standing(at: int, robots: int) -> Standing:
     score = Score(won, robots - 1, MATCHES * (robots - 1) - won - (robots - 1))
     rating = 2000.0 if at == 0 else 300.0 - 50 * at
     points = Decimal(3 * score.won + score.tied) / score.played
-    return Standing(NAMES[at], at + 1, score, points, rating, rating - 60, rating + 60, at > 1)
+    return Standing(NAMES[at], at + 1, score, points, Rating(rating, rating - 60, rating + 60), at > 1)
 
 
 def table(day: str, robots: int) -> Table:
     """An earlier table: the second and the third robot were the other way round, and the last wasn't there."""
     order = [0, 2, 1, *range(3, robots - 1)]
-    return Table(day, {NAMES[at]: Place(rank, 300.0 - 50 * rank, 240.0 - 50 * rank, 360.0 - 50 * rank)
-                       for rank, at in enumerate(order, 1)})
+    ratings = {at: Rating(300.0 - 50 * rank, 240.0 - 50 * rank, 360.0 - 50 * rank) for rank, at in enumerate(order, 1)}
+    return Table(day, {NAMES[at]: Standing(NAMES[at], rank, NONE, Decimal(0), ratings[at]) for rank, at in enumerate(order, 1)})
 
 
 def league(robots: int = len(NAMES), page: str = PAGE, archive: str = "") -> Facts:

@@ -13,8 +13,8 @@ from typing import Any, Iterator
 
 from harness import skip
 from packages import lacking
-from sites import charts, numbers, shares
-from sites.facts import Score
+from results.scores import Score
+from sites import charts, numbers
 from tournaments import challenges, progress
 
 Results = Iterator[tuple[str, bool]]
@@ -83,9 +83,9 @@ def the_script() -> Results:
     told = asked({"counts": counts, "parts": parts, "scores": scores})
     yield "counts", told["counts"] == [f"{it:,}" for it in counts]
     yield "percentages", told["parts"] == [numbers.percent(it) for it in parts]
-    yield "shares", told["scores"] == [shares.share(Score(*it)) for it in scores]
+    yield "shares", told["scores"] == [Score(*it).share for it in scores]
     yield "from the other side", told["turned"] == [
-        [it.won, it.tied, it.lost, it.both] for it in (shares.turned(Score(*one)) for one in scores)]
+        [it.won, it.tied, it.lost, it.both] for it in (Score(*one).turned for one in scores)]
 
 
 def asked(given: dict[str, Any]) -> Any:

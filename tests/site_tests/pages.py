@@ -13,7 +13,9 @@ from dataclasses import replace
 from decimal import Decimal
 from typing import Iterator
 
-from sites.facts import BySeat, Facts, Pair, Robot, Score
+from results.scores import Score
+from results.standings import Rating
+from sites.facts import BySeat, Facts, Pair, Robot
 from sites.publishing import publish
 
 from . import made
@@ -275,7 +277,7 @@ def with_less(place: str) -> Results:
     some: dict[str, Facts] = {
         "a tournament": less, "a robot that was withdrawn": replace(less, robots=robots),
         "equal robots": replace(less, standings=tuple(
-            replace(it, rating=0.0, low=0.0, high=0.0) for it in less.standings)),
+            replace(it, rating=Rating(0.0, 0.0, 0.0)) for it in less.standings)),
         "a single robot": replace(less, robots=less.robots[:1], standings=less.standings[:1], pairs=()),
         "nothing": replace(less, robots=(), standings=(), pairs=()),
         "many robots": many(25),

@@ -18,13 +18,13 @@ from typing import Iterator
 from browsers import Browser, chromium
 from harness import skip
 from packages import lacking
+from results.tallies import Tally
 from sites.facts import Facts
 from sites.publishing import publish
 from sites.tournament_facts import facts_of_tournament, kept_sources
 from tournaments.records import Record, played
 from tournaments.robots import Robot, in_order, names
-from tournaments.standings import Scoring, standings
-from tournaments.tallies import Tally
+from tournaments.standings import Weighed, standings
 
 from .browser import rendered
 from .filming import replays
@@ -92,9 +92,9 @@ def read_journal(path: str) -> Facts:
     with open(path, encoding="utf-8") as file:
         records: list[Record] = [played(line) for line in file]
     among: list[Robot] = in_order({robot for it in records for robot in it.robots})
-    tally, scoring = Tally(), Scoring(Decimal(3), Decimal(1))
+    tally, scoring = Tally(), Weighed(Decimal(3), Decimal(1))
     for it in records:
-        tally.add(it)
+        tally.add(it.series.seats, it.ended)
     table = standings(tally, names([it.path for it in among]), scoring)
     return facts_of_tournament("A tournament", records[0].settings, scoring, among, kept_sources(among), table, records,
                                "https://example.org/")

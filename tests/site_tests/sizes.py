@@ -9,7 +9,9 @@ import tempfile
 from dataclasses import replace
 from typing import Iterator
 
-from sites.facts import BySeat, Notable, Robot, Score, Series, Standing
+from results.scores import Score
+from results.standings import Standing
+from sites.facts import BySeat, Notable, Robot, Series
 from sites.publishing import publish
 
 from . import made

@@ -13,16 +13,18 @@ import subprocess
 import zlib
 from base64 import urlsafe_b64decode
 from dataclasses import replace
+from decimal import Decimal
 from pathlib import Path
 from typing import Any, Iterator
 
 from harness import skip
 from packages import lacking
-from sites import addresses, charts, colours, commands, links, lookups, names, notables, places, robot_data, scales, shares, sources, sums, verdicts
-from sites.facts import Battle, BySeat, Pair, Place, Score, Seat, Series, Settings
+from results.scores import Score
+from results.standings import Rating, Standing
+from sites import addresses, charts, colours, columns, commands, index, links, lookups, names, notables, places, robot_data, scales, shares, sources, sums
+from sites.facts import Battle, BySeat, Pair, Seat, Series, Settings, Stay
 from sites.gathering import Gathering, Losses
-from sites.lookups import Stay, from_other_side
-from sites.markup import Markup, block, tag
+from sites.markup import Markup, block, escaped, tag
 
 from . import made
 
@@ -66,6 +68,7 @@ def results() -> Results:
     yield from battle_links()
     yield from source_lines()
     yield from colour_steps()
+    yield from columns_of_tables()
     yield from axes()
     yield from days_of_changes()
     yield from addresses_of_pages()
@@ -105,12 +108,12 @@ def scores() -> Results:
     for counts, (low, high) in INTERVALS.items():
         found = shares.interval(Score(*counts))
         yield f"the interval of {counts}", abs(found[0] - low) < 5e-5 and abs(found[1] - high) < 5e-5
-    yield "the share of ties", shares.share(Score(6, 1, 3, 1)) == 0.7
-    yield "the other side", shares.turned(Score(6, 1, 3, 1)) == Score(2, 1, 7, 1)
+    yield "the share of ties", Score(6, 1, 3, 1).share == 0.7
+    yield "the other side", Score(6, 1, 3, 1).turned == Score(2, 1, 7, 1)
     even = Pair("a", "b", Score(5, 0, 5), 0.5, 0.5)
-    said = [verdicts.verdict(replace(even, low=low, high=high)).what for low, high in ((0.5, 0.9), (0.501, 0.9), (0.1, 0.5), (0.1, 0.499))]
+    said = [replace(even, low=low, high=high).decided.what for low, high in ((0.5, 0.9), (0.501, 0.9), (0.1, 0.5), (0.1, 0.499))]
     yield f"decided by the interval {said}", said == ["not decided", "better", "not decided", "worse"]
-    yield "no match", (shares.share(Score(0, 0, 0)), shares.interval(Score(0, 0, 0))) == (0.5, (0.0, 1.0))
+    yield "no match", (Score(0, 0, 0).share, shares.interval(Score(0, 0, 0))) == (0.5, (0.0, 1.0))
 
 
 def chosen() -> Results:
@@ -140,7 +143,7 @@ def gathered() -> Results:
     alone = tuple(Series(2**64 - number, number, 1) for number in (5, 4, 3, 2, 1))
     yield f"scores by seat {pair.seats}", pair.seats == (
         BySeat(1, 2, Score(1, 1, 3, 2), alone), BySeat(2, 1, Score(0, 0, 1, 0), (Series(2**64 - 9, 9, 1),)))
-    yield f"the score of both {pair.score}", pair.score == Score(1, 1, 4, 2) and abs(shares.share(pair.score) - 2.5 / 6) < 1e-9
+    yield f"the score of both {pair.score}", pair.score == Score(1, 1, 4, 2) and abs(pair.score.share - 2.5 / 6) < 1e-9
     yield from all_matches()
     lost = Losses({"a": 0, "b": 1, "c": 2, "x": 3})
     for robot, number in (("a", 2), ("b", 4), ("c", 6), ("c", 3)):
@@ -156,7 +159,7 @@ def all_matches() -> Results:
     one = next(it.pairs())
     series = {(by.seat, by.against): by.series for by in one.seats}
     yield f"all matches {series}", series == {(1, 2): (Series(3, 4, 1), Series(7, 1, 7)), (2, 1): (Series(8, 1, 2),)}
-    yield "turned", [(by.seat, by.series) for by in from_other_side(one).seats] == [(2, series[1, 2]), (1, series[2, 1])]
+    yield "turned", [(by.seat, by.series) for by in one.turned.seats] == [(2, series[1, 2]), (1, series[2, 1])]
 
 
 
@@ -271,6 +274,28 @@ def axes() -> Results:
     yield "one value", scales.scale([7.0], 0, 10).at(7) == 5
 
 
+def columns_of_tables() -> Results:
+    """Columns have names and numbers of their own, and one more stands on the page and in the data where it says, with what it says."""
+    for name, them in (("robots", columns.STANDINGS), ("pairs", columns.PAIRS)):
+        yield f"names of columns of {name}", len({it.name for it in them}) == len(them)
+        numbers_ = sorted(it.order for it in them if it.value)
+        yield f"numbers of columns of {name} {numbers_}", numbers_ == [*range(1, len(numbers_) + 1)]
+        yield f"columns of {name} without a cell or a value", all(it.cell or it.value or it.help for it in them)
+        yield f"titles of columns of {name}", all(bool(it.title) == bool(it.cell) for it in them)
+    lookup = lookups.Lookup(made.league(3))
+    more = [columns.Column[Standing]("half", "Half", "number", lambda _, row: f"{row.score.played / 2:g} <", 15, lambda _, row: row.score.played / 2),
+            *columns.STANDINGS]
+    csv = columns.written(lookup, more, lookup.facts.standings).splitlines()
+    # each has played ten against each of two
+    yield f"one more in the data {csv}", csv[0].endswith(",close,half") and all(line.endswith(",10.0") for line in csv[1:])
+    page = columns.tabled(columns.View(lookup), more, "Table", lookup.facts.standings)
+    yield "one more on the page", page.count('<th scope="col" class="number">Half</th><th scope="col" class="number">Rank</th>') == 1 and page.count(
+        '<td class="number">10 &lt;</td>') == 3
+    first = index.index(lookup)
+    said = [it.help.strip() for it in columns.STANDINGS if it.help]
+    yield "what is said of columns", len(said) >= 3 and all(escaped(it) in first for it in said)
+
+
 # Which changes are drawn in a chart of the days from the 5th to the 20th: those after the first table, up to the day of the last one.
 CHANGES = {"2026-03-04": False, "2026-03-05": False, "2026-03-06": True, "2026-03-19": True, "2026-03-20": True, "2026-03-21": False}
 
@@ -280,7 +305,7 @@ def days_of_changes() -> Results:
     days = ["2026-03-05", "2026-03-12", "2026-03-20"]
     for day, is_drawn in CHANGES.items():
         yield f"a change on {day}", charts.during(days, [day]) == ([day] if is_drawn else [])
-    places_ = [Place(1, 10.0, 0.0, 20.0)] * 3
+    places_ = [Standing("a", 1, Score(), Decimal(0), Rating(10.0, 0.0, 20.0))] * 3
     stays = [Stay(day, "1", place) for day, place in zip(days, places_)]
     drawn = charts.over_time(stays, [*CHANGES], "a chart")
     xs = [float(it) for it in re.findall(r'<line x1="([\d.]+)" x2="[\d.]+" y1="[\d.]+" y2="[\d.]+" class="change">', drawn)]

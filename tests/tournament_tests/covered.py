@@ -17,8 +17,11 @@ from dataclasses import dataclass
 from typing import Callable, Iterable
 
 from leagues import sequential, stopped
-from leagues.sequential import LOOK, Count
-from tournaments import evidence, ratings, tallies
+from leagues.sequential import LOOK
+from results import tallies
+from results.scores import Score
+from results.verdicts import OPEN
+from tournaments import evidence, ratings
 from tournaments.evidence import Evidence
 
 from .base import Base
@@ -78,15 +81,15 @@ def until_sure(those: Chances, most: int) -> Draw:
     return draw
 
 
-def looks(source: random.Random, those: Chances, pair: tuple[int, ...], most: int) -> tuple[Count, Count]:
+def looks(source: random.Random, those: Chances, pair: tuple[int, ...], most: int) -> tuple[Score, Score]:
     """What is seen of a pair, and of its first look."""
-    found: list[Count] = []
+    found: list[Score] = []
     for _ in range(0, most, LOOK):
         here, there = (drawn(source, those[seats], LOOK // 2) for seats in (pair, pair[::-1]))
-        found.append(Count(here["wl"], here["tt"], here["lw"]).plus(Count(there["lw"], there["tt"], there["wl"])))
-        if sequential.decision(found)[0]:
+        found.append(Score(here["wl"], here["tt"], here["lw"]).plus(Score(there["lw"], there["tt"], there["wl"])))
+        if sequential.decision(found)[0] != OPEN:
             break
-    return functools.reduce(Count.plus, found), found[0]
+    return functools.reduce(Score.plus, found), found[0]
 
 
 @dataclass

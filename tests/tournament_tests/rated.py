@@ -9,7 +9,8 @@ import statistics
 from collections import Counter, defaultdict
 from typing import Iterable, Iterator, Mapping, Sequence
 
-from tournaments import closeness, evidence, matrices, ratings, tallies
+from results import tallies
+from tournaments import closeness, evidence, matrices, ratings
 from tournaments.intervals import NORMAL, quantile
 
 from .base import Base
