@@ -15,9 +15,11 @@ Change = tuple[str, str]
 
 @dataclass
 class Step:
-    """Words that must be said, words that must not, and what is changed then: the kind of each change, and what stands behind it."""
+    """Words that must be said, words of which one must be, words that must not, and what is changed then: the kind of each change, and what
+    stands behind it."""
 
-    says: list[str]
+    says: list[str] = field(default_factory=list)
+    either: list[str] = field(default_factory=list)
     never: list[str] = field(default_factory=list)
     changes: list[Change] = field(default_factory=list)
 
@@ -63,7 +65,9 @@ def take(mistake: Mistake, word: str, rest: str) -> None:
     if word == "open":
         mistake.is_open = rest
     elif word == "says":
-        mistake.steps.append(Step(words_of(rest)))
+        mistake.steps.append(Step(says=words_of(rest)))
+    elif word == "any":
+        mistake.steps.append(Step(either=words_of(rest)))
     elif word == "not":
         mistake.steps[-1].never += words_of(rest)
     else:
@@ -124,7 +128,8 @@ def is_said(word: str, said: str) -> bool:
 
 def wrong_step(step: Step, said: str) -> list[str]:
     """What is wrong with what is said at a step."""
-    return [f"lacks {word!r}" for word in step.says if not is_said(word, said)] + \
+    none = [f"lacks all of {step.either}"] if step.either and not any(is_said(word, said) for word in step.either) else []
+    return [f"lacks {word!r}" for word in step.says if not is_said(word, said)] + none + \
         [f"has {word!r}" for word in step.never if stands(word, said)]
 
 

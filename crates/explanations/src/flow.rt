@@ -1,7 +1,7 @@
-//! Warnings about functions: a `main` that returns, and functions that call themselves.
+//! Warnings about functions: a `main` that returns, functions that call themselves, and those that nothing calls.
 
 use crate::indices::is_name;
-use crate::warnings::{Subject, Warnings};
+use crate::warnings::{Said, Subject, Warnings};
 use derivations::{Body, Node, NodeKind, SourceTree};
 use grammar::{Callee, MOST_NAMES};
 
@@ -44,6 +44,19 @@ pub fn warn_of_recursion(out: &mut Warnings, subject: &Subject<'_>) {
             out.tell(
                 body.token,
                 "this function may call itself: each call that is open takes a part of the small stack",
+            );
+        }
+    }
+}
+
+/// Warns of functions that nothing calls, in a source without a fault.
+pub fn warn_of_uncalled(out: &mut Warnings, subject: &Subject<'_>) {
+    let called = called_in(subject.tree.all());
+    for body in subject.tree.bodies() {
+        if called & bit(body.number) == 0 && !is_name(subject.tokens, body.token, b"main") {
+            out.warn(
+                body.token,
+                Said::Named(" is never called: `main` alone begins by itself"),
             );
         }
     }

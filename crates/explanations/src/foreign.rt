@@ -76,6 +76,8 @@ pub fn foreign_at(scene: &Scene<'_>) -> Option<Foreign> {
     let before = scene.index.saturating_sub(1);
     let called = if scene.follows_mark(Punctuator::OpenRound) {
         before.saturating_sub(1)
+    } else if scene.token(before.saturating_sub(1)) == Token::Punctuator(Punctuator::OpenRound) {
+        before.saturating_sub(2)
     } else {
         before
     };

@@ -340,6 +340,9 @@ fn on_declarations(scene: &Scene<'_>) -> Option<Hint> {
 /// them.
 fn on_declared_names(scene: &Scene<'_>) -> Option<Hint> {
     let is_number = matches!(scene.met(), Token::Constant(_));
+    if is_number && scene.is_outside() && scene.fits(&Token::End) {
+        return Some(Hint::Text("a line has no number: what is done stands in `main() { .. }`"));
+    }
     if is_number && scene.fits(&Token::Name(Name::new())) && !scene.kinds.expression {
         return Some(Hint::Text(if is_in_list(scene) {
             "a list of parameters has names alone; a call stands inside of a function"
@@ -654,10 +657,36 @@ fn ends_block(scene: &Scene<'_>) -> bool {
 fn on_operands(scene: &Scene<'_>) -> Option<Hint> {
     let before = scene.before()?.token;
     let is_operator = operator_from(&before, 1).is_some() || store_operator(&before).is_some();
+    if joins(&before) && compares(&scene.met()) {
+        return Some(Hint::Text("each comparison has both its sides: `a > 1 && a < 9`"));
+    }
     if is_operator && scene.kinds.expression {
         return Some(Hint::Text("the operator before it lacks its right side"));
     }
     None
+}
+
+/// Reports whether a token joins conditions.
+fn joins(token: &Token) -> bool {
+    matches!(
+        token,
+        Token::Punctuator(Punctuator::AndAnd | Punctuator::OrOr)
+    )
+}
+
+/// Reports whether a token compares.
+fn compares(token: &Token) -> bool {
+    matches!(
+        token,
+        Token::Punctuator(
+            Punctuator::Less
+                | Punctuator::Greater
+                | Punctuator::LessEquals
+                | Punctuator::GreaterEquals
+                | Punctuator::EqualsEquals
+                | Punctuator::NotEquals
+        )
+    )
 }
 
 /// Returns the hint on brackets that aren't closed or not opened, and on arguments without a `,` between them.

@@ -22,6 +22,9 @@ pub fn on_character(found: &Found<'_>, scene: &Scene<'_>) -> Option<&'static str
         ),
         b'[' | b']' => Some("there are no arrays: use several variables"),
         b'?' => Some("there is no `?:`: write `if (..) a = ..; else a = ..;`"),
+        b':' if names_argument(scene) => Some(
+            "an argument has no name: it goes by its place, as in `drive(degree, speed)`",
+        ),
         b':' if ends_label(scene) => Some(
             "there are no labels: what is repeated for ever stands in `while (1) { .. }`",
         ),
@@ -69,6 +72,16 @@ fn follows_test(found: &Found<'_>) -> bool {
 fn ends_label(scene: &Scene<'_>) -> bool {
     let before = scene.index.saturating_sub(1);
     scene.name(before).is_some() && scene.chosen_at() == before
+}
+
+/// Reports whether a name that begins an argument is right before the token that doesn't fit.
+fn names_argument(scene: &Scene<'_>) -> bool {
+    let name = scene.index.saturating_sub(1);
+    let begins = matches!(
+        scene.token(name.saturating_sub(1)),
+        Token::Punctuator(Punctuator::OpenRound | Punctuator::Comma)
+    );
+    begins && scene.name(name).is_some() && scene.fits_mark(Punctuator::Comma)
 }
 
 /// Reports whether a number is right before the first byte of a fault's token, or a digit right behind it.

@@ -138,6 +138,11 @@ fn on_bounds(op: Op, meaning: Meaning, value: Option<i32>) -> Option<&'static st
     let value = value?;
     let (least_holds, greatest_holds) = (holds(op, least, value)?, holds(op, greatest, value)?);
     let is_within = least <= value && value <= greatest;
+    if meaning == Meaning::Range && value == 1 && matches!(op, Op::Equal | Op::NotEqual) {
+        return Some(
+            "`scan` answers how many metres off a robot is, and 0 if none is there: compare with 0",
+        );
+    }
     if least_holds != greatest_holds || is_within && matches!(op, Op::Equal | Op::NotEqual) {
         return None;
     }

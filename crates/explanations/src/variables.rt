@@ -133,6 +133,7 @@ fn meant_as_set(subject: &Subject<'_>, uses: &Uses, token: usize) -> Meant {
 /// whole word.
 fn meant_as_read(subject: &Subject<'_>, uses: &Uses, token: usize) -> Meant {
     match (meant(subject, uses, token), name_at(subject.tokens, token)) {
+        (Meant::Nothing, Some(name)) if is_function(subject, &name) => Meant::Call,
         (Meant::Nothing, Some(name))
             if name.as_bytes().len() > 2 && is_elsewhere(subject, token, &name) => {
             Meant::Words("; that of another function is another one: declare it outside of both")
@@ -164,6 +165,16 @@ fn meant(subject: &Subject<'_>, uses: &Uses, token: usize) -> Meant {
 fn is_declared_below(subject: &Subject<'_>, token: usize, name: &Name) -> bool {
     for external in subject.declarations.externals() {
         if *external > token && name_at(subject.tokens, *external) == Some(*name) {
+            return true;
+        }
+    }
+    false
+}
+
+/// Reports whether a function of the file has this name.
+fn is_function(subject: &Subject<'_>, name: &Name) -> bool {
+    for body in subject.tree.bodies() {
+        if name_at(subject.tokens, body.token) == Some(*name) {
             return true;
         }
     }

@@ -5,7 +5,7 @@ use crate::calls::warn_of_call;
 use crate::comments::{add_swallowing, warn_of_comments};
 use crate::constants::Constants;
 use crate::declarations::Declarations;
-use crate::flow::{warn_of_main, warn_of_recursion};
+use crate::flow::{warn_of_main, warn_of_recursion, warn_of_uncalled};
 use crate::indices::{name_at, token_at};
 use crate::meanings::Meanings;
 use crate::notes::Note;
@@ -279,6 +279,9 @@ fn warnings_up_to(source: &[u8], tokens: &[Located], profile: Profile, end: usiz
     warnings.warn_of_empty_branches(tokens);
     warn_of_comments(&mut warnings, source, tokens);
     warn_of_recursion(&mut warnings, &subject);
+    if end == tokens.len() {
+        warn_of_uncalled(&mut warnings, &subject);
+    }
     warn_of_main(&mut warnings, &subject);
     let list = warnings.list.as_mut_slice();
     list.sort_unstable_by_key(|warning| warning.order);

@@ -10,7 +10,8 @@ pub const BEFORE_TITLE: &str = "<!DOCTYPE html>
 
 /// The look of all pages. On a narrow screen the code is below the source, and each scrolls by itself. On paper each
 /// line of the source is above its code, nothing scrolls, all is dark on white, no heading is alone at the foot of a
-/// page, no row and no graph is cut in two, and what is left of a row is indented.
+/// page or above two rows at its foot, no two rows alone are on the next page, no row and no graph is cut in two, and
+/// what is left of a row is indented.
 pub const LOOK: &str = ": stages of a robot</title>
 <style>
 :root { color-scheme: light dark; --ground: #ffffff; --ink: #1b1f24; --faint: #59636e; --edge: #d1d9e0; --light: 92%; --strong: 80%; }
@@ -65,14 +66,16 @@ svg .m { fill: var(--faint); }
   .paper { display: block; }
   main { display: block; }
   section { border: 0; max-height: none; overflow: visible; }
-  h2, h3 { break-after: avoid; }
+  h2, h3, .f { break-after: avoid; break-inside: avoid; }
   h2 { position: static; margin-top: 1rem; padding-left: 0; }
   .rows { width: auto; font-size: 9pt; }
   .rows div { min-height: 0; white-space: pre-wrap; overflow-wrap: anywhere; break-inside: avoid; }
   .rows > div, .b > div { padding-left: 8ch; text-indent: -8ch; border: 0; }
   .rows > .b { padding-left: 0; text-indent: 0; white-space: normal; }
+  .rows > .f { padding-left: 8ch; }
+  .rows > :nth-child(-n+2), .f + div, .rows > :nth-last-child(2), .rows > :nth-last-child(3) { break-after: avoid; }
   a, i, b { text-indent: 0; }
-  .landscape { page: landscape; }
+  .landscape, h1:has(+ main > .landscape:first-child) { page: landscape; }
   .flow { padding: 0; }
   .chart { break-inside: avoid; }
   svg { max-width: 100%; max-height: 24cm; height: auto; }
@@ -107,6 +110,12 @@ pub const BEFORE_INSTRUCTIONS: &str = "</div>
 <section class=\"screen\" aria-label=\"Code\">
 <h2>Code: line, address, instruction, name</h2>
 <div class=\"rows\">
+";
+
+/// What is before pictures of trees for which no paper is wide enough.
+pub const TOO_WIDE: &str =
+    "<p class=\"paper\">No page is wide enough for these trees: print the chapters derivation and tree.</p>
+<div class=\"flow screen\">
 ";
 
 /// The end of a section with its rows.

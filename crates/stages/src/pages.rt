@@ -10,13 +10,13 @@ use crate::drawings::tree_of;
 use crate::flow::blocks_of;
 use crate::looks::{
     BEFORE_CODE, BEFORE_INSTRUCTIONS, BEFORE_LINES, BEFORE_NAME, BEFORE_TITLE, BEHIND_NAME,
-    END_SECTION, LOOK, TAIL,
+    END_SECTION, LOOK, TAIL, TOO_WIDE,
 };
 use crate::markup::{COLOURS, Escaped, hue};
 use crate::operation_rows::add_operation_rows;
 use crate::origins::Origins;
 use crate::outlines::Outline;
-use crate::pictures::add_pictures;
+use crate::pictures::{MOST_ON_PAPER, add_pictures};
 use crate::robots::Robot;
 use crate::texts::{lines_of, shown};
 use crate::token_rows::add_token_rows;
@@ -72,7 +72,7 @@ impl<'a> Page<'a> {
             Chapter::Bounds => return self.add_bounds(text),
         }
         begin_section(text, "wide", chapter)?;
-        add_lines(text, rows.as_str(), false)?;
+        add_lines(text, rows.as_str(), chapter)?;
         text.push_str(END_SECTION)
     }
 
@@ -81,13 +81,20 @@ impl<'a> Page<'a> {
         tree_of(alloc, self.source, self.profile, self.robot)
     }
 
-    /// Adds the pictures of its trees.
+    /// Adds the pictures of its trees. On paper they lie across a page, or other chapters are named if they are too wide.
     fn add_trees(&self, text: &mut String) -> Result<(), AllocError> {
         let alloc = *text.allocator();
-        begin_section(text, "wide landscape", Chapter::Svg)?;
-        text.push_str("<div class=\"flow\">\n")?;
         let derivation = derivation_tree(alloc, self.source)?;
-        add_pictures(text, &derivation, &self.tree(alloc)?, "")?;
+        let mut pictures = String::new(alloc);
+        let width = add_pictures(&mut pictures, &derivation, &self.tree(alloc)?, "")?;
+        let (class, begin) = if width > MOST_ON_PAPER {
+            ("wide", TOO_WIDE)
+        } else {
+            ("wide landscape", "<div class=\"flow\">\n")
+        };
+        begin_section(text, class, Chapter::Svg)?;
+        text.push_str(begin)?;
+        text.push_str(pictures.as_str())?;
         text.push_str(END_SECTION)
     }
 
@@ -97,7 +104,7 @@ impl<'a> Page<'a> {
         begin_section(text, "paper", Chapter::Code)?;
         let mut listing = String::new(*text.allocator());
         add_listing(&mut listing, self.source, self.robot)?;
-        add_lines(text, listing.as_str(), true)?;
+        add_lines(text, listing.as_str(), Chapter::Code)?;
         text.push_str(END_SECTION)?;
         text.push_str(BEFORE_LINES)?;
         add_source(text, self.source, self.robot)?;
@@ -156,17 +163,20 @@ fn heading_of(chapter: Chapter) -> (&'static str, &'static str) {
     }
 }
 
-/// Adds lines of text as rows. If they are a listing, a line of the source is kept together with its code.
-fn add_lines(text: &mut String, lines: &str, is_listing: bool) -> Result<(), AllocError> {
+/// Adds lines of text as the rows of a chapter. Of a listing a line of the source is kept together with its code, and the
+/// name of a function that stands above operations is a heading.
+fn add_lines(text: &mut String, lines: &str, chapter: Chapter) -> Result<(), AllocError> {
     text.push_str("<div class=\"rows\">\n")?;
     let mut is_open = false;
     for line in lines.trim_end().split('\n') {
-        if is_listing && begins_line(line) {
+        if chapter == Chapter::Code && begins_line(line) {
             text.push_str(if is_open { "</div>\n" } else { "" })?;
             text.push_str("<div class=\"b\">\n")?;
             is_open = true;
         }
-        writeln!(text, "<div>{}</div>", Escaped(line))?;
+        let is_name = chapter == Chapter::Operations && !line.starts_with(" ");
+        let class = if is_name { " class=\"f\"" } else { "" };
+        writeln!(text, "<div{class}>{}</div>", Escaped(line))?;
     }
     text.push_str(if is_open { "</div>\n" } else { "" })
 }

@@ -25,6 +25,9 @@ const HEAD: usize = 24;
 /// What is free between two trees.
 const BETWEEN: usize = 40;
 
+/// The greatest width of both trees on paper: its letters are five points high there.
+pub const MOST_ON_PAPER: usize = 1700;
+
 /// The look of both trees where no page has one.
 const LOOK: &str = "<style>
 .trees { background: #ffffff; color: #1b1f24; --edge: #59636e; --light: #e8eef5; }
@@ -55,16 +58,17 @@ pub fn add_picture_file(
     derivation: &Outline,
     tree: &Outline,
 ) -> Result<(), AllocError> {
-    add_pictures(text, derivation, tree, LOOK)
+    add_pictures(text, derivation, tree, LOOK)?;
+    Ok(())
 }
 
-/// Adds a picture of a source's derivation tree, and of its tree beside it, with this look.
+/// Adds a picture of a source's derivation tree, and of its tree beside it, with this look. Returns its width.
 pub fn add_pictures(
     text: &mut String,
     derivation: &Outline,
     tree: &Outline,
     look: &str,
-) -> Result<(), AllocError> {
+) -> Result<usize, AllocError> {
     let alloc = *text.allocator();
     let left = Placed::of(alloc, derivation.nodes())?;
     let right = Placed::of(alloc, tree.nodes())?;
@@ -81,7 +85,8 @@ pub fn add_pictures(
     text.push_str(look)?;
     left.add(text, "Derivation tree", 0)?;
     right.add(text, "Tree", begin)?;
-    writeln!(text, "</svg>")
+    writeln!(text, "</svg>")?;
+    Ok(width)
 }
 
 impl<'a> Placed<'a> {
