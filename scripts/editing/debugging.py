@@ -13,14 +13,13 @@ from stepping.sessions import BACKWARDS, FORWARDS, LAST_CYCLE, any_line, line_of
 from tools.faults import Fault
 from tools.programs import found
 
-from .evaluating import NoValue, evaluated
 from .fields import Fields, Wrong
 from .listings import Listing
 from .loops import Loop, send
 from .manual import entries, page
-from .matches import Match, Wanted
+from .matches import Match, Wanted, beside
 from .plays import GAME
-from .stops import NoCount, Stop
+from .stops import NoCount, Stop, on_one_line
 
 Answer = Any
 # Where references to variables begin: a robot, a frame, and a scope.
@@ -93,7 +92,7 @@ class Adapter:
         self._after = []
         try:
             body = self._answer(command, request.fields_or("arguments"))
-        except (Wrong, Failed, Fault, Refused, NoValue, NoCount, OSError) as why:
+        except (Wrong, Failed, Fault, Refused, NoCount, OSError) as why:
             told = str(why).strip()
             self._send(reply | {"success": False, "message": told, "body": {"error": {"id": 1, "format": told, "showUser": True}}})
         else:
@@ -165,18 +164,43 @@ class Adapter:
     def _move(self, way: str, step: int | None, events: list[str]) -> None:
         """Goes on to what stops first: a breakpoint, or one of the events of a step of a robot; or to the end of the way."""
         match = self._of()
-        steps = {Wanted(step, event) for event in events} if step else set()
-        while it := match.find(way, [*steps, *self._wanted()]):
-            match.go(it.cycle)
-            stops = [(stop, wanted.robot) for wanted in it.events for stop in self._all_stops() if stop.event == wanted.event
-                     and wanted.robot in stop.robots and self._stops_at(stop, wanted.robot, way)]
-            if stops:
-                self._stopped(stops[0][0].reason, stops[0][1], [stop.number for stop, _ in stops if stop.reason != EXCEPTIONS])
-                return
-            if steps & {*it.events}:
-                self._stopped("step", step or 1)
-                return
-        self._come_to_end(way, step or self._launch.watched)
+        begun = match.cycle
+        steps = match.find(way, [Wanted(step, event) for event in events] if step else []).values()
+        stops = [(cycle, stop, robot) for stop, robot in self._stops_of_robots() if (cycle := self._cycle(way, stop, robot)) is not None]
+        cycles = [*steps, *(cycle for cycle, _, _ in stops)]
+        if not cycles:
+            self._tell_messages(way, begun, LAST_CYCLE)
+            self._come_to_end(way, step or self._launch.watched)
+            return
+        best = min(cycles) if way == FORWARDS else max(cycles)
+        match.go(best)
+        self._tell_messages(way, begun, best)
+        hit = [(stop, robot) for cycle, stop, robot in stops if cycle == best]
+        if hit:
+            self._stopped(hit[0][0].reason, hit[0][1], [stop.number for stop, _ in hit if stop.reason != EXCEPTIONS])
+        else:
+            self._stopped("step", step or 1)
+
+    def _stops_of_robots(self) -> list[tuple[Stop, int]]:
+        """What stops, once for each robot of it."""
+        return [(stop, robot) for stops in self._stops.values() for stop in stops for robot in stop.robots]
+
+    def _cycle(self, way: str, stop: Stop, robot: int) -> int | None:
+        """The first cycle on a way in which something stops a robot. A log point doesn't."""
+        if stop.message:
+            return None
+        if not stop.count:
+            return self._of().find(way, [stop.wanted(robot)]).get(stop.wanted(robot))
+        return beside([hit.cycle for hit in stop.counted(self._of().hits(stop.wanted(robot)))], self._of().cycle, way)
+
+    def _tell_messages(self, way: str, begun: int, last: int) -> None:
+        """Says what log points say behind a cycle and up to another one, on the way forwards."""
+        if way != FORWARDS:
+            return
+        told = [(hit.cycle, robot, stop.told(hit)) for stop, robot in self._stops_of_robots() if stop.message
+                for hit in stop.counted(self._of().hits(stop.wanted(robot), stop.shown())) if begun < hit.cycle <= last]
+        for _, _, text in sorted(told, key=lambda it: it[:2]):
+            self._say(text)
 
     def _come_to_end(self, way: str, robot: int) -> None:
         """Goes to the end or the start of the match."""
@@ -186,32 +210,6 @@ class Adapter:
         else:
             self._of().go(0)
             self._stopped("entry", robot)
-
-    def _all_stops(self) -> list[Stop]:
-        return [stop for stops in self._stops.values() for stop in stops]
-
-    def _wanted(self) -> list[Wanted]:
-        """The events of all stops, each once."""
-        return [*dict.fromkeys(Wanted(robot, stop.event) for stop in self._all_stops() for robot in stop.robots)]
-
-    def _stops_at(self, stop: Stop, robot: int, way: str) -> bool:
-        """Whether the match stops at a hit of a robot; a log point tells instead, on the way forwards."""
-        match = self._of()
-        if not stop.holds(match.moment(robot), self._launch.profile):
-            return False
-        self._tell_faults(stop)
-        if not stop.is_counted(stop.hit(match.cycle)):
-            return False
-        if stop.message:
-            if way == FORWARDS:
-                self._say(stop.told(match.moment(robot), self._launch.profile))
-            return False
-        return True
-
-    def _tell_faults(self, stop: Stop) -> None:
-        for fault in stop.faults:
-            self._say(fault, "important")
-        stop.faults.clear()
 
     def _moving(self, way: str, given: Fields, events_of: Callable[[Moment], list[str]]) -> Answer:
         """A step of a robot: to events, or by one instruction."""
@@ -286,19 +284,28 @@ class Adapter:
         return self._next_stop - 1
 
     def _stop(self, event: str, robots: tuple[int, ...], reason: str, asked: Fields) -> Stop:
-        return Stop(self._new_number(), event, robots, reason, asked.text_or("condition", ""), asked.text_or("hitCondition", ""),
-                    asked.text_or("logMessage", ""))
+        return Stop(self._new_number(), event, robots, reason, on_one_line(asked.text_or("condition", "")),
+                    on_one_line(asked.text_or("hitCondition", "")), asked.text_or("logMessage", ""))
 
     def _add(self, stops: list[Stop], stop: Stop) -> dict[str, Answer]:
         """Adds a stop, if what it asks for is right; answers what the client is told of it."""
         try:
             stop.check()
             for robot in stop.robots:
-                self._of().check(Wanted(robot, stop.event))
+                self._of().check(stop.wanted(robot))
+                self._check_message(stop, robot)
         except (NoCount, Refused) as why:
             return {"id": stop.number, "verified": False, "message": str(why)}
         stops.append(stop)
         return {"id": stop.number, "verified": True}
+
+    def _check_message(self, stop: Stop, robot: int) -> None:
+        """Notes what is wrong with the expressions of a message."""
+        for expression in stop.holes():
+            try:
+                self._of().check(Wanted(robot, stop.event, expression))
+            except Refused as why:
+                stop.wrong[expression] = str(why)
 
     def set_exceptions(self, given: Fields) -> Answer:
         """Sets what happens to the watched robot, by the names of filters."""
@@ -375,15 +382,16 @@ class Adapter:
                               for name, value in shown(moment, robot, frame, scope)]}
 
     def evaluate(self, given: Fields) -> Answer:
-        """The value of an expression in a frame: a variable's by its name, others as the language works them out."""
+        """The value of an expression in a frame, or of a variable of another one, as FUNCTION.NAME."""
         robot, frame, _ = parted(given.number_or("frameId", self._launch.watched * OF_ROBOT))
         moment = self._of().moment(self._robot(robot))
-        own = moment.calls[frame].variables if frame < len(moment.calls) else {}
-        expression = given.text("expression").strip()
-        value = moment.value(expression) if "." in expression else (moment.externals | own).get(expression)
-        if value is None:
-            value = evaluated(expression, moment.externals | own, self._launch.profile)
-        return {"result": str(value), "variablesReference": 0}
+        expression = on_one_line(given.text("expression"))
+        value = moment.value(expression) if "." in expression else None
+        if value is not None:
+            return {"result": str(value), "variablesReference": 0}
+        if frame >= len(moment.calls):
+            raise Failed("there is no such frame")
+        return {"result": self._of().value(robot, moment.calls[frame].frames, expression), "variablesReference": 0}
 
     def disassemble(self, given: Fields) -> Answer:
         """Instructions around an address. All robots' addresses begin at 0; those of the watched one are shown."""

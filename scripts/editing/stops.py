@@ -5,9 +5,7 @@ from __future__ import annotations
 import re
 from dataclasses import dataclass, field
 
-from stepping.moments import Moment
-
-from .evaluating import NoValue, evaluated
+from .matches import Hit, Wanted
 
 COUNT = re.compile(r"(==|>=|<=|>|<|%|) *(\d{1,9})")
 HOLE = re.compile(r"\{([^{}]*)\}")
@@ -19,7 +17,8 @@ class NoCount(Exception):
 
 @dataclass
 class Stop:
-    """A breakpoint: the event that it is, and of which robots; what it asks for; and the cycles in which it was hit so far."""
+    """A breakpoint: the event that it is, of which robots, and what it asks for. What is wrong with an expression of a message
+    stands in that, and the other ones are told."""
 
     number: int
     event: str
@@ -28,39 +27,30 @@ class Stop:
     condition: str = ""
     count: str = ""
     message: str = ""
-    hits: list[int] = field(default_factory=list)
-    faults: set[str] = field(default_factory=set)
+    wrong: dict[str, str] = field(default_factory=dict)
 
     def check(self) -> None:
         """Stops if the count is none."""
-        if self.count and not COUNT.fullmatch(self.count.strip()):
+        if self.count and not COUNT.fullmatch(self.count):
             raise NoCount(f"{self.count}: not as 3, >= 3 or % 3")
 
-    def move(self, cycle: int) -> None:
-        """Forgets hits after a cycle, to which the match goes."""
-        while self.hits and self.hits[-1] > cycle:
-            self.hits.pop()
+    def wanted(self, robot: int) -> Wanted:
+        return Wanted(robot, self.event, self.condition)
 
-    def hit(self, cycle: int) -> int:
-        """Notes a hit; answers which one it is."""
-        self.move(cycle)
-        if not self.hits or self.hits[-1] < cycle:
-            self.hits.append(cycle)
-        return len(self.hits)
+    def holes(self) -> list[str]:
+        """The expressions of the message."""
+        return [on_one_line(it) for it in HOLE.findall(self.message)]
 
-    def holds(self, moment: Moment, profile: int) -> bool:
-        """Whether its condition holds: one without a value does, so that it is noticed."""
-        if not self.condition.strip():
-            return True
-        try:
-            return evaluated(self.condition, seen(moment), profile) != 0
-        except NoValue as why:
-            self.faults.add(f"{self.condition}: {why}")
-            return True
+    def shown(self) -> list[str]:
+        """Those that have values."""
+        return [it for it in self.holes() if it not in self.wrong]
 
-    def is_counted(self, number: int) -> bool:
-        """Whether it stops at the hit of this number."""
-        found = COUNT.fullmatch(self.count.strip())
+    def counted(self, hits: list[Hit]) -> list[Hit]:
+        """Those of all hits in a match that count."""
+        return [hit for number, hit in enumerate(hits, 1) if self._is_counted(number)]
+
+    def _is_counted(self, number: int) -> bool:
+        found = COUNT.fullmatch(self.count)
         if not found:
             return True
         operator, wanted = found[1], int(found[2])
@@ -68,18 +58,12 @@ class Stop:
                    "<": number < wanted, "%": bool(wanted) and number % wanted == 0}
         return answers[operator]
 
-    def told(self, moment: Moment, profile: int) -> str:
+    def told(self, hit: Hit) -> str:
         """What a log point says: expressions in curly brackets by their values."""
-        return HOLE.sub(lambda it: value_told(it[1], moment, profile), self.message)
+        values = iter(hit.values)
+        return HOLE.sub(lambda it: f"{{{self.wrong[on_one_line(it[1])]}}}" if on_one_line(it[1]) in self.wrong else next(values), self.message)
 
 
-def value_told(expression: str, moment: Moment, profile: int) -> str:
-    try:
-        return str(evaluated(expression, seen(moment), profile))
-    except NoValue as why:
-        return f"{{{expression}: {why}}}"
-
-
-def seen(moment: Moment) -> dict[str, int]:
-    """The variables that the innermost call sees."""
-    return moment.externals | moment.locals()
+def on_one_line(text: str) -> str:
+    """An expression as a command takes it: blanks for all spaces."""
+    return " ".join(text.split())

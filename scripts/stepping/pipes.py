@@ -55,18 +55,18 @@ class Debugger:
 
     def moment(self, cycle: int) -> Moment:
         """Where the robot is after a cycle."""
-        return moment_of(self._right(f"at {cycle}"))
+        return moment_of(self.right(f"at {cycle}"))
 
     def found(self, way: str, cycle: int, event: str) -> int | None:
         """The cycle in which an event happens: the next or the last one, as the way says."""
-        first = self._right(f"{way} {cycle} {event}")[0]
+        first = self.right(f"{way} {cycle} {event}")[0]
         return int(first[1]) if first[0] == "found" else None
 
     def check(self, event: str) -> None:
         """Stops if an event has a wrong word; nothing happens before cycle 0."""
-        self._right(f"last 0 {event}")
+        self.right(f"last 0 {event}")
 
-    def _right(self, question: str) -> list[Row]:
+    def right(self, question: str) -> list[Row]:
         """The rows of an answer, if the question isn't wrong."""
         rows = self.rows(question)
         if rows and rows[0][0] == "wrong":

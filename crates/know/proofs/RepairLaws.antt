@@ -1,10 +1,11 @@
 -- A source has one first fault, or it compiles.
-use Rattle.std.specs.Prelude.{◌≡◌, ℕ, List, Err, Ok}
+use Rattle.std.specs.Prelude.{◌≡◌, ◌≤◌, ℕ, List, Err, Ok}
 use Rattle.std.proofs.Common.{sym, ◌∙◌}
 use Rattle.derivations.specs.Compiling.{Compiles}
 use Rattle.grammar.specs.Compiled.{compiled}
 use Rattle.grammar.specs.Profile.{Profile}
 use Rattle.grammar.specs.declared.diagnostics.Diagnostic.{Diagnostic}
+use Rattle.know.specs.Repairs.{HasNoFaultBefore}
 
 -- what compiles has no fault
 pub without_fault : (p : Profile) (bytes : List ℕ) (fault : Diagnostic) → Compiles p bytes →
@@ -13,7 +14,9 @@ without_fault p bytes fault compiles is =
     let file = compiles.is in
     cc (file, is)
 
--- what has this first fault has no other one
-pub other_fault : (p : Profile) (bytes : List ℕ) (one other : Diagnostic) → compiled p bytes ≡ Err one →
-    (one ≡ other → ⊥) → compiled p bytes ≡ Err other → ⊥
-other_fault p bytes one other is differs too = differs (cc (is, too))
+-- what has its first fault on no earlier line has none there
+pub later_fault : (p : Profile) (bytes : List ℕ) (fault one : Diagnostic) → compiled p bytes ≡ Err one →
+    fault.line ≤ one.line → HasNoFaultBefore p bytes fault
+later_fault p bytes fault one is least other too =
+    let same : one ≡ other = cc (is, too) in
+    rw same at least

@@ -3,11 +3,12 @@
 ghost use Rattle.std.specs.Prelude.{◌≡◌, Err, IfOk, IfSome, true};
 ghost use Rattle.derivations.specs.Compiling.{Compiles};
 ghost use Rattle.grammar.specs.Compiled.{compiled};
-ghost use Rattle.know.specs.Repairs.{Repairs, StillCompiles, edited};
+ghost use Rattle.know.specs.Repairs.{HasNoFaultBefore, Repairs, StillCompiles, edited};
 
 use crate::notes_read::{behind, quoted};
 use crate::rows::Subject;
-use derivations::{Located, compile, fitting};
+use derivations::{Located, compile, fitting, locate};
+use explanations::fault_token;
 use grammar::{Diagnostic, ParseFault, Profile};
 use std::alloc::{AllocError, Global};
 use std::str;
@@ -33,8 +34,11 @@ struct Suggestion<'a> {
     words: &'a str,
 }
 
-/// How many suggestions a fault may have.
-const MOST_SUGGESTIONS: usize = 6;
+/// How many suggestions a fault may have, beside another word in the place of a name.
+const MOST_SUGGESTIONS: usize = 9;
+
+/// How many tokens a misspelled word may stand before the token that doesn't fit.
+const MOST_BACK: usize = 64;
 
 /// Where the token of a fault is in a source, and what its hint says.
 #[derive(Clone, Copy)]
@@ -47,8 +51,8 @@ pub struct Trouble<'a> {
     pub hint: &'a str,
 }
 
-/// Returns the first suggestion by which a source hasn't this first fault any more, if there is one. The only error is
-/// that memory is refused.
+/// Returns the first suggestion by which a source hasn't a fault any more where its first one is, nor before, if there is
+/// such a one. The only error is that memory is refused.
 pub fn fix_of_fault(
     alloc: Global,
     source: &[u8],
@@ -58,19 +62,86 @@ pub fn fix_of_fault(
 ) -> Result<Option<Fix>, AllocError>
     ensures { IfOk result (λ found. IfSome found (Repairs profile source.now fault.now)) }
 {
+    for back in 0..MOST_BACK {
+        let suggestion = respelled(trouble, back);
+        if let Some(fix) = tried(alloc, source, profile, fault, trouble, suggestion)? {
+            return Ok(Some(fix));
+        }
+    }
     for suggestion in &suggestions(source, trouble) {
-        if let Some(suggestion) = suggestion {
-            let fix = made(alloc, suggestion)?;
-            let edited = edited(alloc, source, &fix)?;
-            if is_repaired(profile, edited.as_slice(), fault) {
-                return Ok(Some(fix));
-            }
+        if let Some(fix) = tried(alloc, source, profile, fault, trouble, *suggestion)? {
+            return Ok(Some(fix));
         }
     }
     Ok(None)
 }
 
-/// Returns what may mend a fault.
+/// Returns a suggestion as a fix if with it the source compiles, or its first fault is behind the token of this one.
+fn tried(
+    alloc: Global,
+    source: &[u8],
+    profile: Profile,
+    fault: &Diagnostic,
+    trouble: &Trouble<'_>,
+    suggestion: Option<Suggestion<'_>>,
+) -> Result<Option<Fix>, AllocError>
+    ensures { IfOk result (λ found. IfSome found (Repairs profile source.now fault.now)) }
+{
+    let Some(suggestion) = suggestion else {
+        return Ok(None);
+    };
+    let fix = made(alloc, &suggestion)?;
+    let edited = edited(alloc, source, &fix)?;
+    let bytes = edited.as_slice();
+    let left = source.len().saturating_sub(place_of(trouble.tokens, trouble.index));
+    if is_repaired(profile, bytes, fault) && left_behind(alloc, profile, bytes)? < left {
+        Ok(Some(fix))
+    } else {
+        Ok(None)
+    }
+}
+
+/// Returns how many bytes stand from the token of a source's first fault on: none if it compiles.
+fn left_behind(alloc: Global, profile: Profile, source: &[u8]) -> Result<usize, AllocError> {
+    match compile(profile, &mut MemoryFeed::new(source, WINDOW_BYTES)) {
+        Ok(_) => Ok(0),
+        Err(ParseFault::Source(fault)) => {
+            let tokens = locate(alloc, source)?;
+            let index = fault_token(tokens.as_slice(), profile, &fault);
+            Ok(source.len().saturating_sub(place_of(tokens.as_slice(), index)))
+        }
+        Err(ParseFault::Device | ParseFault::Memory) => Ok(source.len()),
+    }
+}
+
+/// Returns how many bytes are before the token of an index.
+fn place_of(tokens: &[Located], index: usize) -> usize {
+    match tokens.get(index) {
+        Some(located) => located.start,
+        None => 0,
+    }
+}
+
+/// Suggests the word that a hint says is meant in the place of a name, which is some tokens before the one that doesn't
+/// fit.
+fn respelled<'a>(trouble: &Trouble<'a>, back: usize) -> Option<Suggestion<'a>> {
+    let words = quoted(trouble.hint, "perhaps ")?;
+    let index = trouble.index.checked_sub(back)?;
+    let located = trouble.tokens.get(index)?;
+    match located.token {
+        Token::Name(name) if is_as_long(name.as_bytes().len(), words.len()) => {
+            replacing(trouble.tokens, index, Some(words))
+        }
+        _ => None,
+    }
+}
+
+/// Reports whether a name may be a word that is a letter off, by their lengths.
+fn is_as_long(name: usize, word: usize) -> bool {
+    name <= word.saturating_add(1) && word <= name.saturating_add(1)
+}
+
+/// Returns what else may mend a fault.
 fn suggestions<'a>(
     source: &'a [u8],
     trouble: &Trouble<'a>,
@@ -81,11 +152,14 @@ fn suggestions<'a>(
         hint,
     } = *trouble;
     [
-        replacing(tokens, index, quoted(hint, "perhaps ")),
         hexadecimal(tokens, index, hint),
         comparing(tokens, index),
         missing(tokens, index, Punctuator::Semicolon, ";"),
         missing(tokens, index, Punctuator::CloseRound, ")"),
+        missing(tokens, index, Punctuator::CloseRound, "))"),
+        missing(tokens, index, Punctuator::CloseRound, ")))"),
+        missing(tokens, index, Punctuator::CloseRound, "))))"),
+        missing(tokens, index, Punctuator::CloseRound, ");"),
         superfluous(source, tokens, index, hint),
     ]
 }
@@ -178,22 +252,15 @@ fn edited(alloc: Global, source: &[u8], fix: &Fix) -> Result<Vec<u8>, AllocError
     Ok(bytes)
 }
 
-/// Reports whether a source hasn't this first fault.
+/// Reports whether a source compiles, or has its first fault on no earlier line than another fault.
 fn is_repaired(profile: Profile, source: &[u8], fault: &Diagnostic) -> bool
-    ensures { result ≡ true → compiled profile source.now ≡ Err fault.now → ⊥ }
+    ensures { result ≡ true → HasNoFaultBefore profile source.now fault.now }
 {
     match compile(profile, &mut MemoryFeed::new(source, WINDOW_BYTES)) {
         Ok(_) => true,
-        Err(ParseFault::Source(other)) => is_further(&other, fault),
+        Err(ParseFault::Source(other)) => fault.line <= other.line,
         Err(ParseFault::Device | ParseFault::Memory) => false,
     }
-}
-
-/// Reports whether a fault is another one than a first one was, and no earlier one.
-fn is_further(other: &Diagnostic, fault: &Diagnostic) -> bool
-    ensures { result ≡ true → other.now ≡ fault.now → ⊥ }
-{
-    *other != *fault && other.line >= fault.line
 }
 
 /// Returns the change that a warning about the token of an index suggests, if there is one and the source compiles with it.

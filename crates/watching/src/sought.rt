@@ -61,7 +61,7 @@ pub(crate) struct Glance {
 }
 
 /// Plays the next cycle of a match that isn't over, and reports whether what is sought happens to a robot in it.
-pub(crate) fn happens(
+pub fn happens(
     game: &mut Game,
     pilots: &mut [Pilot<'_>],
     robot: usize,
