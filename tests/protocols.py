@@ -62,6 +62,14 @@ class Client:
             self.kept.append(message)
         raise Gone
 
+    def take(self, is_it: Callable[[Message], bool]) -> Message:
+        """The first message that is the one, of those that were kept and of those that come: it is kept no longer."""
+        found = next((it for it in self.kept if is_it(it)), None)
+        if found is None:
+            return self.wait(is_it)
+        self.kept.remove(found)
+        return found
+
     def end(self) -> tuple[int, bytes]:
         """Closes the server's input; answers its status and what it said, when it has ended."""
         assert self.child.stdin and self.child.stderr

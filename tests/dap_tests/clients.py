@@ -23,7 +23,7 @@ class Debugging:
         return self._number
 
     def answered(self, number: int) -> Message:
-        return self.client.wait(lambda it: it.get("type") == "response" and it["request_seq"] == number)
+        return self.client.take(lambda it: it.get("type") == "response" and it["request_seq"] == number)
 
     def ask(self, command: str, arguments: Any = None) -> Message:
         return self.answered(self.begin(command, arguments))
@@ -36,11 +36,7 @@ class Debugging:
 
     def event(self, *names: str) -> Message:
         """The next event of one of these names."""
-        found: Message = next((it for it in self.client.kept if it.get("event") in names), {})
-        if found:
-            self.client.kept.remove(found)
-            return found
-        return self.client.wait(lambda it: it.get("event") in names)
+        return self.client.take(lambda it: it.get("event") in names)
 
     def launch(self, robots: list[str], stops: dict[str, list[Any]] | None = None, filters: list[str] | None = None, **more: Any) -> Message:
         """Launches a match; answers the first stop. Breakpoints are of files."""

@@ -27,7 +27,7 @@ class Editor:
         return self._number
 
     def answered(self, number: int) -> Message:
-        return self.client.wait(lambda it: it.get("id") == number and "method" not in it)
+        return self.client.take(lambda it: it.get("id") == number and "method" not in it)
 
     def ask(self, method: str, params: Any) -> Message:
         return self.answered(self.begin(method, params))

@@ -6,6 +6,7 @@ use crate::refusals::Refusal;
 use crate::sought_events::sought;
 use notes::NotedProgram;
 use settings::{MOST_CYCLES, value_number};
+use std::alloc::AllocError;
 use watching::Sought;
 
 /// The most frames that are open.
@@ -112,7 +113,7 @@ fn pass<'a, 'm>(
             && which == Which::All
         {
             let shown = Expressions::read(alloc, noted, words, marks)?;
-            pass.shown.push(shown)?;
+            pass.shown.push(shown).map_err(AllocError::from)?;
         } else if !part.is_empty() {
             return Err(Refusal::Part(part));
         }

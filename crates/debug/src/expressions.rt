@@ -109,8 +109,15 @@ fn check<'a>(
     words: &'a str,
 ) -> Result<(), Refusal<'a>> {
     let tokens = locate(alloc, words.as_bytes())?;
+    let mut depth: usize = 0;
     for (index, located) in tokens.iter().enumerate() {
         match located.token {
+            Token::Punctuator(Punctuator::OpenRound) => depth = depth.saturating_add(1),
+            // no bracket closes what the expression hasn't opened
+            Token::Punctuator(Punctuator::CloseRound) => match depth.checked_sub(1) {
+                Some(less) => depth = less,
+                None => return Err(Refusal::Expression(words)),
+            },
             Token::Keyword(_)
             | Token::Fault(_)
             | Token::Punctuator(
