@@ -68,6 +68,7 @@
 (declare-function dap--resume-application "dap-mode")
 (declare-function dap--debug-session-thread-id "dap-mode")
 (declare-function dap-debug "dap-mode")
+(declare-function dap-ui-mode "dap-ui")
 
 (defun crobots-dap-configuration (given)
   "The arguments of a launch, with the command of the adapter: those of GIVEN come first."
@@ -80,9 +81,16 @@
   (require 'dap-ui)
   (dap-register-debug-provider "crobots" #'crobots-dap-configuration))
 
+;; dap-mode loads itself for a launch alone, and breakpoints may be set before that.
+(dolist (command '(dap-breakpoint-toggle dap-breakpoint-condition dap-breakpoint-hit-condition dap-breakpoint-log-message))
+  (autoload command "dap-mode" nil t))
+
 (defun crobots-debug (others)
   "Launch a match of the buffer's robot against OTHERS, files with blanks between them."
   (interactive "sAgainst: ")
+  (require 'dap-mode)
+  ;; marks the line at which the robot is
+  (dap-ui-mode 1)
   (dap-debug (list :type "crobots" :request "launch" :name "robot"
                    :robots (vconcat (cons (buffer-file-name) (mapcar #'expand-file-name (split-string others)))))))
 
