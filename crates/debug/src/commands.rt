@@ -68,7 +68,13 @@ impl<'a, 'm> Command<'a, 'm> {
                 match tail {
                     None => Ok(Command::Last(before, sought)),
                     Some(tail) => {
-                        pass(noted, sought, (0, before.saturating_sub(1)), Which::Last, tail)
+                        pass(
+                            noted,
+                            sought,
+                            (0, before.saturating_sub(1)),
+                            Which::Last,
+                            tail,
+                        )
                     }
                 }
             }

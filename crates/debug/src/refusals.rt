@@ -68,7 +68,11 @@ impl<'a> fmt::Display for Refusal<'a> {
             ),
             Refusal::Expression(words) => write!(f, "{}: no expression", Plain(words)),
             Refusal::Acts(words) => {
-                write!(f, "{}: an expression calls nothing and sets nothing", Plain(words))
+                write!(
+                    f,
+                    "{}: an expression calls nothing and sets nothing",
+                    Plain(words)
+                )
             }
             Refusal::Part(words) => write!(
                 f,

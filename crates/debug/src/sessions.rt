@@ -102,7 +102,10 @@ fn add_answer<'a>(
 {
     let (session, line) = addressed(session, line, pilots.len())?;
     let Session {
-        wish, robot, noted, ..
+        wish,
+        robot,
+        noted,
+        ..
     } = session;
     if robot >= pilots.len() {
         return Err(Refusal::NoText);

@@ -25,7 +25,10 @@ pub fn add_value<'a>(
     requires inside { session.now.robot < length pilots.old }
 {
     let Session {
-        wish, robot, noted, ..
+        wish,
+        robot,
+        noted,
+        ..
     } = *session;
     let (seed, number, limit) = (wish.seed(), wish.first(), wish.limit());
     let _ = moment_at(pilots, robot, cycle, seed, number, limit);

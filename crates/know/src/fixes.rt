@@ -93,7 +93,9 @@ fn tried(
     let fix = made(alloc, &suggestion)?;
     let edited = edited(alloc, source, &fix)?;
     let bytes = edited.as_slice();
-    let left = source.len().saturating_sub(place_of(trouble.tokens, trouble.index));
+    let left = source
+        .len()
+        .saturating_sub(place_of(trouble.tokens, trouble.index));
     if is_repaired(profile, bytes, fault) && left_behind(alloc, profile, bytes)? < left {
         Ok(Some(fix))
     } else {
@@ -108,7 +110,11 @@ fn left_behind(alloc: Global, profile: Profile, source: &[u8]) -> Result<usize, 
         Err(ParseFault::Source(fault)) => {
             let tokens = locate(alloc, source)?;
             let index = fault_token(tokens.as_slice(), profile, &fault);
-            Ok(source.len().saturating_sub(place_of(tokens.as_slice(), index)))
+            Ok(
+                source
+                    .len()
+                    .saturating_sub(place_of(tokens.as_slice(), index)),
+            )
         }
         Err(ParseFault::Device | ParseFault::Memory) => Ok(source.len()),
     }
