@@ -16,6 +16,8 @@ from stepping.pipes import PROGRAM, Debugger
 from stepping.sessions import BACKWARDS, FORWARDS, LAST_CYCLE
 from tools.programs import found
 
+from .words import DEBUGGER
+
 
 @dataclass(frozen=True)
 class Wanted:
@@ -48,7 +50,7 @@ class Match:
         self._kept: dict[tuple[str, Wanted], tuple[int, int | None]] = {}
         self._hits: dict[tuple[Wanted, tuple[str, ...]], list[Hit]] = {}
         with contextlib.ExitStack() as opened:
-            self._debugger = opened.enter_context(Debugger(found(PROGRAM), [*options, "--", *files]))
+            self._debugger = opened.enter_context(Debugger(found(PROGRAM), [*options, "--", *files], DEBUGGER))
             # a file with a fault is said now
             self.moment(1)
             self._opened = opened.pop_all()

@@ -71,11 +71,16 @@
 (declare-function dap-ui-mode "dap-ui")
 
 (defun crobots-dap-configuration (given)
-  "The arguments of a launch, with the command of the adapter: those of GIVEN come first."
-  (append given
-          (list :dap-server-path '("crobots-dap")
-                :type "crobots" :request "launch" :name "robot" :profile crobots-profile
-                :robots (vector (buffer-file-name)))))
+  "The arguments of a launch, with the command of the adapter: what GIVEN lacks is added."
+  (let ((made (copy-sequence given))
+        (added (list :dap-server-path '("crobots-dap")
+                     :type "crobots" :request "launch" :name "robot" :profile crobots-profile
+                     :robots (vector (buffer-file-name)))))
+    (while added
+      (unless (plist-member made (car added))
+        (setq made (plist-put made (car added) (cadr added))))
+      (setq added (cddr added)))
+    made))
 
 (with-eval-after-load 'dap-mode
   (require 'dap-ui)
