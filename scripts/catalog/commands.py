@@ -65,6 +65,7 @@ PROGRAMS = (
     Program("crobots-why", "why", (ROBOT,)),
     Program("crobots-stages", "stages", ("--tokens", ROBOT)),
     Program("crobots-bounds", "bounds", (ROBOT,)),
+    Program("crobots-know", "know", (ROBOT,)),
     # without commands: these would be read from a terminal
     Program("crobots-debug", "debug", ("--help",)),
 )
@@ -76,6 +77,8 @@ SCRIPTS = (
     Script("crobots-league", "league", ("tools", "leagues", "ladder", "tournaments", "results", "sites", "replays"), "crobots"),
     Script("crobots-replay", "replay", ("tools", "replays"), "crobots-trace"),
     Script("crobots-step", "step", ("tools", "stepping"), "crobots-debug"),
+    Script("crobots-lsp", "lsp", ("tools", "editing", "stepping"), "crobots-know"),
+    Script("crobots-dap", "dap", ("tools", "editing", "stepping"), "crobots-debug"),
     Script("crobots-tune", "tune", ("tools", "tuning", "tournaments", "leagues", "results", "sites", "replays"), "crobots"),
 )
 COMMANDS: tuple[Command, ...] = (*PROGRAMS, *SCRIPTS)

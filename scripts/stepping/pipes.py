@@ -23,10 +23,10 @@ class Refused(Exception):
 
 
 class Debugger:
-    """A running `crobots-debug`."""
+    """A running `crobots-debug`; what it says is said in the name of a script."""
 
-    def __init__(self, path: str, words: list[str]) -> None:
-        self._words = [path, *words]
+    def __init__(self, path: str, words: list[str], name: str = NAME) -> None:
+        self._words, self._name = [path, *words], name
 
     def __enter__(self) -> Debugger:
         with contextlib.ExitStack() as opened:
@@ -55,18 +55,18 @@ class Debugger:
 
     def moment(self, cycle: int) -> Moment:
         """Where the robot is after a cycle."""
-        return moment_of(self._right(f"at {cycle}"))
+        return moment_of(self.right(f"at {cycle}"))
 
     def found(self, way: str, cycle: int, event: str) -> int | None:
         """The cycle in which an event happens: the next or the last one, as the way says."""
-        first = self._right(f"{way} {cycle} {event}")[0]
+        first = self.right(f"{way} {cycle} {event}")[0]
         return int(first[1]) if first[0] == "found" else None
 
     def check(self, event: str) -> None:
         """Stops if an event has a wrong word; nothing happens before cycle 0."""
-        self._right(f"last 0 {event}")
+        self.right(f"last 0 {event}")
 
-    def _right(self, question: str) -> list[Row]:
+    def right(self, question: str) -> list[Row]:
         """The rows of an answer, if the question isn't wrong."""
         rows = self.rows(question)
         if rows and rows[0][0] == "wrong":
@@ -80,12 +80,12 @@ class Debugger:
             # a terminal sends it to both
             raise Stopped(signal.SIGINT)
         self._said.seek(0)
-        lines = [said(line) for line in self._said.read().decode(errors="surrogateescape").splitlines(keepends=True)]
+        lines = [said(line, self._name) for line in self._said.read().decode(errors="surrogateescape").splitlines(keepends=True)]
         told = [line for line in lines if not line.startswith("usage: ")]
-        ended = f"{NAME}: {PROGRAM} ended{f' by signal {-status}' if status < 0 else ''}\n"
+        ended = f"{self._name}: {PROGRAM} ended{f' by signal {-status}' if status < 0 else ''}\n"
         return Ended(told or [ended], status)
 
 
-def said(line: str) -> str:
-    """A line of `crobots-debug` on standard error, with the name of this script."""
-    return f"{NAME}: {line.removeprefix(f'{PROGRAM}: ')}" if line.startswith(f"{PROGRAM}: ") else line
+def said(line: str, name: str) -> str:
+    """A line of `crobots-debug` on standard error, with the name of a script."""
+    return f"{name}: {line.removeprefix(f'{PROGRAM}: ')}" if line.startswith(f"{PROGRAM}: ") else line

@@ -1,15 +1,20 @@
 //! Commands: what a line asks for.
 
+use crate::expressions::Expressions;
+use crate::passes::{Pass, Which};
 use crate::refusals::Refusal;
 use crate::sought_events::sought;
 use notes::NotedProgram;
 use settings::{MOST_CYCLES, value_number};
-use std::str;
+use std::alloc::AllocError;
 use watching::Sought;
 
+/// The most frames that are open.
+const MOST_OPEN: u64 = 1000;
+
 /// What a line asks for.
-#[derive(Clone, Copy)]
-pub enum Command<'m> {
+#[derive(Drop)]
+pub enum Command<'a, 'm> {
     /// Nothing: it is blank.
     Nothing,
     /// Where the robot is after a cycle.
@@ -18,36 +23,108 @@ pub enum Command<'m> {
     Next(u32, Sought<'m>),
     /// The last cycle before one in which something happens.
     Last(u32, Sought<'m>),
+    /// Cycles in which something happens and a condition holds.
+    Pass(Pass<'m>),
+    /// After a cycle, in the call with which this many frames are open, or in the innermost one for 0, the value of an
+    /// expression.
+    Value(u32, usize, &'a str),
     /// No more.
     Quit,
 }
 
-impl<'m> Command<'m> {
+impl<'a, 'm> Command<'a, 'm> {
     /// Reads a line, about a robot of this program. The marks of what is sought are added to a list that has none.
-    pub fn read<'a>(
-        line: &'a [u8],
+    pub fn read(
+        line: &'a str,
         noted: &NotedProgram<'_>,
         marks: &'m mut Vec<bool>,
-    ) -> Result<Command<'m>, Refusal<'a>> {
-        let Ok(line) = str::from_utf8(line) else {
-            return Err(Refusal::NoText);
+    ) -> Result<Command<'a, 'm>, Refusal<'a>> {
+        let (head, tail) = match line.split_once(';') {
+            Some((head, tail)) => (head, Some(tail)),
+            None => (line, None),
         };
-        let words: Vec<&str> = line.split_whitespace().collect(*marks.allocator())?;
-        match words.as_slice() {
-            [] => Ok(Command::Nothing),
-            ["at", cycle] => Ok(Command::At(cycle_of(cycle)?)),
-            ["next", cycle, event, rest @ ..] => {
-                let cycle = cycle_of(cycle)?;
-                Ok(Command::Next(cycle, sought(event, rest, noted, marks)?))
+        let words: Vec<&str> = head.split_whitespace().collect(*marks.allocator())?;
+        match (words.as_slice(), tail) {
+            ([], None) => Ok(Command::Nothing),
+            (["at", cycle], None) => Ok(Command::At(cycle_of(cycle)?)),
+            (["value", cycle], Some(words)) => {
+                Ok(Command::Value(cycle_of(cycle)?, 0, words.trim()))
             }
-            ["last", cycle, event, rest @ ..] => {
-                let cycle = cycle_of(cycle)?;
-                Ok(Command::Last(cycle, sought(event, rest, noted, marks)?))
+            (["value", cycle, frames], Some(words)) => {
+                let frames = number_of(frames, 1, MOST_OPEN)? as usize;
+                Ok(Command::Value(cycle_of(cycle)?, frames, words.trim()))
             }
-            ["quit"] => Ok(Command::Quit),
-            [word, ..] => Err(misread(word)),
+            (["next", cycle, event, rest @ ..], _) => {
+                let after = cycle_of(cycle)?;
+                let sought = sought(event, rest, noted, marks)?;
+                match tail {
+                    None => Ok(Command::Next(after, sought)),
+                    Some(tail) => pass(noted, sought, (after, MOST_CYCLES), Which::First, tail),
+                }
+            }
+            (["last", cycle, event, rest @ ..], _) => {
+                let before = cycle_of(cycle)?;
+                let sought = sought(event, rest, noted, marks)?;
+                match tail {
+                    None => Ok(Command::Last(before, sought)),
+                    Some(tail) => {
+                        pass(
+                            noted,
+                            sought,
+                            (0, before.saturating_sub(1)),
+                            Which::Last,
+                            tail,
+                        )
+                    }
+                }
+            }
+            (["all", first, last, event, rest @ ..], _) => {
+                let span = (cycle_of(first)?, cycle_of(last)?);
+                let sought = sought(event, rest, noted, marks)?;
+                pass(noted, sought, span, Which::All, tail.unwrap_or(""))
+            }
+            (["quit"], None) => Ok(Command::Quit),
+            (words, _) => Err(misread(words.first().copied().unwrap_or(";"))),
         }
     }
+}
+
+/// Reads what has to hold in the cycles behind one and up to another, and what is told of each.
+fn pass<'a, 'm>(
+    noted: &NotedProgram<'_>,
+    sought: Sought<'m>,
+    span: (u32, u32),
+    which: Which,
+    parts: &'a str,
+) -> Result<Command<'a, 'm>, Refusal<'a>> {
+    let (after, to) = span;
+    let alloc = *noted.note.text.allocator();
+    let marks = match sought {
+        Sought::Address(marks, _) => Some(marks),
+        _ => None,
+    };
+    let mut pass = Pass {
+        sought,
+        after,
+        to,
+        which,
+        condition: None,
+        shown: Vec::new(alloc),
+    };
+    for part in parts.split(';') {
+        let part = part.trim();
+        if let Some(words) = part.strip_prefix("where ") {
+            pass.condition = Some(Expressions::read(alloc, noted, words, marks)?);
+        } else if let Some(words) = part.strip_prefix("show ")
+            && which == Which::All
+        {
+            let shown = Expressions::read(alloc, noted, words, marks)?;
+            pass.shown.push(shown).map_err(AllocError::from)?;
+        } else if !part.is_empty() {
+            return Err(Refusal::Part(part));
+        }
+    }
+    Ok(Command::Pass(pass))
 }
 
 /// Returns why the words after that of a command don't fit it: its form, if it is one.
@@ -56,6 +133,8 @@ fn misread(word: &str) -> Refusal<'_> {
         "at" => Refusal::Form("at CYCLE"),
         "next" => Refusal::Form("next CYCLE EVENT"),
         "last" => Refusal::Form("last CYCLE EVENT"),
+        "all" => Refusal::Form("all CYCLE CYCLE EVENT"),
+        "value" => Refusal::Form("value CYCLE [FRAMES]; EXPRESSION"),
         "quit" => Refusal::Form("quit"),
         other => Refusal::Command(other),
     }
@@ -63,8 +142,13 @@ fn misread(word: &str) -> Refusal<'_> {
 
 /// Reads a cycle: 0 is before the first one.
 fn cycle_of(word: &str) -> Result<u32, Refusal<'_>> {
-    match value_number(word, 0, u64::from(MOST_CYCLES)) {
-        Some(cycle) => Ok(cycle as u32),
-        None => Err(Refusal::Number(word, 0, i64::from(MOST_CYCLES))),
+    Ok(number_of(word, 0, u64::from(MOST_CYCLES))? as u32)
+}
+
+/// Reads a number from the least to the most.
+pub fn number_of(word: &str, least: u64, most: u64) -> Result<u64, Refusal<'_>> {
+    match value_number(word, least, most) {
+        Some(number) => Ok(number),
+        None => Err(Refusal::Number(word, least as i64, most as i64)),
     }
 }

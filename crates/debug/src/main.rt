@@ -2,10 +2,13 @@
 #![tactic(auto)]
 
 mod commands;
+mod expressions;
 mod marks;
+mod passes;
 mod refusals;
 mod sessions;
 mod sought_events;
+mod values;
 
 use crate::sessions::{Session, answer_all};
 use notes::compiled;
@@ -46,6 +49,7 @@ impl Work for Debug {
         let mut pilots = pilots(rt.alloc(), sources.programs.as_slice())?;
         let session = Session {
             wish: &wish,
+            sources: &sources,
             robot,
             // each file has a note
             noted: sources.robot(robot).ok_or(Fault::Source)?,

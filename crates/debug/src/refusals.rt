@@ -27,6 +27,14 @@ pub enum Refusal<'a> {
     Name(&'a str),
     /// Several functions of the robot have a variable of this name.
     Several(&'a str),
+    /// This is no expression of the language.
+    Expression(&'a str),
+    /// The expression calls or sets something.
+    Acts(&'a str),
+    /// This part of a command, behind a `;`, is none that fits there.
+    Part(&'a str),
+    /// No call is open with this many frames.
+    Call(usize),
     /// Memory was refused.
     Memory,
 }
@@ -35,7 +43,11 @@ impl<'a> fmt::Display for Refusal<'a> {
     fn fmt<W: fmt::Write>(&self, f: &mut fmt::Formatter<W>) -> fmt::Result {
         match *self {
             Refusal::NoText => write!(f, "the line is no text"),
-            Refusal::Command(word) => write!(f, "{}: not at, next, last or quit", Plain(word)),
+            Refusal::Command(word) => write!(
+                f,
+                "{}: not at, next, last, all, value or quit",
+                Plain(word)
+            ),
             Refusal::Event(word) => write!(
                 f,
                 "{}: not line, in, ask, restart, hurt, hit, change or value",
@@ -54,6 +66,20 @@ impl<'a> fmt::Display for Refusal<'a> {
                 "{}: in several functions, so it wants one: FUNCTION.NAME",
                 Plain(word)
             ),
+            Refusal::Expression(words) => write!(f, "{}: no expression", Plain(words)),
+            Refusal::Acts(words) => {
+                write!(
+                    f,
+                    "{}: an expression calls nothing and sets nothing",
+                    Plain(words)
+                )
+            }
+            Refusal::Part(words) => write!(
+                f,
+                "{}: not where EXPRESSION, or after all show EXPRESSION",
+                Plain(words)
+            ),
+            Refusal::Call(frames) => write!(f, "{frames}: no call is open with so many frames"),
             Refusal::Memory => write!(f, "out of memory"),
         }
     }

@@ -2,12 +2,14 @@
 
 ghost use Rattle.std.specs.Prelude.{◌<◌, ◌≤◌, length};
 
-use crate::commands::Command;
+use crate::commands::{Command, number_of};
 use crate::refusals::Refusal;
+use crate::values::add_value;
 use arena::MOST_ROBOTS;
-use notes::{NotedProgram, add_moment};
+use notes::{NotedProgram, Sources, add_moment};
 use settings::Settings;
 use std::io::{BufRead, ErrorKind};
+use std::str;
 use tools::{Draft, Fault, Text, write_text};
 use watching::{Pilot, next_cycle, previous_cycle};
 
@@ -16,6 +18,8 @@ use watching::{Pilot, next_cycle, previous_cycle};
 pub struct Session<'a> {
     /// The match.
     pub wish: &'a Settings<'a>,
+    /// The robots' programs, and what is known of their files.
+    pub sources: &'a Sources,
     /// The robot's number, from 0.
     pub robot: usize,
     /// The robot's program, and what is known of its file.
@@ -71,25 +75,88 @@ fn answer(
     requires most { length pilots.old ≤ MOST_ROBOTS }
     requires inside { session.now.robot < length pilots.old }
 {
-    let Session { wish, robot, noted } = session;
+    let told = match str::from_utf8(line) {
+        Ok(line) => add_answer(text, session, line, pilots),
+        Err(_) => Err(Refusal::NoText),
+    };
+    match told {
+        Ok(goes_on) => Ok(goes_on),
+        Err(Refusal::Memory) => Err(Fault::Memory),
+        Err(refusal) => {
+            writeln!(text, "wrong\t{refusal}\n");
+            Ok(true)
+        }
+    }
+}
+
+/// Adds the answer to a line that is text. Reports whether the session goes on.
+fn add_answer<'a>(
+    text: &mut Draft,
+    session: &Session<'_>,
+    line: &'a str,
+    pilots: &mut [Pilot<'_>],
+) -> Result<bool, Refusal<'a>>
+    requires some { 2 ≤ length pilots.old }
+    requires most { length pilots.old ≤ MOST_ROBOTS }
+    requires inside { session.now.robot < length pilots.old }
+{
+    let (session, line) = addressed(session, line, pilots.len())?;
+    let Session {
+        wish,
+        robot,
+        noted,
+        ..
+    } = session;
+    if robot >= pilots.len() {
+        return Err(Refusal::NoText);
+    }
     let (seed, number, limit) = (wish.seed(), wish.first(), wish.limit());
     let mut marks = Vec::new(text.alloc());
-    match Command::read(line, noted, &mut marks) {
-        Ok(Command::Nothing) => {}
-        Ok(Command::Quit) => return Ok(false),
-        Ok(Command::At(cycle)) => add_moment(text, wish, noted, pilots, *robot, cycle)?,
-        Ok(Command::Next(cycle, sought)) => {
-            let found = next_cycle(pilots, *robot, &sought, cycle, seed, number, limit);
+    match Command::read(line, &noted, &mut marks)? {
+        Command::Nothing => {}
+        Command::Quit => return Ok(false),
+        Command::At(cycle) => add_moment(text, wish, &noted, pilots, robot, cycle)?,
+        Command::Next(cycle, sought) => {
+            let found = next_cycle(pilots, robot, &sought, cycle, seed, number, limit);
             add_found(text, found);
         }
-        Ok(Command::Last(cycle, sought)) => {
-            let found = previous_cycle(pilots, *robot, &sought, cycle, seed, number, limit);
+        Command::Last(cycle, sought) => {
+            let found = previous_cycle(pilots, robot, &sought, cycle, seed, number, limit);
             add_found(text, found);
         }
-        Err(Refusal::Memory) => return Err(Fault::Memory),
-        Err(refusal) => writeln!(text, "wrong\t{refusal}\n"),
+        Command::Pass(mut pass) => pass.play(text, &session, pilots)?,
+        Command::Value(cycle, frames, words) => {
+            add_value(text, &session, pilots, cycle, frames, words)?;
+        }
     }
     Ok(true)
+}
+
+/// Returns the session with the robot that a line names by `robot N` at its beginning, of so many, and the line without
+/// these words.
+fn addressed<'a, 's>(
+    session: &Session<'s>,
+    line: &'a str,
+    count: usize,
+) -> Result<(Session<'s>, &'a str), Refusal<'a>> {
+    let Some(rest) = line.trim_start().strip_prefix("robot ") else {
+        return Ok((*session, line));
+    };
+    let rest = rest.trim_start();
+    let (word, rest) = rest.split_once(' ').unwrap_or((rest, ""));
+    let number = number_of(word.trim_end(), 1, count as u64)? as usize;
+    let robot = number.saturating_sub(1);
+    match session.sources.robot(robot) {
+        Some(noted) => Ok((
+            Session {
+                robot,
+                noted,
+                ..*session
+            },
+            rest,
+        )),
+        None => Err(Refusal::Form("robot N COMMAND")),
+    }
 }
 
 /// Adds the cycle that was found.

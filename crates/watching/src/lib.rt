@@ -62,4 +62,4 @@ mod sought;
 pub use asked::Asked;
 pub use moment::{Moment, moment_at};
 pub use searches::{next_cycle, previous_cycle};
-pub use sought::Sought;
+pub use sought::{Sought, happens};

@@ -61,12 +61,7 @@ pub(crate) struct Glance {
 }
 
 /// Plays the next cycle of a match that isn't over, and reports whether what is sought happens to a robot in it.
-pub(crate) fn happens(
-    game: &mut Game,
-    pilots: &mut [Pilot<'_>],
-    robot: usize,
-    sought: &Sought<'_>,
-) -> bool
+pub fn happens(game: &mut Game, pilots: &mut [Pilot<'_>], robot: usize, sought: &Sought<'_>) -> bool
     requires manned { length game.old.arena.robots ≡ length pilots.old }
     requires goes_on { game.old.ending.is_over ≡ false }
     requires inside { robot < length pilots.old }

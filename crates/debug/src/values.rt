@@ -1,0 +1,64 @@
+//! The value of an expression at a moment of a match.
+
+ghost use Rattle.std.specs.Prelude.{◌<◌, ◌≤◌, length};
+
+use crate::expressions::Expression;
+use crate::refusals::Refusal;
+use crate::sessions::Session;
+use arena::MOST_ROBOTS;
+use code::Machine;
+use tools::Draft;
+use watching::{Pilot, moment_at};
+
+/// Adds the value of an expression after a cycle: in the call with which this many frames are open, or in the innermost
+/// one for 0.
+pub fn add_value<'a>(
+    text: &mut Draft,
+    session: &Session<'_>,
+    pilots: &mut [Pilot<'_>],
+    cycle: u32,
+    frames: usize,
+    words: &'a str,
+) -> Result<(), Refusal<'a>>
+    requires some { 2 ≤ length pilots.old }
+    requires most { length pilots.old ≤ MOST_ROBOTS }
+    requires inside { session.now.robot < length pilots.old }
+{
+    let Session {
+        wish,
+        robot,
+        noted,
+        ..
+    } = *session;
+    let (seed, number, limit) = (wish.seed(), wish.first(), wish.limit());
+    let _ = moment_at(pilots, robot, cycle, seed, number, limit);
+    let machine = pilots[robot].machine();
+    let Some((address, home)) = call_of(machine, frames) else {
+        return Err(Refusal::Call(frames));
+    };
+    let function = noted.function(address);
+    let mut expression = Expression::read(text.alloc(), &noted, function, words)?;
+    let value = expression.value(machine, home)?;
+    writeln!(text, "value\t{value}\n");
+    Ok(())
+}
+
+/// Returns the address at which the call is with which this many frames are open, and where its variables begin.
+fn call_of(machine: &Machine, frames: usize) -> Option<(usize, usize)> {
+    let mut address = machine.address();
+    if frames == 0 {
+        return Some((address, usize::from(machine.home())));
+    }
+    let mut depth = machine.frames().len();
+    for frame in machine.frames().iter().rev() {
+        // the first frame is main's, and each other call that has begun has an address to return to
+        if depth == 1 || frame.back > 0 {
+            if depth == frames {
+                return Some((address, usize::from(frame.base)));
+            }
+            address = usize::from(frame.back).saturating_sub(1);
+        }
+        depth = depth.saturating_sub(1);
+    }
+    None
+}

@@ -1,0 +1,191 @@
+//! Faults and warnings as rows, each with its place, its code, what explains it and how it may be mended.
+
+ghost use Rattle.std.specs.Prelude.{◌≡◌, Err};
+ghost use Rattle.grammar.specs.Compiled.{compiled};
+
+use crate::codes::{add_fault_code, add_warning_code};
+use crate::fixes::{Fix, Trouble, fix_of_fault, fix_of_warning};
+use crate::notes_read::{FITS, HINT, MET, first_words, said};
+use crate::parts_left_out::LeftOut;
+use crate::places::token_of_note;
+use crate::rows::{Subject, add_position, add_range, begin_row};
+use crate::token_rows::end_of;
+use derivations::{Located, locate};
+use explanations::{explain_left, fault_token, warnings_before, warnings_of};
+use grammar::{Diagnostic, Profile};
+use recovery::{MOST_BYTES, MOST_FAULTS, Rest};
+use std::alloc::AllocError;
+use tools::{Draft, Object, Text};
+
+/// Adds the rows of the warnings about a source: about what stands before its fault, if it has one.
+pub fn add_warnings(
+    text: &mut Draft,
+    subject: &Subject<'_>,
+    fault: Option<Diagnostic>,
+) -> Result<(), AllocError> {
+    let Subject {
+        source,
+        tokens,
+        profile,
+        ..
+    } = *subject;
+    let warnings = match &fault {
+        Some(fault) => warnings_before(source, tokens, profile, fault),
+        None => warnings_of(source, tokens, profile),
+    };
+    let mut from = 0;
+    for warning in warnings.list() {
+        let note = warning.note(tokens);
+        from = token_of_note(tokens, from, note.as_str());
+        add_warning(
+            text,
+            subject,
+            from,
+            first_words(note.as_str()),
+            fault.is_none(),
+        )?;
+    }
+    Ok(())
+}
+
+/// Adds the row of a warning about the token of an index. Fixes are looked for in a source that compiles.
+fn add_warning(
+    text: &mut Draft,
+    subject: &Subject<'_>,
+    index: usize,
+    words: &str,
+    compiles: bool,
+) -> Result<(), AllocError> {
+    let fix = if compiles {
+        fix_of_warning(subject, index, words)?
+    } else {
+        None
+    };
+    let mut row = begin_row(text, "warning");
+    add_warning_code(row.field("code"), words);
+    if let Some(located) = subject.tokens.get(index) {
+        add_place(&mut row, subject.source, located);
+    }
+    row.words("message", words);
+    add_fix(&mut row, &fix);
+    row.end();
+    text.add("\n");
+    Ok(())
+}
+
+/// Adds the place of a token, as its position and as its bytes.
+fn add_place(row: &mut Object<'_>, source: &[u8], located: &Located) {
+    add_position(row, located.line, located.column);
+    add_range(row, located.start, end_of(source, located));
+}
+
+/// Adds a fix, or null for none.
+fn add_fix(row: &mut Object<'_>, fix: &Option<Fix>) {
+    let Some(fix) = fix else {
+        row.field("fix").add("null");
+        return;
+    };
+    let mut object = Object::begin(row.field("fix"));
+    add_range(&mut object, fix.start, fix.end);
+    object.words("text", fix.text.as_str());
+    object.end();
+}
+
+/// Adds the row of the first fault of a source.
+pub fn add_first_fault(
+    text: &mut Draft,
+    subject: &Subject<'_>,
+    fault: &Diagnostic,
+) -> Result<(), AllocError>
+    requires { compiled subject.now.profile subject.now.source.now ≡ Err fault.now }
+{
+    add_fault(text, subject, subject.source, subject.tokens, fault)
+}
+
+/// Adds the row of the first fault of what is left of a source, which has these bytes and tokens.
+fn add_fault(
+    text: &mut Draft,
+    subject: &Subject<'_>,
+    left: &[u8],
+    tokens: &[Located],
+    fault: &Diagnostic,
+) -> Result<(), AllocError> {
+    let Subject {
+        alloc,
+        source,
+        profile,
+        ..
+    } = *subject;
+    let note = explain_left(source, tokens, profile, fault);
+    let hint = said(note.as_str(), HINT);
+    let index = fault_token(tokens, profile, fault);
+    let trouble = Trouble {
+        tokens,
+        index,
+        hint: hint.unwrap_or(""),
+    };
+    let fix = fix_of_fault(alloc, left, profile, fault, &trouble)?;
+    let mut row = begin_row(text, "fault");
+    add_fault_code(row.field("code"), fault.code);
+    let met = tokens.get(index).copied().unwrap_or_default();
+    add_place(&mut row, source, &met);
+    row.words("message", first_words(note.as_str()));
+    add_said(&mut row, "met", said(note.as_str(), MET));
+    add_said(&mut row, "fits", said(note.as_str(), FITS));
+    add_said(&mut row, "hint", hint);
+    add_fix(&mut row, &fix);
+    row.end();
+    text.add("\n");
+    Ok(())
+}
+
+/// Adds words, or null for none.
+fn add_said(row: &mut Object<'_>, name: &str, words: Option<&str>) {
+    match words {
+        Some(words) => row.words(name, words),
+        None => row.field(name).add("null"),
+    }
+}
+
+/// Adds the rows of the faults after the first one, and returns what is left out for them and for the last one.
+pub fn add_later_faults(
+    text: &mut Draft,
+    subject: &Subject<'_>,
+    first: &Diagnostic,
+) -> Result<LeftOut, AllocError> {
+    let Subject {
+        alloc,
+        source,
+        profile,
+        ..
+    } = *subject;
+    let mut rest = Rest::of(alloc, source, profile)?;
+    let mut fault = *first;
+    let mut place = place_of(subject.tokens, profile, &fault);
+    if source.len() > MOST_BYTES {
+        return LeftOut::of(alloc, source, Some(place));
+    }
+    for number in 1..=MOST_FAULTS {
+        if rest.leave_out(&fault)?.is_none() {
+            return LeftOut::of(alloc, rest.bytes(), Some(place));
+        }
+        let Some(next) = rest.fault() else {
+            return LeftOut::of(alloc, rest.bytes(), None);
+        };
+        let tokens = locate(alloc, rest.bytes())?;
+        if number < MOST_FAULTS {
+            add_fault(text, subject, rest.bytes(), tokens.as_slice(), &next)?;
+        }
+        fault = next;
+        place = place_of(tokens.as_slice(), profile, &fault);
+    }
+    LeftOut::of(alloc, rest.bytes(), Some(place))
+}
+
+/// Returns how many bytes are before the token of a fault.
+fn place_of(tokens: &[Located], profile: Profile, fault: &Diagnostic) -> usize {
+    match tokens.get(fault_token(tokens, profile, fault)) {
+        Some(located) => located.start,
+        None => 0,
+    }
+}

@@ -1,0 +1,372 @@
+//! Fixes: changes of a source that a hint or a warning suggests, and that were tried.
+
+ghost use Rattle.std.specs.Prelude.{◌≡◌, Err, IfOk, IfSome, true};
+ghost use Rattle.derivations.specs.Compiling.{Compiles};
+ghost use Rattle.grammar.specs.Compiled.{compiled};
+ghost use Rattle.know.specs.Repairs.{HasNoFaultBefore, Repairs, StillCompiles, edited};
+
+use crate::notes_read::{behind, quoted};
+use crate::rows::Subject;
+use derivations::{Located, compile, fitting, locate};
+use explanations::fault_token;
+use grammar::{Diagnostic, ParseFault, Profile};
+use std::alloc::{AllocError, Global};
+use std::str;
+use tokens::{MemoryFeed, Punctuator, Token, WINDOW_BYTES};
+use tools::{Draft, Text};
+
+/// A change of a source: bytes that go, and what comes in their place.
+#[derive(Drop)]
+pub struct Fix {
+    /// How many bytes are before those that go.
+    pub start: usize,
+    /// How many there are up to the last one of them.
+    pub end: usize,
+    /// What comes in their place.
+    pub text: String,
+}
+
+/// A suggestion: the place, and the words that are to stand there.
+#[derive(Clone, Copy)]
+struct Suggestion<'a> {
+    start: usize,
+    end: usize,
+    words: &'a str,
+}
+
+/// How many suggestions a fault may have, beside another word in the place of a name.
+const MOST_SUGGESTIONS: usize = 9;
+
+/// How many tokens a misspelled word may stand before the token that doesn't fit.
+const MOST_BACK: usize = 64;
+
+/// Where the token of a fault is in a source, and what its hint says.
+#[derive(Clone, Copy)]
+pub struct Trouble<'a> {
+    /// The source's tokens.
+    pub tokens: &'a [Located],
+    /// The index of the fault's token.
+    pub index: usize,
+    /// What the hint says, if there is one.
+    pub hint: &'a str,
+}
+
+/// Returns the first suggestion by which a source hasn't a fault any more where its first one is, nor before, if there is
+/// such a one. The only error is that memory is refused.
+pub fn fix_of_fault(
+    alloc: Global,
+    source: &[u8],
+    profile: Profile,
+    fault: &Diagnostic,
+    trouble: &Trouble<'_>,
+) -> Result<Option<Fix>, AllocError>
+    ensures { IfOk result (λ found. IfSome found (Repairs profile source.now fault.now)) }
+{
+    for back in 0..MOST_BACK {
+        let suggestion = respelled(trouble, back);
+        if let Some(fix) = tried(alloc, source, profile, fault, trouble, suggestion)? {
+            return Ok(Some(fix));
+        }
+    }
+    for suggestion in &suggestions(source, trouble) {
+        if let Some(fix) = tried(alloc, source, profile, fault, trouble, *suggestion)? {
+            return Ok(Some(fix));
+        }
+    }
+    Ok(None)
+}
+
+/// Returns a suggestion as a fix if with it the source compiles, or its first fault is behind the token of this one.
+fn tried(
+    alloc: Global,
+    source: &[u8],
+    profile: Profile,
+    fault: &Diagnostic,
+    trouble: &Trouble<'_>,
+    suggestion: Option<Suggestion<'_>>,
+) -> Result<Option<Fix>, AllocError>
+    ensures { IfOk result (λ found. IfSome found (Repairs profile source.now fault.now)) }
+{
+    let Some(suggestion) = suggestion else {
+        return Ok(None);
+    };
+    let fix = made(alloc, &suggestion)?;
+    let edited = edited(alloc, source, &fix)?;
+    let bytes = edited.as_slice();
+    let left = source
+        .len()
+        .saturating_sub(place_of(trouble.tokens, trouble.index));
+    if is_repaired(profile, bytes, fault) && left_behind(alloc, profile, bytes)? < left {
+        Ok(Some(fix))
+    } else {
+        Ok(None)
+    }
+}
+
+/// Returns how many bytes stand from the token of a source's first fault on: none if it compiles.
+fn left_behind(alloc: Global, profile: Profile, source: &[u8]) -> Result<usize, AllocError> {
+    match compile(profile, &mut MemoryFeed::new(source, WINDOW_BYTES)) {
+        Ok(_) => Ok(0),
+        Err(ParseFault::Source(fault)) => {
+            let tokens = locate(alloc, source)?;
+            let index = fault_token(tokens.as_slice(), profile, &fault);
+            Ok(
+                source
+                    .len()
+                    .saturating_sub(place_of(tokens.as_slice(), index)),
+            )
+        }
+        Err(ParseFault::Device | ParseFault::Memory) => Ok(source.len()),
+    }
+}
+
+/// Returns how many bytes are before the token of an index.
+fn place_of(tokens: &[Located], index: usize) -> usize {
+    match tokens.get(index) {
+        Some(located) => located.start,
+        None => 0,
+    }
+}
+
+/// Suggests the word that a hint says is meant in the place of a name, which is some tokens before the one that doesn't
+/// fit.
+fn respelled<'a>(trouble: &Trouble<'a>, back: usize) -> Option<Suggestion<'a>> {
+    let words = quoted(trouble.hint, "perhaps ")?;
+    let index = trouble.index.checked_sub(back)?;
+    let located = trouble.tokens.get(index)?;
+    match located.token {
+        Token::Name(name) if is_as_long(name.as_bytes().len(), words.len()) => {
+            replacing(trouble.tokens, index, Some(words))
+        }
+        _ => None,
+    }
+}
+
+/// Reports whether a name may be a word that is a letter off, by their lengths.
+fn is_as_long(name: usize, word: usize) -> bool {
+    name <= word.saturating_add(1) && word <= name.saturating_add(1)
+}
+
+/// Returns what else may mend a fault.
+fn suggestions<'a>(
+    source: &'a [u8],
+    trouble: &Trouble<'a>,
+) -> [Option<Suggestion<'a>>; MOST_SUGGESTIONS] {
+    let Trouble {
+        tokens,
+        index,
+        hint,
+    } = *trouble;
+    [
+        hexadecimal(tokens, index, hint),
+        comparing(tokens, index),
+        missing(tokens, index, Punctuator::Semicolon, ";"),
+        missing(tokens, index, Punctuator::CloseRound, ")"),
+        missing(tokens, index, Punctuator::CloseRound, "))"),
+        missing(tokens, index, Punctuator::CloseRound, ")))"),
+        missing(tokens, index, Punctuator::CloseRound, "))))"),
+        missing(tokens, index, Punctuator::CloseRound, ");"),
+        superfluous(source, tokens, index, hint),
+    ]
+}
+
+/// Suggests that a word stands in the place of the token of an index.
+fn replacing<'a>(
+    tokens: &[Located],
+    index: usize,
+    words: Option<&'a str>,
+) -> Option<Suggestion<'a>> {
+    let met = tokens.get(index)?;
+    Some(Suggestion {
+        start: met.start,
+        end: met.end,
+        words: words?,
+    })
+}
+
+/// Suggests the decimal number that a hint has for a hexadecimal one, of which the token of an index is the end.
+fn hexadecimal<'a>(tokens: &[Located], index: usize, hint: &'a str) -> Option<Suggestion<'a>> {
+    let words = behind(hint, "aren't known; write ")?;
+    Some(Suggestion {
+        start: tokens.get(index.checked_sub(1)?)?.start,
+        end: tokens.get(index)?.end,
+        words,
+    })
+}
+
+/// Suggests `==` for a `=`.
+fn comparing<'a>(tokens: &[Located], index: usize) -> Option<Suggestion<'a>> {
+    let met = tokens.get(index)?;
+    let words = (met.token == Token::Punctuator(Punctuator::Equals)).then_some("==");
+    replacing(tokens, index, words)
+}
+
+/// Suggests a punctuator right behind the token before the one of an index, if it fits there.
+fn missing<'a>(
+    tokens: &[Located],
+    index: usize,
+    mark: Punctuator,
+    words: &'a str,
+) -> Option<Suggestion<'a>> {
+    let before = tokens.get(index.checked_sub(1)?)?;
+    for located in &fitting(tokens, index) {
+        if located.token == Token::Punctuator(mark) {
+            return Some(Suggestion {
+                start: before.end,
+                end: before.end,
+                words,
+            });
+        }
+    }
+    None
+}
+
+/// Suggests to leave out a brace or a semicolon that a hint says is one too many.
+fn superfluous<'a>(
+    source: &'a [u8],
+    tokens: &[Located],
+    index: usize,
+    hint: &str,
+) -> Option<Suggestion<'a>> {
+    let is_said = hint.starts_with("this `}` closes nothing") || hint.starts_with("no `;` stands");
+    let nothing = str::from_utf8(source.get(..0)?).unwrap_or("");
+    if is_said {
+        replacing(tokens, index, Some(nothing))
+    } else {
+        None
+    }
+}
+
+/// Returns a suggestion as a fix.
+fn made(alloc: Global, suggestion: &Suggestion<'_>) -> Result<Fix, AllocError> {
+    let mut text = Draft::new(alloc);
+    text.add(suggestion.words);
+    Ok(Fix {
+        start: suggestion.start,
+        end: suggestion.end,
+        text: text.finish()?,
+    })
+}
+
+/// Returns a source with a fix.
+fn edited(alloc: Global, source: &[u8], fix: &Fix) -> Result<Vec<u8>, AllocError>
+    ensures { IfOk result (λ bytes. bytes.items ≡ edited source.now fix.now) }
+{
+    let mut bytes = Vec::from_slice(alloc, source.get(..fix.start).unwrap_or(source))?;
+    bytes.extend_from_slice(fix.text.as_bytes())?;
+    bytes.extend_from_slice(source.get(fix.end..).unwrap_or(&[]))?;
+    Ok(bytes)
+}
+
+/// Reports whether a source compiles, or has its first fault on no earlier line than another fault.
+fn is_repaired(profile: Profile, source: &[u8], fault: &Diagnostic) -> bool
+    ensures { result ≡ true → HasNoFaultBefore profile source.now fault.now }
+{
+    match compile(profile, &mut MemoryFeed::new(source, WINDOW_BYTES)) {
+        Ok(_) => true,
+        Err(ParseFault::Source(other)) => fault.line <= other.line,
+        Err(ParseFault::Device | ParseFault::Memory) => false,
+    }
+}
+
+/// Returns the change that a warning about the token of an index suggests, if there is one and the source compiles with it.
+/// The only error is that memory is refused.
+pub fn fix_of_warning(
+    subject: &Subject<'_>,
+    index: usize,
+    words: &str,
+) -> Result<Option<Fix>, AllocError>
+    ensures { IfOk result (λ found. IfSome found (StillCompiles subject.now.profile subject.now.source.now)) }
+{
+    let Subject {
+        alloc,
+        source,
+        tokens,
+        profile,
+    } = *subject;
+    let Some(fix) = suggested(subject, index, words)? else {
+        return Ok(None);
+    };
+    let edited = edited(alloc, source, &fix)?;
+    if compiles(profile, edited.as_slice()) {
+        Ok(Some(fix))
+    } else {
+        Ok(None)
+    }
+}
+
+/// Returns what a warning suggests.
+fn suggested(subject: &Subject<'_>, index: usize, words: &str) -> Result<Option<Fix>, AllocError> {
+    let tokens = subject.tokens;
+    if words.starts_with("the degree comes first") {
+        return swapping(subject, index);
+    }
+    let suggestion = if words.starts_with("`=` sets the variable") {
+        comparing(tokens, index)
+    } else {
+        replacing(tokens, index, quoted(words, "; perhaps "))
+    };
+    match suggestion {
+        Some(suggestion) => Ok(Some(made(subject.alloc, &suggestion)?)),
+        None => Ok(None),
+    }
+}
+
+/// Swaps the two arguments of the call of the name of an index.
+fn swapping(subject: &Subject<'_>, index: usize) -> Result<Option<Fix>, AllocError> {
+    let Some((open, comma, close)) = arguments(subject.tokens, index) else {
+        return Ok(None);
+    };
+    let first = between(subject, open, comma);
+    let second = between(subject, comma, close);
+    let mut text = Draft::new(subject.alloc);
+    text.add(subject.words(second));
+    text.add(", ");
+    text.add(subject.words(first));
+    Ok(Some(Fix {
+        start: first.0,
+        end: second.1,
+        text: text.finish()?,
+    }))
+}
+
+/// Returns where the bytes between two tokens begin and end, without the spaces beside these.
+fn between(subject: &Subject<'_>, before: usize, behind: usize) -> (usize, usize) {
+    let start = subject.tokens.get(before.saturating_add(1));
+    let end = subject.tokens.get(behind.saturating_sub(1));
+    match (start, end) {
+        (Some(start), Some(end)) => (start.start, end.end),
+        _ => (0, 0),
+    }
+}
+
+/// Returns the indices of the `(`, the only `,` and the `)` of a call with two arguments, by the index of its name.
+fn arguments(tokens: &[Located], name: usize) -> Option<(usize, usize, usize)> {
+    let open = name.saturating_add(1);
+    let mut depth: usize = 0;
+    let mut comma = None;
+    for (index, located) in tokens.iter().enumerate().skip(open) {
+        match located.token {
+            Token::Punctuator(Punctuator::OpenRound) => depth = depth.saturating_add(1),
+            Token::Punctuator(Punctuator::CloseRound) => depth = depth.saturating_sub(1),
+            Token::Punctuator(Punctuator::Comma) if depth == 1 && comma.is_none() => {
+                comma = Some(index);
+            }
+            _ => {}
+        }
+        if depth == 0 {
+            return Some((open, comma?, index));
+        }
+    }
+    None
+}
+
+/// Reports whether a source compiles.
+fn compiles(profile: Profile, source: &[u8]) -> bool
+    ensures { result ≡ true → Compiles profile source.now }
+{
+    match compile(profile, &mut MemoryFeed::new(source, WINDOW_BYTES)) {
+        Ok(_) => true,
+        Err(ParseFault::Source(_) | ParseFault::Device | ParseFault::Memory) => false,
+    }
+}

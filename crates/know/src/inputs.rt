@@ -1,0 +1,33 @@
+//! The source on standard input.
+
+use std::io::{ErrorKind, Read};
+use tokens::{MOST_SOURCE_BYTES, WINDOW_BYTES};
+use tools::Fault;
+
+/// Reads standard input: all of it, or as many bytes as determine what it compiles to. If it can't be read, a line with the
+/// program's name is written.
+pub fn source_read(rt: &HostRuntime, program: &str) -> Result<Vec<u8>, Fault> {
+    let mut input = rt.stdin();
+    let mut source = Vec::new(rt.alloc());
+    let mut window = [0; WINDOW_BYTES];
+    for _ in 0..=MOST_SOURCE_BYTES {
+        let count = match input.read(&mut window) {
+            Ok(count) => count,
+            Err(error) => return Err(unread(rt, program, error.kind())),
+        };
+        source.extend_from_slice(window.get(..count).unwrap_or(&[]))?;
+        if count == 0 || source.len() > MOST_SOURCE_BYTES as usize {
+            break;
+        }
+    }
+    Ok(source)
+}
+
+/// Returns why there is no source: memory was refused, or input can't be read, and then a line about that is written.
+fn unread(rt: &HostRuntime, program: &str, kind: ErrorKind) -> Fault {
+    if kind == ErrorKind::OutOfMemory {
+        return Fault::Memory;
+    }
+    let _ = eprintln!(rt; "{program}: cannot read standard input");
+    Fault::Read
+}

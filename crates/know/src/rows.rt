@@ -1,0 +1,53 @@
+//! What rows are about, and the fields that several kinds of rows have.
+
+use derivations::Located;
+use grammar::Profile;
+use std::alloc::Global;
+use std::str;
+use tokens::Name;
+use tools::{Draft, Object};
+
+/// A source that is told of.
+#[derive(Clone, Copy)]
+pub struct Subject<'a> {
+    /// What memory is taken from.
+    pub alloc: Global,
+    /// Its bytes.
+    pub source: &'a [u8],
+    /// Its tokens, up to a lexical error if it has one.
+    pub tokens: &'a [Located],
+    /// The language profile.
+    pub profile: Profile,
+}
+
+impl<'a> Subject<'a> {
+    /// Returns the bytes of a place as text. Those of tokens are ASCII.
+    pub fn words(&self, place: (usize, usize)) -> &'a str {
+        let (start, end) = place;
+        str::from_utf8(self.source.get(start..end).unwrap_or(&[])).unwrap_or("?")
+    }
+}
+
+/// Begins a row of a kind at the end of a text.
+pub fn begin_row<'t>(text: &'t mut Draft, kind: &str) -> Object<'t> {
+    let mut row = Object::begin(text);
+    row.words("row", kind);
+    row
+}
+
+/// Adds the place of bytes: how many are before them, and how many there are up to their last one.
+pub fn add_range(row: &mut Object<'_>, start: usize, end: usize) {
+    row.number("start", start as u64);
+    row.number("end", end as u64);
+}
+
+/// Adds the line and the column, in bytes from 1.
+pub fn add_position(row: &mut Object<'_>, line: u32, column: u32) {
+    row.number("line", u64::from(line));
+    row.number("column", u64::from(column));
+}
+
+/// Returns a name as text. Names are ASCII.
+pub fn text_of(name: &Name) -> &str {
+    str::from_utf8(name.as_bytes()).unwrap_or("?")
+}

@@ -1,0 +1,481 @@
+"""The debug adapter: what a client asks of a match, and what it is told."""
+
+from __future__ import annotations
+
+import os
+import subprocess
+from dataclasses import dataclass, field
+from typing import Any, Callable, Iterable
+
+from stepping.moments import Call, Moment
+from stepping.pipes import Refused
+from stepping.sessions import BACKWARDS, FORWARDS, LAST_CYCLE, any_line, line_of_call, outside
+from tools.faults import Fault
+from tools.programs import found
+
+from .fields import Fields, Wrong
+from .listings import Listing
+from .loops import Loop, send
+from .manual import entries, page
+from .matches import Match, Wanted, beside
+from .plays import GAME
+from .stops import NoCount, Stop, on_one_line
+
+Answer = Any
+# Where references to variables begin: a robot, a frame, and a scope.
+OF_ROBOT, OF_FRAME = 100_000, 10
+LOCALS, EXTERNALS, STACK, ROBOT = range(1, 5)
+SCOPES = {LOCALS: "Function", EXTERNALS: "Externals", STACK: "Stack", ROBOT: "Robot"}
+HAPPENINGS = {"restart": "The robot restarts", "hurt": "The robot is hurt", "hit": "A missile of the robot hurts another one"}
+LINES, DATA, EXCEPTIONS = "breakpoint", "data breakpoint", "exception"
+
+
+class Failed(Exception):
+    """A request can't be met: the text says why."""
+
+
+@dataclass
+class Launch:
+    """The match that is asked for."""
+
+    files: list[str] = field(default_factory=list)
+    options: list[str] = field(default_factory=list)
+    watched: int = 1
+    profile: int = 1
+    from_cycle: int = 0
+    stops_on_entry: bool = True
+
+
+class Adapter:
+    """A debug adapter for one client."""
+
+    def __init__(self) -> None:
+        self._loop = Loop(self._take, lambda why: self._event("output", {"category": "stderr", "output": f"{why}\n"}))
+        self._number = 0
+        self._next_stop = 1
+        self._launch = Launch()
+        self._match: Match | None = None
+        self._listings: dict[str, Listing] = {}
+        self._stops: dict[str, list[Stop]] = {}
+        self._after: list[Callable[[], None]] = []
+
+    def run(self) -> int:
+        """Serves until the client goes; answers the status."""
+        try:
+            self._loop.run()
+        finally:
+            if self._match:
+                self._match.close()
+        return 0
+
+    # Messages.
+
+    def _send(self, message: Answer) -> None:
+        self._number += 1
+        send({"seq": self._number} | message)
+
+    def _event(self, name: str, body: Answer) -> None:
+        self._send({"type": "event", "event": name, "body": body})
+
+    def _say(self, text: str, category: str = "console") -> None:
+        self._event("output", {"category": category, "output": f"{text}\n"})
+
+    def _take(self, message: Any) -> None:
+        """Takes a message: a request is answered, and then what follows from it is told."""
+        try:
+            request = Fields(message, "message")
+            command, number = request.text("command"), request.number("seq")
+        except Wrong as why:
+            self._say(str(why), "stderr")
+            return
+        reply = {"type": "response", "request_seq": number, "command": command}
+        self._after = []
+        try:
+            body = self._answer(command, request.fields_or("arguments"))
+        except (Wrong, Failed, Fault, Refused, NoCount, OSError) as why:
+            told = str(why).strip()
+            self._send(reply | {"success": False, "message": told, "body": {"error": {"id": 1, "format": told, "showUser": True}}})
+        else:
+            self._send(reply | {"success": True} | ({"body": body} if body is not None else {}))
+        after, self._after = self._after, []
+        for act in after:
+            act()
+
+    def _answer(self, command: str, given: Fields) -> Answer:
+        if command in BEFORE_LAUNCH:
+            return BEFORE_LAUNCH[command](self, given)
+        if command not in REQUESTS:
+            raise Failed(f"{command} isn't known")
+        if not self._match:
+            raise Failed("no match is launched")
+        return REQUESTS[command](self, given)
+
+    def _of(self) -> Match:
+        assert self._match
+        return self._match
+
+    # The match.
+
+    def initialize(self, _: Fields) -> Answer:
+        return CAPABILITIES | {"exceptionBreakpointFilters": filters()}
+
+    def launch(self, given: Fields) -> Answer:
+        self._launch = read_launch(given)
+        self._match = Match(self._launch.options, self._launch.files)
+        if self._launch.watched not in self._match.robots():
+            raise Failed(f"watch {self._launch.watched}: there are {len(self._match.robots())} robots")
+        for file in self._match.files:
+            self._listings.setdefault(os.path.realpath(file), Listing(file, self._launch.profile))
+        self._after.append(lambda: self._event("initialized", {}))
+        return None
+
+    def configured(self, _: Fields) -> Answer:
+        self._of().go(self._launch.from_cycle)
+        if self._launch.stops_on_entry:
+            self._after.append(lambda: self._stopped("entry", self._launch.watched))
+        else:
+            self._after.append(lambda: self._move(FORWARDS, None, []))
+        return None
+
+    def disconnected(self, _: Fields) -> Answer:
+        self._after.append(self._end)
+        return None
+
+    def _end(self) -> None:
+        self._event("terminated", {})
+        self._loop.is_over = True
+
+    def _stopped(self, reason: str, robot: int, numbers: Iterable[int] = ()) -> None:
+        """Tells that all robots have stopped, and which of them is looked at."""
+        body = {"reason": reason, "threadId": robot, "allThreadsStopped": True, "description": f"cycle {self._of().cycle}",
+                "text": f"cycle {self._of().cycle}"}
+        self._event("stopped", body | ({"hitBreakpointIds": [*numbers]} if numbers else {}))
+
+    def _finished(self) -> None:
+        """Tells that the match is over, with its report."""
+        words = [found(GAME), "-m1", *(f"-f{it[2:]}" if it.startswith("-k") else it for it in self._launch.options), "--", *self._launch.files]
+        ran = subprocess.run(words, stdin=subprocess.DEVNULL, capture_output=True, text=True, errors="replace", check=False)
+        self._event("output", {"category": "stdout", "output": ran.stdout or ran.stderr})
+        self._event("exited", {"exitCode": 0})
+        self._event("terminated", {})
+
+    # Moves.
+
+    def _move(self, way: str, step: int | None, events: list[str]) -> None:
+        """Goes on to what stops first: a breakpoint, or one of the events of a step of a robot; or to the end of the way."""
+        match = self._of()
+        begun = match.cycle
+        steps = match.find(way, [Wanted(step, event) for event in events] if step else []).values()
+        stops = [(cycle, stop, robot) for stop, robot in self._stops_of_robots() if (cycle := self._cycle(way, stop, robot)) is not None]
+        cycles = [*steps, *(cycle for cycle, _, _ in stops)]
+        if not cycles:
+            self._tell_messages(way, begun, LAST_CYCLE)
+            self._come_to_end(way, step or self._launch.watched)
+            return
+        best = min(cycles) if way == FORWARDS else max(cycles)
+        match.go(best)
+        self._tell_messages(way, begun, best)
+        hit = [(stop, robot) for cycle, stop, robot in stops if cycle == best]
+        if hit:
+            self._stopped(hit[0][0].reason, hit[0][1], [stop.number for stop, _ in hit if stop.reason != EXCEPTIONS])
+        else:
+            self._stopped("step", step or 1)
+
+    def _stops_of_robots(self) -> list[tuple[Stop, int]]:
+        """What stops, once for each robot of it."""
+        return [(stop, robot) for stops in self._stops.values() for stop in stops for robot in stop.robots]
+
+    def _cycle(self, way: str, stop: Stop, robot: int) -> int | None:
+        """The first cycle on a way in which something stops a robot. A log point doesn't."""
+        if stop.message:
+            return None
+        if not stop.count:
+            return self._of().find(way, [stop.wanted(robot)]).get(stop.wanted(robot))
+        return beside([hit.cycle for hit in stop.counted(self._of().hits(stop.wanted(robot)))], self._of().cycle, way)
+
+    def _tell_messages(self, way: str, begun: int, last: int) -> None:
+        """Says what log points say behind a cycle and up to another one, on the way forwards."""
+        if way != FORWARDS:
+            return
+        told = [(hit.cycle, robot, stop.told(hit)) for stop, robot in self._stops_of_robots() if stop.message
+                for hit in stop.counted(self._of().hits(stop.wanted(robot), stop.shown())) if begun < hit.cycle <= last]
+        for _, _, text in sorted(told, key=lambda it: it[:2]):
+            self._say(text)
+
+    def _come_to_end(self, way: str, robot: int) -> None:
+        """Goes to the end or the start of the match."""
+        if way == FORWARDS:
+            self._of().go(LAST_CYCLE)
+            self._finished()
+        else:
+            self._of().go(0)
+            self._stopped("entry", robot)
+
+    def _moving(self, way: str, given: Fields, events_of: Callable[[Moment], list[str]]) -> Answer:
+        """A step of a robot: to events, or by one instruction."""
+        robot = self._robot(given.number("threadId"))
+        if given.text_or("granularity", "statement") == "instruction":
+            self._after.append(lambda: self._step_cycle(robot, 1 if way == FORWARDS else -1))
+        else:
+            events = events_of(self._of().moment(robot))
+            self._after.append(lambda: self._move(way, robot, events))
+        return None
+
+    def _step_cycle(self, robot: int, by: int) -> None:
+        match = self._of()
+        before = match.cycle
+        match.go(before + by)
+        if by > 0 and match.cycle == before:
+            self._finished()
+        else:
+            self._stopped("step", robot)
+
+    def continue_(self, given: Fields) -> Answer:
+        self._robot(given.number("threadId"))
+        self._after.append(lambda: self._move(FORWARDS, None, []))
+        return {"allThreadsContinued": True}
+
+    def reverse(self, given: Fields) -> Answer:
+        robot = self._robot(given.number("threadId"))
+        self._after.append(lambda: self._move(BACKWARDS, robot, []))
+        return None
+
+    def next(self, given: Fields) -> Answer:
+        return self._moving(FORWARDS, given, line_of_call)
+
+    def step_in(self, given: Fields) -> Answer:
+        return self._moving(FORWARDS, given, any_line)
+
+    def step_out(self, given: Fields) -> Answer:
+        return self._moving(FORWARDS, given, outside)
+
+    def step_back(self, given: Fields) -> Answer:
+        return self._moving(BACKWARDS, given, line_of_call)
+
+    def pause(self, given: Fields) -> Answer:
+        robot = self._robot(given.number("threadId"))
+        self._after.append(lambda: self._stopped("pause", robot))
+        return None
+
+    # What stops.
+
+    def set_breakpoints(self, given: Fields) -> Answer:
+        """Sets those of a file: each at the first line from its own on that has an instruction."""
+        path = given.fields("source").text("path")
+        robots = self._robots_of(path)
+        listing = self._listings.get(os.path.realpath(path))
+        told: list[Answer] = []
+        stops: list[Stop] = []
+        for asked in given.all("breakpoints"):
+            line = listing.line_from(asked.number("line")) if listing else None
+            if line is None or not robots:
+                told.append({"id": self._new_number(), "verified": False, "line": asked.number("line"), "message": "no instruction is here"})
+                continue
+            told.append(self._add(stops, self._stop(f"line {line}", robots, LINES, asked)) | moved(asked.number("line"), line))
+        self._stops[os.path.realpath(path)] = stops
+        return {"breakpoints": told}
+
+    def _robots_of(self, path: str) -> tuple[int, ...]:
+        match = self._of()
+        return tuple(robot for robot in match.robots() if os.path.realpath(match.files[robot - 1]) == os.path.realpath(path))
+
+    def _new_number(self) -> int:
+        self._next_stop += 1
+        return self._next_stop - 1
+
+    def _stop(self, event: str, robots: tuple[int, ...], reason: str, asked: Fields) -> Stop:
+        return Stop(self._new_number(), event, robots, reason, on_one_line(asked.text_or("condition", "")),
+                    on_one_line(asked.text_or("hitCondition", "")), asked.text_or("logMessage", ""))
+
+    def _add(self, stops: list[Stop], stop: Stop) -> dict[str, Answer]:
+        """Adds a stop, if what it asks for is right; answers what the client is told of it."""
+        try:
+            stop.check()
+            for robot in stop.robots:
+                self._of().check(stop.wanted(robot))
+                self._check_message(stop, robot)
+        except (NoCount, Refused) as why:
+            return {"id": stop.number, "verified": False, "message": str(why)}
+        stops.append(stop)
+        return {"id": stop.number, "verified": True}
+
+    def _check_message(self, stop: Stop, robot: int) -> None:
+        """Notes what is wrong with the expressions of a message."""
+        for expression in stop.holes():
+            try:
+                self._of().check(Wanted(robot, stop.event, expression))
+            except Refused as why:
+                stop.wrong[expression] = str(why)
+
+    def set_exceptions(self, given: Fields) -> Answer:
+        """Sets what happens to the watched robot, by the names of filters."""
+        known = {it["filter"] for it in filters()}
+        asked = [it for it in given.items("filters") if isinstance(it, str)]
+        wrong = [it for it in asked if it not in known]
+        if wrong:
+            raise Failed(f"{wrong[0]}: no filter")
+        watched = (self._launch.watched,)
+        self._stops[EXCEPTIONS] = [Stop(self._new_number(), it, watched, EXCEPTIONS) for it in asked]
+        return {"breakpoints": [{"verified": True} for _ in asked]}
+
+    def data_info(self, given: Fields) -> Answer:
+        """The variable that can be watched: of the frame, or an external."""
+        name = given.text("name")
+        robot, frame, scope = parted(given.number_or("variablesReference", self._launch.watched * OF_ROBOT + LOCALS))
+        moment = self._of().moment(self._robot(robot))
+        full = name
+        if scope == LOCALS and frame < len(moment.calls) and name in moment.calls[frame].variables:
+            full = f"{moment.calls[frame].function}.{name}"
+        elif name not in moment.externals and moment.value(name) is None:
+            return {"dataId": None, "description": f"{name} is no variable"}
+        return {"dataId": f"{robot} {full}", "description": full, "accessTypes": ["write"]}
+
+    def set_data(self, given: Fields) -> Answer:
+        stops: list[Stop] = []
+        told = []
+        for asked in given.all("breakpoints"):
+            robot, _, name = asked.text("dataId").partition(" ")
+            number = self._robot(int(robot) if robot.isdigit() else 0)
+            told.append(self._add(stops, self._stop(f"change {name}", (number,), DATA, asked)))
+        self._stops[DATA] = stops
+        return {"breakpoints": told}
+
+    # What is shown.
+
+    def _robot(self, number: int) -> int:
+        if number not in self._of().robots():
+            raise Failed(f"there is no robot {number}")
+        return number
+
+    def threads(self, _: Fields) -> Answer:
+        match = self._of()
+        return {"threads": [{"id": robot, "name": f"{robot} {match.name(robot)}"} for robot in match.robots()]}
+
+    def _source(self, robot: int) -> Answer:
+        path = os.path.abspath(self._of().files[robot - 1])
+        return {"name": os.path.basename(path), "path": path}
+
+    def sources(self, _: Fields) -> Answer:
+        files = {it["path"]: it for it in map(self._source, self._of().robots())}
+        return {"sources": [*files.values()]}
+
+    def stack_trace(self, given: Fields) -> Answer:
+        robot = self._robot(given.number("threadId"))
+        moment, address = self._of().moment(robot), self._of().address(robot)
+        frames = [self._frame(robot, number, call) for number, call in enumerate(moment.calls)]
+        if frames:
+            frames[0] |= {"column": max(moment.column, 1), "line": moment.line, "instructionPointerReference": str(address)}
+        first, count = given.number_or("startFrame", 0), given.number_or("levels", 0) or len(frames)
+        return {"stackFrames": frames[first : first + count], "totalFrames": len(frames)}
+
+    def _frame(self, robot: int, number: int, call: Call) -> Answer:
+        return {"id": robot * OF_ROBOT + number * OF_FRAME, "name": call.function, "line": call.line, "column": 1, "source": self._source(robot)}
+
+    def scopes(self, given: Fields) -> Answer:
+        frame = given.number("frameId")
+        return {"scopes": [{"name": name, "variablesReference": frame + scope, "expensive": False} for scope, name in SCOPES.items()]}
+
+    def variables(self, given: Fields) -> Answer:
+        robot, frame, scope = parted(given.number("variablesReference"))
+        moment = self._of().moment(self._robot(robot))
+        return {"variables": [{"name": name, "value": value, "variablesReference": 0} | evaluable(scope, name)
+                              for name, value in shown(moment, robot, frame, scope)]}
+
+    def evaluate(self, given: Fields) -> Answer:
+        """The value of an expression in a frame, or of a variable of another one, as FUNCTION.NAME."""
+        robot, frame, _ = parted(given.number_or("frameId", self._launch.watched * OF_ROBOT))
+        moment = self._of().moment(self._robot(robot))
+        expression = on_one_line(given.text("expression"))
+        value = moment.value(expression) if "." in expression else None
+        if value is not None:
+            return {"result": str(value), "variablesReference": 0}
+        if frame >= len(moment.calls):
+            raise Failed("there is no such frame")
+        return {"result": self._of().value(robot, moment.calls[frame].frames, expression), "variablesReference": 0}
+
+    def disassemble(self, given: Fields) -> Answer:
+        """Instructions around an address. All robots' addresses begin at 0; those of the watched one are shown."""
+        address = int(given.text("memoryReference")) + given.number_or("offset", 0) + given.number_or("instructionOffset", 0)
+        listing = self._listings[os.path.realpath(self._of().files[self._launch.watched - 1])]
+        return {"instructions": [instruction(listing, it, self._source(self._launch.watched))
+                                 for it in range(address, address + given.number("instructionCount"))]}
+
+
+def instruction(listing: Listing, address: int, source: Answer) -> Answer:
+    """An instruction as the protocol has it; where there is none, one that says so."""
+    it = listing.at(address)
+    if not it:
+        return {"address": str(address), "instruction": "no instruction", "presentationHint": "invalid"}
+    return {"address": str(address), "instruction": it.text, "line": it.line, "location": source}
+
+
+def moved(asked: int, line: int) -> Answer:
+    return {"line": line} | ({"message": f"moved to line {line}, the next one with an instruction"} if line != asked else {})
+
+
+def evaluable(scope: int, name: str) -> Answer:
+    return {"evaluateName": name} if scope in (LOCALS, EXTERNALS) else {}
+
+
+def parted(reference: int) -> tuple[int, int, int]:
+    """The robot, the frame and the scope of a reference."""
+    return reference // OF_ROBOT, reference % OF_ROBOT // OF_FRAME, reference % OF_FRAME
+
+
+def shown(moment: Moment, robot: int, frame: int, scope: int) -> list[tuple[str, str]]:
+    """The names and values of a scope."""
+    if scope == EXTERNALS:
+        return [(name, str(value)) for name, value in moment.externals.items()]
+    if scope == STACK:
+        return [(str(number), str(word)) for number, word in enumerate(moment.stack)]
+    if scope == ROBOT:
+        return field_of(moment, robot)
+    own = moment.calls[frame].variables if frame < len(moment.calls) else {}
+    return [(name, str(value)) for name, value in own.items()]
+
+
+def field_of(moment: Moment, robot: int) -> list[tuple[str, str]]:
+    """Where a robot is in the field, and what it asked last."""
+    it = next((it for it in moment.robots if it.number == robot), None)
+    told = [("cycle", str(moment.cycle)), ("instruction", moment.instruction)]
+    if it:
+        told += [("x", f"{it.x / 10:g}"), ("y", f"{it.y / 10:g}"), ("heading", str(it.heading)), ("speed", str(it.speed)),
+                 ("damage", f"{it.damage}%"), ("state", "alive" if it.is_alive else "dead")]
+    if moment.asked:
+        told.append(("asked", f"{moment.asked.call} = {moment.asked.reply} in cycle {moment.asked.cycle}"))
+    return told
+
+
+def filters() -> list[dict[str, Any]]:
+    """What may happen to the watched robot, and each question that it may ask."""
+    happenings = [{"filter": name, "label": label, "default": False} for name, label in HAPPENINGS.items()]
+    return happenings + [{"filter": f"ask {name}", "label": f"It asks {name}", "default": False} for name in entries(page())]
+
+
+def read_launch(given: Fields) -> Launch:
+    """Reads what is to be launched. Wrong numbers are said by the program that takes them."""
+    files = [it for it in given.items("robots") if isinstance(it, str)]
+    if given.has("program"):
+        files = [given.text("program"), *files]
+    if not files:
+        raise Failed("robots is empty")
+    options = [f"{letter}{given.number(name)}" for name, letter in {"match": "-k", "cycles": "-l", "seed": "-s", "profile": "-p"}.items()
+               if given.has(name)]
+    return Launch(files, options, given.number_or("watch", 1), given.number_or("profile", 1), given.number_or("from", 0),
+                  given.truth("stopOnEntry", True))
+
+
+CAPABILITIES = {f"supports{name}": True for name in (
+    "ConfigurationDoneRequest", "ConditionalBreakpoints", "HitConditionalBreakpoints", "LogPoints", "StepBack", "DataBreakpoints",
+    "EvaluateForHovers", "DisassembleRequest", "SteppingGranularity", "LoadedSourcesRequest", "TerminateRequest")}
+Act = Callable[[Adapter, Fields], Answer]
+BEFORE_LAUNCH: dict[str, Act] = {
+    "initialize": Adapter.initialize, "launch": Adapter.launch, "disconnect": Adapter.disconnected, "terminate": Adapter.disconnected,
+}
+REQUESTS: dict[str, Act] = {
+    "configurationDone": Adapter.configured, "threads": Adapter.threads, "stackTrace": Adapter.stack_trace, "scopes": Adapter.scopes,
+    "variables": Adapter.variables, "evaluate": Adapter.evaluate, "disassemble": Adapter.disassemble, "loadedSources": Adapter.sources,
+    "setBreakpoints": Adapter.set_breakpoints, "setExceptionBreakpoints": Adapter.set_exceptions, "setDataBreakpoints": Adapter.set_data,
+    "dataBreakpointInfo": Adapter.data_info, "continue": Adapter.continue_, "reverseContinue": Adapter.reverse, "next": Adapter.next,
+    "stepIn": Adapter.step_in, "stepOut": Adapter.step_out, "stepBack": Adapter.step_back, "pause": Adapter.pause,
+}

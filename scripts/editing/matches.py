@@ -1,0 +1,142 @@
+"""A match that is looked into: all robots after the same cycle, and how to come to another one.
+
+One `crobots-debug` runs as long as the match is looked into. What it has found is kept: an event that comes next after one cycle
+is the next one up to that cycle, and all cycles in which an event happens are found in one pass."""
+
+from __future__ import annotations
+
+import contextlib
+import os
+from bisect import bisect_left, bisect_right
+from dataclasses import dataclass
+from typing import Iterable, Sequence
+
+from stepping.moments import Moment, Row, moment_of
+from stepping.pipes import PROGRAM, Debugger
+from stepping.sessions import BACKWARDS, FORWARDS, LAST_CYCLE
+from tools.programs import found
+
+from .words import DEBUGGER
+
+
+@dataclass(frozen=True)
+class Wanted:
+    """An event of a robot, and what has to hold then."""
+
+    robot: int
+    event: str
+    condition: str = ""
+
+    def asked(self) -> str:
+        """The event as a command has it."""
+        return f"{self.event}; where {self.condition}" if self.condition else self.event
+
+
+@dataclass(frozen=True)
+class Hit:
+    """A cycle in which an event happens, and the values of expressions then."""
+
+    cycle: int
+    values: tuple[str, ...]
+
+
+class Match:
+    """The robots of a match, after a cycle."""
+
+    def __init__(self, options: list[str], files: list[str]) -> None:
+        self.files = files if len(files) > 1 else files * 2
+        self.cycle = 0
+        self._moments: dict[int, tuple[Moment, int]] = {}
+        self._kept: dict[tuple[str, Wanted], tuple[int, int | None]] = {}
+        self._hits: dict[tuple[Wanted, tuple[str, ...]], list[Hit]] = {}
+        with contextlib.ExitStack() as opened:
+            self._debugger = opened.enter_context(Debugger(found(PROGRAM), [*options, "--", *files], DEBUGGER))
+            # a file with a fault is said now
+            self.moment(1)
+            self._opened = opened.pop_all()
+
+    def close(self) -> None:
+        """Ends the program."""
+        self._opened.close()
+
+    def robots(self) -> range:
+        return range(1, len(self.files) + 1)
+
+    def name(self, robot: int) -> str:
+        return os.path.basename(self.files[robot - 1])
+
+    def moment(self, robot: int) -> Moment:
+        """Where a robot is."""
+        return self._at(robot)[0]
+
+    def address(self, robot: int) -> int:
+        """The address of its next instruction."""
+        return self._at(robot)[1]
+
+    def _at(self, robot: int) -> tuple[Moment, int]:
+        if robot not in self._moments:
+            rows = self._rows(robot, f"at {self.cycle}")
+            self._moments[robot] = moment_of(rows), address_of(rows)
+        return self._moments[robot]
+
+    def _rows(self, robot: int, command: str) -> list[Row]:
+        return self._debugger.right(f"robot {robot} {command}")
+
+    def value(self, robot: int, frames: int, expression: str) -> str:
+        """The value of an expression, in the call with which so many frames are open."""
+        return self._rows(robot, f"value {self.cycle} {frames}; {expression}")[0][1]
+
+    def go(self, cycle: int) -> None:
+        """Goes to another cycle: one behind the end is the last one."""
+        self.cycle = max(cycle, 0)
+        self._moments.clear()
+        self.cycle = self.moment(1).cycle
+
+    def check(self, wanted: Wanted) -> None:
+        """Stops if an event or a condition has a wrong word; nothing happens before cycle 0."""
+        self._rows(wanted.robot, f"last 0 {wanted.asked()}")
+
+    def find(self, way: str, events: Iterable[Wanted]) -> dict[Wanted, int]:
+        """The first cycle on a way in which each of these events happens, if it does."""
+        cycles = {wanted: self._find(way, wanted) for wanted in events}
+        return {wanted: cycle for wanted, cycle in cycles.items() if cycle is not None}
+
+    def _find(self, way: str, wanted: Wanted) -> int | None:
+        """The first cycle on a way in which an event happens: asked for only if what was found before doesn't say it."""
+        if (way, wanted) in self._kept:
+            begun, cycle = self._kept[way, wanted]
+            if is_between(self.cycle, begun, cycle, way):
+                return cycle
+        row = self._rows(wanted.robot, f"{way} {self.cycle} {wanted.asked()}")[0]
+        cycle = int(row[1]) if row[0] == "found" else None
+        self._kept[way, wanted] = self.cycle, cycle
+        return cycle
+
+    def hits(self, wanted: Wanted, shown: Sequence[str] = ()) -> list[Hit]:
+        """All cycles of the match in which an event happens, with the values of expressions: found in one pass."""
+        key = wanted, (*shown,)
+        if key not in self._hits:
+            parts = "".join(f"; show {expression}" for expression in shown)
+            rows = self._rows(wanted.robot, f"all 0 {LAST_CYCLE} {wanted.asked()}{parts}")
+            self._hits[key] = [Hit(int(cycle), (*values,)) for kind, *rest in rows if kind == "found" for cycle, *values in [rest]]
+        return self._hits[key]
+
+
+def beside(cycles: Sequence[int], here: int, way: str) -> int | None:
+    """The first of some cycles on a way."""
+    if way == FORWARDS:
+        number = bisect_right(cycles, here)
+        return cycles[number] if number < len(cycles) else None
+    number = bisect_left(cycles, here)
+    return cycles[number - 1] if number else None
+
+
+def is_between(here: int, begun: int, cycle: int | None, way: str) -> bool:
+    """Whether what comes first on a way from one cycle comes first from here, too."""
+    if way == BACKWARDS:
+        return (0 if cycle is None else cycle) < here <= begun or (cycle is None and here <= begun)
+    return begun <= here < (LAST_CYCLE + 1 if cycle is None else cycle)
+
+
+def address_of(rows: list[Row]) -> int:
+    return next((int(row[1]) for row in rows if row[0] == "at"), 0)

@@ -1,0 +1,90 @@
+"""Diagnostics, the fixes that go with them, and new names."""
+
+from __future__ import annotations
+
+import re
+from typing import Any
+
+from .documents import Text
+from .fields import Fields
+from .knowing import Known, Name, Row
+
+ERROR, WARNING = 1, 2
+SOURCE = "crobots"
+PAGES = {"fault": "language.md#diagnostics", "warning": "mistakes.md"}
+Diagnostic = dict[str, Any]
+
+
+class Refusal(Exception):
+    """A name that can't be given: the text says why."""
+
+
+def diagnostic(text: Text, row: Row, pages: str) -> Diagnostic:
+    """A fault or a warning as the protocol has it; its message ends with the hint."""
+    severity = ERROR if row["row"] == "fault" else WARNING
+    lines = [row["message"], *(f"{name}: {row[name]}" for name in ("met", "fits", "hint") if row.get(name))]
+    return {"range": text.range(row["start"], row["end"]), "severity": severity, "code": row["code"], "source": SOURCE,
+            "codeDescription": {"href": f"{pages}/{PAGES[row['row']]}"}, "message": "\n".join(lines)}
+
+
+def actions(text: Text, uri: str, known: Known, first: int, last: int, pages: str) -> list[dict[str, Any]]:
+    """The fixes of faults and warnings that touch what is between two offsets."""
+    return [action(text, uri, row, pages) for row in known.faults if row.get("fix") and row["start"] <= last and first <= row["end"]]
+
+
+def action(text: Text, uri: str, row: Row, pages: str) -> dict[str, Any]:
+    fix = row["fix"]
+    edit = {"range": text.range(fix["start"], fix["end"]), "newText": fix["text"]}
+    return {"title": title(text, fix), "kind": "quickfix", "isPreferred": True, "diagnostics": [diagnostic(text, row, pages)],
+            "edit": {"changes": {uri: [edit]}}}
+
+
+def title(text: Text, fix: Row) -> str:
+    """What a fix does, in words."""
+    gone = re.sub(r"\s+", " ", text.content[fix["start"] : fix["end"]].decode("utf-8", "replace"))
+    if not gone:
+        return f"Write `{fix['text']}` here"
+    return f"Write `{fix['text']}` in place of `{gone}`" if fix["text"] else f"Leave out `{gone}`"
+
+
+def renamed(text: Text, found: list[Name], name: str) -> bytes:
+    """The bytes of a text in which some names are another one."""
+    parts, last = [], 0
+    for it in sorted(found, key=lambda it: it.start):
+        parts += [text.content[last : it.start], name.encode("utf-8", "surrogatepass")]
+        last = it.end
+    return b"".join([*parts, text.content[last:]])
+
+
+def check_name(alone: Known, name: str) -> None:
+    """Refuses a name that is none, by what is known of it as a source of its own."""
+    kinds = [(it.kind, it.end - it.start) for it in alone.tokens]
+    if kinds == [("name", len(name))]:
+        return
+    if len(kinds) == 1 and kinds[0][0] in ("keyword", "type", "reserved"):
+        raise Refusal(f"{name} is a word of the language")
+    faults = [it["message"] for it in alone.faults if it["row"] == "fault"]
+    raise Refusal(f"{name or 'nothing'} is no name{f': {faults[0]}' if kinds and kinds[0][0] == 'fault' and faults else ''}")
+
+
+def check_meaning(before: Known, after: Known, found: list[Name], name: str) -> None:
+    """Refuses a name by which another name would mean something else: it is taken."""
+    if len(before.names) != len(after.names):
+        raise Refusal(f"{name} is taken")
+    keys: dict[object, object] = {}
+    back: dict[object, object] = {}
+    for old, new in zip(before.names, after.names):
+        is_same = keys.setdefault(old.key(), new.key()) == new.key() and back.setdefault(new.key(), old.key()) == old.key()
+        if not is_same or (old.kind, old.role) != (new.kind, new.role):
+            raise Refusal(f"{name} is taken")
+    if [it for it in map(fault_of, after.faults) if it] != [it for it in map(fault_of, before.faults) if it]:
+        raise Refusal(f"{name} can't be the name: there would be another fault")
+
+
+def fault_of(row: Row) -> str:
+    return str(row["code"]) if row["row"] == "fault" else ""
+
+
+def span_of(text: Text, where: Fields) -> tuple[int, int]:
+    """The offsets of a range of a message."""
+    return text.offset(where.fields("start")), text.offset(where.fields("end"))

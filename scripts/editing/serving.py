@@ -1,0 +1,444 @@
+"""The language server: what a client asks for, and what it is told."""
+
+from __future__ import annotations
+
+from dataclasses import dataclass, field
+from typing import Any, Callable
+
+from tools.faults import Fault
+from tools.programs import found, number
+
+from . import colours, completing, mending, telling
+from .documents import UTF_8, UTF_16, Text
+from .fields import Fields, Wrong
+from .knowing import PROGRAM, Knower, Known, known_of
+from .loops import Loop, send
+from .manual import entries, page
+from .plays import COMMANDS, Plays, opponents
+from .words import NAME, pages
+
+PARSE_ERROR, INVALID_REQUEST, NO_METHOD, WRONG_PARAMS = -32700, -32600, -32601, -32602
+NOT_INITIALISED, CANCELLED, FAILED = -32002, -32800, -32803
+ERROR, INFO = 1, 3
+Answer = Any
+Ask = Callable[["Document", Fields], Answer]
+
+
+class Failed(Exception):
+    """A request can't be met: its text says why."""
+
+    def __init__(self, why: str, code: int = FAILED) -> None:
+        super().__init__(why)
+        self.code = code
+
+
+@dataclass
+class Asked:
+    """A request that waits until all of its document's text is known."""
+
+    number: Any
+    ask: Ask
+    params: Fields
+
+
+@dataclass
+class Document:
+    """A document that is open: its text, what is known of it, and what waits for that."""
+
+    uri: str
+    text: Text
+    version: int | None
+    profile: int = 1
+    known: Known | None = None
+    knower: Knower | None = None
+    asked: list[Asked] = field(default_factory=list)
+    # what was published last, and of which text
+    told: list[Any] | None = None
+    warnings: list[Any] = field(default_factory=list)
+
+
+@dataclass
+class Settings:
+    """What the client has set, and can do."""
+
+    profile: int = 1
+    has_hints: bool = False
+    encoding: str = UTF_16
+    has_snippets: bool = False
+    shows_documents: bool = False
+
+    def take(self, given: Any) -> None:
+        """Takes the settings of the client, if there are some."""
+        if isinstance(given, dict):
+            ours = given.get("crobots", given)
+            fields = Fields(ours if isinstance(ours, dict) else {}, "settings")
+            self.profile = 2 if fields.number_or("profile", self.profile) == 2 else 1
+            self.has_hints = fields.truth("inlayHints", self.has_hints)
+
+
+class Server:
+    """A language server for one client."""
+
+    def __init__(self) -> None:
+        self._path = found(PROGRAM)
+        self._manual = entries(page())
+        self._settings = Settings()
+        self._documents: dict[str, Document] = {}
+        self._is_ready = self._is_asked_to_end = False
+        self._said = ""
+        self._loop = Loop(self._take, lambda why: send(failure(None, PARSE_ERROR, why)))
+        self._plays = Plays(self._loop, show)
+
+    def run(self) -> int:
+        """Serves until the client goes; answers the status."""
+        try:
+            self._loop.run()
+        finally:
+            for document in self._documents.values():
+                self._stop(document)
+            self._plays.stop()
+        return 0 if self._is_asked_to_end else 1
+
+    def _take(self, message: Any) -> None:
+        """Takes a message: a request has a number, and is answered, whatever is wrong with it."""
+        if not isinstance(message, dict) or not isinstance(message.get("method", ""), str):
+            send(failure(None, INVALID_REQUEST, "no request and no notification"))
+            return
+        if "method" not in message:
+            # the answer to a request of ours
+            return
+        number_ = message.get("id")
+        try:
+            params = Fields(message.get("params") or {})
+            self._dispatch(message["method"], number_, params)
+        except Wrong as why:
+            self._fail(number_, WRONG_PARAMS, str(why))
+        except Failed as why:
+            self._fail(number_, why.code, str(why))
+
+    def _fail(self, number_: Any, code: int, why: str) -> None:
+        """Says what is wrong with a request; of a notification in a message."""
+        if number_ is not None:
+            send(failure(number_, code, why))
+        elif code != NO_METHOD:
+            say(why)
+
+    def _dispatch(self, method: str, number_: Any, params: Fields) -> None:
+        if method in NOTIFICATIONS:
+            if self._is_ready or method == "exit":
+                NOTIFICATIONS[method](self, params)
+            return
+        if number_ is None:
+            # others may be ignored if they begin so
+            self._fail(None, NO_METHOD if method.startswith("$/") or method in IGNORED else FAILED, f"{method} isn't known")
+            return
+        if method == "initialize":
+            send(success(number_, self._initialize(params)))
+        elif not self._is_ready:
+            raise Failed("initialize comes first", NOT_INITIALISED)
+        elif self._is_asked_to_end:
+            raise Failed("the server is shut down", INVALID_REQUEST)
+        elif method == "shutdown":
+            self._is_asked_to_end = True
+            send(success(number_, None))
+        elif method == "workspace/executeCommand":
+            self._execute(number_, params)
+        elif method in ASKS:
+            self._ask(Asked(number_, ASKS[method](self), params), self._document(params))
+        else:
+            raise Failed(f"{method} isn't known", NO_METHOD)
+
+    def _initialize(self, params: Fields) -> Answer:
+        """What the server can do, and the encoding of positions that it takes of those that the client offers."""
+        can = params.fields_or("capabilities")
+        offered = can.fields_or("general").items("positionEncodings")
+        item = can.fields_or("textDocument").fields_or("completion").fields_or("completionItem")
+        self._settings.encoding = UTF_8 if UTF_8 in offered else UTF_16
+        self._settings.has_snippets = item.truth("snippetSupport")
+        self._settings.shows_documents = can.fields_or("window").fields_or("showDocument").truth("support")
+        self._settings.take(params.value("initializationOptions"))
+        self._is_ready = True
+        return {"capabilities": capabilities(self._settings.encoding), "serverInfo": {"name": NAME, "version": number()}}
+
+    def _document(self, params: Fields) -> Document:
+        uri = params.fields("textDocument").text("uri")
+        if uri not in self._documents:
+            raise Failed(f"{uri} isn't open")
+        return self._documents[uri]
+
+    # Documents.
+
+    def opened(self, params: Fields) -> None:
+        it = params.fields("textDocument")
+        uri = it.text("uri")
+        if uri in self._documents:
+            self._stop(self._documents[uri])
+        text = Text(it.text("text"), self._settings.encoding)
+        self._documents[uri] = Document(uri, text, it.number_or("version", 0), self._settings.profile)
+        self._know(self._documents[uri])
+
+    def changed(self, params: Fields) -> None:
+        document = self._document(params)
+        text = document.text
+        for change in params.all("contentChanges"):
+            text = text.changed(change)
+        document.text = text
+        document.version = params.fields("textDocument").number_or("version", 0)
+        self._know(document)
+
+    def closed(self, params: Fields) -> None:
+        document = self._document(params)
+        self._stop(document)
+        del self._documents[document.uri]
+        for asked in document.asked:
+            send(failure(asked.number, FAILED, f"{document.uri} was closed"))
+        publish(document, [], with_version=False)
+
+    def configured(self, params: Fields) -> None:
+        self._settings.take(params.value("settings"))
+        for document in self._documents.values():
+            document.profile = self._settings.profile
+            self._know(document)
+
+    def cancelled(self, params: Fields) -> None:
+        for document in self._documents.values():
+            for asked in [it for it in document.asked if it.number == params.value("id")]:
+                document.asked.remove(asked)
+                send(failure(asked.number, CANCELLED, "cancelled"))
+
+    def exited(self, _: Fields) -> None:
+        self._loop.is_over = True
+
+    # What is known of them.
+
+    def _know(self, document: Document) -> None:
+        """Begins to find out what is known of a document's text. What was begun before is of no use any more."""
+        self._stop(document)
+        document.known = None
+        try:
+            knower = Knower(self._path, document.text.content, document.profile)
+        except OSError as why:
+            self._lost(document, f"{PROGRAM}: {why.strerror}")
+            return
+        document.knower = knower
+        self._loop.wait_for(knower, lambda: self._read(document, knower))
+
+    def _stop(self, document: Document) -> None:
+        if document.knower:
+            self._loop.forget(document.knower)
+            document.knower.end()
+            document.knower = None
+
+    def _read(self, document: Document, knower: Knower) -> None:
+        """Takes rows: the first fault is published at once, beside the warnings of before, and all when they are complete."""
+        had_fault = knower.known.has_fault()
+        goes_on = knower.read()
+        if knower.known.has_fault() and not had_fault and not knower.known.is_complete:
+            publish(document, [self._diagnostic(document, knower.known.faults[0]), *document.warnings])
+        if goes_on:
+            return
+        self._loop.forget(knower)
+        document.knower = None
+        said = knower.end()
+        if said:
+            self._lost(document, said)
+            return
+        self._said = ""
+        document.known = knower.known
+        document.warnings = [self._diagnostic(document, it) for it in knower.known.faults if it["row"] == "warning"]
+        publish(document, [self._diagnostic(document, it) for it in knower.known.faults])
+        waiting, document.asked = document.asked, []
+        for asked in waiting:
+            self._answer(asked, document)
+
+    def _lost(self, document: Document, said: str) -> None:
+        """Says once that nothing is known, and why; what waits for it fails."""
+        if said != self._said:
+            say(said)
+        self._said = said
+        waiting, document.asked = document.asked, []
+        for asked in waiting:
+            send(failure(asked.number, FAILED, said))
+
+    def _diagnostic(self, document: Document, row: dict[str, Any]) -> Answer:
+        return mending.diagnostic(document.text, row, pages())
+
+    def _ask(self, asked: Asked, document: Document) -> None:
+        """Answers a request, or keeps it until the text is known."""
+        if document.known:
+            self._answer(asked, document)
+        elif document.knower:
+            document.asked.append(asked)
+        else:
+            send(failure(asked.number, FAILED, self._said))
+
+    def _answer(self, asked: Asked, document: Document) -> None:
+        try:
+            answer = asked.ask(document, asked.params)
+        except (Wrong, Failed, mending.Refusal) as why:
+            code = WRONG_PARAMS if isinstance(why, Wrong) else FAILED
+            send(failure(asked.number, code, str(why)))
+        else:
+            send(success(asked.number, answer))
+
+    # What is asked of a document.
+
+    def completion(self, document: Document, params: Fields) -> Answer:
+        text, known, offset = placed(document, params)
+        found_ = completing.items(text, known, offset, self._manual, self._settings.has_snippets)
+        return {"isIncomplete": False, "items": found_}
+
+    def signature(self, document: Document, params: Fields) -> Answer:
+        return completing.signature(*placed(document, params), self._manual)
+
+    def hover(self, document: Document, params: Fields) -> Answer:
+        return telling.hover(*placed(document, params), self._manual)
+
+    def definition(self, document: Document, params: Fields) -> Answer:
+        text, known, offset = placed(document, params)
+        name = known.name_at(offset)
+        declared = name and known.declaration(name)
+        return {"uri": document.uri, "range": text.range(declared.start, declared.end)} if declared else None
+
+    def references(self, document: Document, params: Fields) -> Answer:
+        with_declaration = params.fields_or("context").truth("includeDeclaration", True)
+        return [{"uri": document.uri, "range": it} for it in telling.references(*placed(document, params), with_declaration)]
+
+    def highlights(self, document: Document, params: Fields) -> Answer:
+        return [{"range": it} for it in telling.references(*placed(document, params), True)]
+
+    def symbols(self, document: Document, _: Fields) -> Answer:
+        return telling.symbols(*whole(document))
+
+    def folds(self, document: Document, _: Fields) -> Answer:
+        return telling.folds(*whole(document))
+
+    def colours(self, document: Document, _: Fields) -> Answer:
+        return {"data": colours.tokens(*whole(document))}
+
+    def hints(self, document: Document, params: Fields) -> Answer:
+        text, known = whole(document)
+        return colours.hints(text, known, *mending.span_of(text, params.fields("range"))) if self._settings.has_hints else []
+
+    def actions(self, document: Document, params: Fields) -> Answer:
+        text, known = whole(document)
+        return mending.actions(text, document.uri, known, *mending.span_of(text, params.fields("range")), pages())
+
+    def prepare(self, document: Document, params: Fields) -> Answer:
+        text, known, offset = placed(document, params)
+        name = named(known, offset)
+        return {"range": text.range(name.start, name.end), "placeholder": name.name}
+
+    def rename(self, document: Document, params: Fields) -> Answer:
+        """The edits that rename what is at a position, if all names mean the same with them."""
+        text, known, offset = placed(document, params)
+        old, new = named(known, offset), params.text("newName")
+        uses = known.by_key[old.key()]
+        try:
+            mending.check_name(known_of(self._path, new.encode("utf-8", "surrogatepass"), document.profile), new)
+            after = known_of(self._path, mending.renamed(text, uses, new), document.profile)
+        except OSError as why:
+            raise Failed(str(why)) from why
+        if new != old.name:
+            mending.check_meaning(known, after, uses, new)
+        edits = [{"range": text.range(it.start, it.end), "newText": new} for it in uses]
+        return {"changes": {document.uri: edits}}
+
+    def _execute(self, number_: Any, params: Fields) -> None:
+        """Begins a command, which says what it found when it has it."""
+        command = params.text("command")
+        uris = [it for it in params.items("arguments") if isinstance(it, str)]
+        if command not in COMMANDS:
+            raise Failed(f"{command} isn't known", WRONG_PARAMS)
+        if not uris or uris[0] not in self._documents:
+            raise Failed(f"{command} needs the URI of a document that is open", WRONG_PARAMS)
+        document = self._documents[uris[0]]
+        try:
+            self._plays.begin(command, document.uri, document.text.content, document.profile, opponents(), self._settings.shows_documents)
+        except Fault as why:
+            raise Failed(str(why)) from why
+        send(success(number_, None))
+
+
+def named(known: Known, offset: int) -> Any:
+    """The name at an offset, if it can be another one."""
+    name = known.name_at(offset)
+    if not name:
+        raise mending.Refusal("there is no name here")
+    if name.kind == "intrinsic":
+        raise mending.Refusal(f"{name.name} is an intrinsic function")
+    if (name.kind, name.name) == ("function", "main"):
+        raise mending.Refusal("a robot begins in its function main")
+    return name
+
+
+def whole(document: Document) -> tuple[Text, Known]:
+    assert document.known
+    return document.text, document.known
+
+
+def placed(document: Document, params: Fields) -> tuple[Text, Known, int]:
+    """A document's text, what is known of it, and the offset of the position that a message names."""
+    text, known = whole(document)
+    return text, known, text.offset(params.fields("position"))
+
+
+def capabilities(encoding: str) -> Answer:
+    return {
+        "positionEncoding": encoding,
+        "textDocumentSync": {"openClose": True, "change": 2},
+        "completionProvider": {"triggerCharacters": []},
+        "signatureHelpProvider": {"triggerCharacters": ["(", ","]},
+        "hoverProvider": True, "definitionProvider": True, "referencesProvider": True, "documentHighlightProvider": True,
+        "documentSymbolProvider": True, "foldingRangeProvider": True, "inlayHintProvider": True,
+        "codeActionProvider": {"codeActionKinds": ["quickfix"]},
+        "renameProvider": {"prepareProvider": True},
+        "semanticTokensProvider": {"legend": {"tokenTypes": colours.TYPES, "tokenModifiers": colours.MODIFIERS}, "full": True},
+        "executeCommandProvider": {"commands": [*COMMANDS]},
+    }
+
+
+def success(number_: Any, result: Answer) -> Answer:
+    return {"jsonrpc": "2.0", "id": number_, "result": result}
+
+
+def failure(number_: Any, code: int, why: str) -> Answer:
+    return {"jsonrpc": "2.0", "id": number_, "error": {"code": code, "message": why}}
+
+
+def notify(method: str, params: Answer) -> None:
+    send({"jsonrpc": "2.0", "method": method, "params": params})
+
+
+def say(what: str) -> None:
+    """Shows the user that something is wrong."""
+    notify("window/showMessage", {"type": ERROR, "message": f"{NAME}: {what}"})
+
+
+def show(what: str, uri: str | None = None) -> None:
+    """Shows the user what a command found: a text, or a document in a program of its own."""
+    if uri:
+        send({"jsonrpc": "2.0", "id": f"show {uri}", "method": "window/showDocument", "params": {"uri": uri, "external": True}})
+    notify("window/showMessage", {"type": INFO, "message": what})
+
+
+def publish(document: Document, diagnostics: list[Answer], with_version: bool = True) -> None:
+    """Publishes what is wrong with a document."""
+    version = {"version": document.version} if with_version else {}
+    notify("textDocument/publishDiagnostics", {"uri": document.uri, "diagnostics": diagnostics} | version)
+
+
+NOTIFICATIONS: dict[str, Callable[[Server, Fields], None]] = {
+    "textDocument/didOpen": Server.opened, "textDocument/didChange": Server.changed, "textDocument/didClose": Server.closed,
+    "workspace/didChangeConfiguration": Server.configured, "$/cancelRequest": Server.cancelled, "exit": Server.exited,
+}
+IGNORED = {"initialized", "textDocument/didSave", "textDocument/willSave", "workspace/didChangeWatchedFiles"}
+ASKS: dict[str, Callable[[Server], Ask]] = {
+    "textDocument/completion": lambda it: it.completion, "textDocument/signatureHelp": lambda it: it.signature,
+    "textDocument/hover": lambda it: it.hover, "textDocument/definition": lambda it: it.definition,
+    "textDocument/references": lambda it: it.references, "textDocument/documentHighlight": lambda it: it.highlights,
+    "textDocument/documentSymbol": lambda it: it.symbols, "textDocument/foldingRange": lambda it: it.folds,
+    "textDocument/semanticTokens/full": lambda it: it.colours, "textDocument/inlayHint": lambda it: it.hints,
+    "textDocument/codeAction": lambda it: it.actions, "textDocument/prepareRename": lambda it: it.prepare,
+    "textDocument/rename": lambda it: it.rename,
+}

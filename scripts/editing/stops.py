@@ -1,0 +1,69 @@
+"""What stops a match: breakpoints with conditions and counts, and log points."""
+
+from __future__ import annotations
+
+import re
+from dataclasses import dataclass, field
+
+from .matches import Hit, Wanted
+
+COUNT = re.compile(r"(==|>=|<=|>|<|%|) *(\d{1,9})")
+HOLE = re.compile(r"\{([^{}]*)\}")
+
+
+class NoCount(Exception):
+    """A hit condition that is none."""
+
+
+@dataclass
+class Stop:
+    """A breakpoint: the event that it is, of which robots, and what it asks for. What is wrong with an expression of a message
+    stands in that, and the other ones are told."""
+
+    number: int
+    event: str
+    robots: tuple[int, ...]
+    reason: str
+    condition: str = ""
+    count: str = ""
+    message: str = ""
+    wrong: dict[str, str] = field(default_factory=dict)
+
+    def check(self) -> None:
+        """Stops if the count is none."""
+        if self.count and not COUNT.fullmatch(self.count):
+            raise NoCount(f"{self.count}: not as 3, >= 3 or % 3")
+
+    def wanted(self, robot: int) -> Wanted:
+        return Wanted(robot, self.event, self.condition)
+
+    def holes(self) -> list[str]:
+        """The expressions of the message."""
+        return [on_one_line(it) for it in HOLE.findall(self.message)]
+
+    def shown(self) -> list[str]:
+        """Those that have values."""
+        return [it for it in self.holes() if it not in self.wrong]
+
+    def counted(self, hits: list[Hit]) -> list[Hit]:
+        """Those of all hits in a match that count."""
+        return [hit for number, hit in enumerate(hits, 1) if self._is_counted(number)]
+
+    def _is_counted(self, number: int) -> bool:
+        found = COUNT.fullmatch(self.count)
+        if not found:
+            return True
+        operator, wanted = found[1], int(found[2])
+        answers = {"": number == wanted, "==": number == wanted, ">=": number >= wanted, "<=": number <= wanted, ">": number > wanted,
+                   "<": number < wanted, "%": bool(wanted) and number % wanted == 0}
+        return answers[operator]
+
+    def told(self, hit: Hit) -> str:
+        """What a log point says: expressions in curly brackets by their values."""
+        values = iter(hit.values)
+        return HOLE.sub(lambda it: f"{{{self.wrong[on_one_line(it[1])]}}}" if on_one_line(it[1]) in self.wrong else next(values), self.message)
+
+
+def on_one_line(text: str) -> str:
+    """An expression as a command takes it: blanks for all spaces."""
+    return " ".join(text.split())

@@ -1,0 +1,132 @@
+"""What is told of a place: a description, where it is declared, and where else it is used."""
+
+from __future__ import annotations
+
+from typing import Any
+
+from .completing import parameters_of
+from .documents import Range, Text
+from .knowing import Known, Name, Row
+from .manual import Entry
+
+Answer = dict[str, Any]
+READ, WRITTEN = 2, 3
+SYMBOL_FUNCTION, SYMBOL_VARIABLE = 12, 13
+
+
+def hover(text: Text, known: Known, offset: int, manual: dict[str, Entry]) -> Answer | None:
+    """The description of what is at an offset."""
+    name = known.name_at(offset)
+    if name:
+        told = of_name(text, known, name, manual)
+        return {"contents": {"kind": "markdown", "value": told}, "range": text.range(name.start, name.end)}
+    token = known.token_at(offset)
+    cycles = token and cycles_at(text, known, "turn", token.start)
+    if not token or not cycles:
+        return None
+    return {"contents": {"kind": "markdown", "value": f"A turn takes {cycles}."}, "range": text.range(token.start, token.end)}
+
+
+def of_name(text: Text, known: Known, name: Name, manual: dict[str, Entry]) -> str:
+    if name.kind == "intrinsic" and name.name in manual:
+        entry = manual[name.name]
+        return f"`{entry.head()}`\n\n{entry.text}"
+    if name.kind in ("function", "intrinsic"):
+        return of_function(text, known, name, manual)
+    declared = known.declaration(name)
+    line = text.position(declared.start)["line"] + 1 if declared else 0
+    whose = "an external" if name.kind == "external" else f"a variable of `{function_of(known, name)}`"
+    how = "declared" if declared and declared.role != "mentioned" else "not declared, first named"
+    return f"`{name.name}`: {whose}, {how} on line {line}"
+
+
+def of_function(text: Text, known: Known, name: Name, manual: dict[str, Entry]) -> str:
+    function = known.function_named(name.name)
+    if not function:
+        return f"`{name.name}`: no function of this name is defined"
+    head = f"`{name.name}({', '.join(parameters_of(known, name.name, manual) or [])})`"
+    count = len(known.locals(function))
+    told = [f"defined on line {text.position(function['start'])['line'] + 1}", f"{count} variable{'' if count == 1 else 's'}"]
+    if cycles := cycles_at(text, known, "call", function["start"]):
+        told.append(f"a call takes {cycles}")
+    if name.name == "main" and known.room:
+        told.append(f"the robot needs {known.room['message']}")
+    return f"{head}\n\n" + "; ".join(told)
+
+
+def function_of(known: Known, name: Name) -> str:
+    return next((it["name"] for it in known.functions if it["function"] == name.function), "?")
+
+
+def cycles_at(text: Text, known: Known, what: str, offset: int) -> str:
+    """The cycles of the call or the turn that begins at an offset, in words; nothing if they aren't known."""
+    row = next((it for it in known.cycles if it["of"] == what and offset_of(text, it) == offset), None)
+    return span(row) if row and row["least"] is not None else ""
+
+
+def offset_of(text: Text, row: Row) -> int:
+    """The offset of a line and a column as the programs count them: lines end in LF alone, columns are bytes."""
+    line, column = int(row["line"]), int(row["column"])
+    return text.line_feeds[line - 1] + column - 1
+
+
+def span(row: Row) -> str:
+    if row["most"] is None:
+        return f"at least {row['least']} cycles"
+    return f"{row['least']} cycles" if row["least"] == row["most"] else f"{row['least']} to {row['most']} cycles"
+
+
+def uses(known: Known, offset: int) -> list[Name]:
+    """All names that name the same as the one at an offset."""
+    name = known.name_at(offset)
+    return known.by_key[name.key()] if name else []
+
+
+def references(text: Text, known: Known, offset: int, with_declaration: bool) -> list[Range]:
+    found = uses(known, offset)
+    declared = known.declaration(found[0]) if found else None
+    return [text.range(it.start, it.end) for it in found if with_declaration or it != declared]
+
+
+def symbols(text: Text, known: Known) -> list[Answer]:
+    """The functions and the externals of a document, in their order."""
+    found = [symbol(text, it["name"], SYMBOL_FUNCTION, (it["start"], it["close"]), (it["start"], it["end"])) for it in known.functions]
+    found += [symbol(text, it.name, SYMBOL_VARIABLE, (it.start, it.end), (it.start, it.end))
+              for it in known.names if (it.kind, it.role) == ("external", "declared")]
+    return sorted(found, key=lambda it: (it["range"]["start"]["line"], it["range"]["start"]["character"]))
+
+
+def symbol(text: Text, name: str, kind: int, whole: tuple[int, int], own: tuple[int, int]) -> Answer:
+    return {"name": name, "kind": kind, "range": text.range(*whole), "selectionRange": text.range(*own)}
+
+
+def folds(text: Text, known: Known) -> list[Answer]:
+    """The blocks and the comments of several lines."""
+    found: list[tuple[int, int, str | None]] = []
+    opened: list[int] = []
+    for token in known.tokens:
+        mark = text.content[token.start : token.end]
+        if mark == b"{":
+            opened.append(token.start)
+        elif mark == b"}" and opened:
+            found.append((opened.pop(), token.start, None))
+    found += [(start, end, "comment") for start, end in comments(text, known)]
+    lines = ((text.position(start)["line"], text.position(end)["line"], kind) for start, end, kind in found)
+    return [{"startLine": first, "endLine": last} | ({"kind": kind} if kind else {}) for first, last, kind in sorted(lines, key=lambda it: it[:2])
+            if first < last]
+
+
+def comments(text: Text, known: Known) -> list[tuple[int, int]]:
+    """Where comments begin and end: in what is between tokens."""
+    found = []
+    ends = [0, *(it.end for it in known.tokens)]
+    starts = [*(it.start for it in known.tokens), len(text.content)]
+    for end, start in zip(ends, starts):
+        between = text.content[end:start]
+        at = between.find(b"/*")
+        while at >= 0:
+            close = between.find(b"*/", at + 2)
+            last = close + 1 if close >= 0 else len(between)
+            found.append((end + at, end + last))
+            at = between.find(b"/*", last) if close >= 0 else -1
+    return found

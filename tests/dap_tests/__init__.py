@@ -1,0 +1,1 @@
+"""What `tests/dap` is made of: a client of the debug adapter, and random matches."""

@@ -1,0 +1,1 @@
+"""What `tests/lsp` is made of: a client of the language server, and sources with edits."""
