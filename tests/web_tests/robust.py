@@ -24,7 +24,7 @@ MOST_BYTES, MOST_PACKED = 850_000, 263_000
 MOST_READ, MOST_READ_PACKED = 200_000, 70_000
 # pages to read that lie beside the page, and not in the folder of the others
 BESIDE = ("manual.html", "about.html")
-LOST = ("codemirror/codemirror.js", "codemirror/matchbrackets.js", "codemirror/show-hint.js", "codemirror/show-hint.css")
+LOST = ("codemirror/codemirror.js", "codemirror/codemirror.css")
 
 
 def plain(page: Page, folder: str) -> list[str]:
