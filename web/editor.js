@@ -5,8 +5,6 @@ import {defineLanguage} from "./language.js";
 
 const LONG_LINE = 5000;
 const MOST_LINES = 50000;
-const ADDONS = ["matchbrackets.js", "closebrackets.js", "active-line.js", "show-hint.js"];
-const STYLES = ["codemirror.css", "show-hint.css"];
 
 /** Loads a part of the page; answers when it is there, and fails if it isn't. */
 function load(tag, place, values) {
@@ -16,9 +14,9 @@ function load(tag, place, values) {
     });
 }
 
-const script = name => load("script", "append", {src: `codemirror/${name}`});
+const script = () => load("script", "append", {src: "codemirror/codemirror.js"});
 // before the page's own style, which says more
-const style = name => load("link", "prepend", {rel: "stylesheet", href: `codemirror/${name}`});
+const style = () => load("link", "prepend", {rel: "stylesheet", href: "codemirror/codemirror.css"});
 
 /** The text field, in which nothing could be written before. */
 const freed = field => Object.assign(field, {readOnly: false, value: ""});
@@ -29,8 +27,7 @@ export async function makeEditor(field, hasCodeMirror) {
         return new PlainEditor(freed(field));
     }
     try {
-        await Promise.all([script("codemirror.js"), ...STYLES.map(style)]);
-        await Promise.all(ADDONS.map(script));
+        await Promise.all([script(), style()]);
         defineLanguage(window.CodeMirror);
         return new ColouredEditor(freed(field));
     } catch {

@@ -99,6 +99,11 @@ export class Playing {
 
     /** Begins: the engine answers, the tab's last report is there again, and a match plays: that of a moment, or the first one. */
     async begin(moment, isFirst) {
+        if (moment || isFirst) {
+            // the film's frame is loaded while the engine starts
+            this.places.go("watch");
+            this.screen.prepare();
+        }
         try {
             await this.runner.call("ready");
         } catch (fault) {

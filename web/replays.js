@@ -77,9 +77,9 @@ export class Screen {
         throw new Error(LOST);
     }
 
-    /** Loads the page that plays, for the next film. */
+    /** Loads the page that plays, for the next film, if it isn't loaded for that already. */
     prepare() {
-        this.prepared = this.load();
+        this.prepared ??= this.load();
         this.prepared.catch(() => {
             // who shows a film is told
         });

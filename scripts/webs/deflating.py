@@ -141,12 +141,19 @@ class Block:
         return sum(value if distance else 1 for value, distance in self.symbols)
 
     def code(self) -> Code:
-        """What its symbols take by codes of their own; what it hasn't would take some more than all that it has."""
-        return Code(*([float(length or 1 + max(found)) for length in found] for found in self.code_lengths()))
+        """What its symbols take by the best codes."""
+        return Code(bits_of_each(self.counts + Counter((END,)), 286), bits_of_each(self.distances, 30))
 
     def code_lengths(self) -> tuple[list[int], list[int]]:
         """The lengths of its codes."""
         return code_lengths({**self.counts, END: 1}, 286, LONGEST_CODE), code_lengths(self.distances, 30, LONGEST_CODE)
+
+
+def bits_of_each(counts: Counter[int], size: int) -> list[float]:
+    """How many bits each symbol takes by the best codes, if a code may have any part of a bit. One that isn't there would take more than
+    all that are."""
+    whole = max(counts.total(), 1)
+    return [math.log2(whole / counts[it]) if counts[it] else math.log2(whole) + 1 for it in range(size)]
 
 
 def bits_of(counts: Counter[int]) -> float:

@@ -31,8 +31,9 @@ WEB = os.path.join(TOP, "web")
 MANUALS = ("crobots-robots.6", "crobots.6")
 LICENCES = ("LICENSE", "LICENCE", "COPYING")
 EDITOR = "/usr/share/javascript/codemirror"
-EDITOR_FILES = ("lib/codemirror.js", "lib/codemirror.css", "addon/edit/matchbrackets.js", "addon/edit/closebrackets.js",
-                "addon/selection/active-line.js", "addon/hint/show-hint.js", "addon/hint/show-hint.css")
+EDITOR_SCRIPTS = ("lib/codemirror.js", "addon/edit/matchbrackets.js", "addon/edit/closebrackets.js", "addon/selection/active-line.js",
+                  "addon/hint/show-hint.js")
+EDITOR_STYLES = ("lib/codemirror.css", "addon/hint/show-hint.css")
 # A folder or a zip is a page if it has this file.
 KNOWN_BY = "data.js"
 # The page runs its own scripts, the module and the player's script, and no other; it asks the network for nothing.
@@ -107,15 +108,30 @@ def policy() -> str:
 
 
 def slim(text: str) -> str:
-    """A script of the editor without its comments and needless blanks, and with short names, as far as that is clear; the notice of
-    its licence stays."""
+    """A script of the editor without its comments and needless blanks, and with short names, as far as that is clear."""
     try:
         made = short(text)
     except Unclear:
         return text
     with contextlib.suppress(Unclear):
         made = renamed(made)
-    return text.split("\n\n")[0] + "\n" + made
+    return made
+
+
+def notice(text: str) -> str:
+    """The notice of its licence, with which a script of the editor begins."""
+    return text.split("\n\n")[0]
+
+
+def editor_script() -> str:
+    """The editor's scripts as one, which begins with the notices of their licences. What one ends with never goes on in the next."""
+    texts = [text_of(EDITOR, name) for name in EDITOR_SCRIPTS]
+    return "\n".join((*dict.fromkeys(map(notice, texts)), ";".join(slim(text).strip().removesuffix(";") + "\n" for text in texts)))
+
+
+def editor_style() -> str:
+    """The editor's styles as one."""
+    return "".join(short_style(text_of(EDITOR, name)) for name in EDITOR_STYLES)
 
 
 def version() -> str:
@@ -146,10 +162,11 @@ def put(folder: str, name: str, text: str) -> None:
 
 
 def lay_editor(folder: str) -> None:
-    """Puts the editor's files into a folder, if it is installed."""
+    """Puts the editor into a folder, if it is installed."""
     os.makedirs(folder)
-    for name in EDITOR_FILES if os.path.isdir(EDITOR) else ():
-        put(folder, os.path.basename(name), (slim if name.endswith(".js") else short_style)(text_of(EDITOR, name)))
+    if os.path.isdir(EDITOR):
+        put(folder, "codemirror.js", editor_script())
+        put(folder, "codemirror.css", editor_style())
 
 
 def lay(folder: str, module: str) -> None:

@@ -1,5 +1,5 @@
-"""Makes scripts and styles short: without comments, and without the blanks and line ends that nothing needs. `renaming` makes names
-short. All else stays."""
+"""Makes scripts and styles short: without comments, and without the blanks, line ends and semicolons that nothing needs. `renaming`
+makes names short. All else stays."""
 
 from __future__ import annotations
 
@@ -15,6 +15,8 @@ BEFORE_EXPRESSION = frozenset("return typeof case in of delete void throw new el
 AFTER_VALUE = frozenset((")", "]", "}", "++", "--"))
 # After these signs, and before those, a line end ends no statement.
 OPENING, CLOSING = frozenset("{;,(["), frozenset("})]")
+# After these a semicolon may be a statement by itself; after the bracket of such a word, too.
+BEFORE_NOTHING, HEADED = frozenset("{ } ; : else do".split()), frozenset("for await while if with".split())
 
 
 class Unclear(Exception):
@@ -85,15 +87,34 @@ def is_needed(before: tuple[str, str], after: tuple[str, str]) -> bool:
     return f"{before[1][-1]}{after[1][0]}" in ("++", "--", "//", "/*", "<!")
 
 
+def begin(made: list[tuple[str, str]]) -> int:
+    """Where the bracket is opened that the last piece closes."""
+    depth = 0
+    for at in range(len(made) - 1, -1, -1):
+        kind, text = made[at]
+        depth += {")": 1, "(": -1}.get(text, 0) if kind == "sign" else 0
+        if not depth:
+            return at
+    raise Unclear("a bracket that nothing opens")
+
+
+def may_end_without(made: list[tuple[str, str]]) -> bool:
+    """Whether the last piece is a semicolon that a closing brace behind it makes needless: it ends a statement, and isn't one."""
+    if made[-1] != ("sign", ";"):
+        return False
+    before = made[-2][1]
+    return before not in BEFORE_NOTHING and (before != ")" or made[begin(made[:-1]) - 1][1] not in HEADED)
+
+
 def short(script: str) -> str:
-    """The script without comments and needless blanks."""
+    """The script without comments, needless blanks, and semicolons before a closing brace."""
     made: list[tuple[str, str]] = [("end", "\n")]
     is_parted = False
     for piece in pieces(script):
         if piece[0] == "blank":
             is_parted = True
             continue
-        if piece[1] in CLOSING and made[-1][0] == "end":
+        if piece[1] in CLOSING and made[-1][0] == "end" or piece == ("sign", "}") and may_end_without(made):
             made.pop()
         if is_parted and "end" not in (made[-1][0], piece[0]) and is_needed(made[-1], piece):
             made.append(("blank", " "))

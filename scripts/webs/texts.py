@@ -13,7 +13,7 @@ from .markdown import Leading, written
 PAGES = {
     "robots/README.md": "robots", "docs/exercises.md": "exercises", "docs/mistakes.md": "mistakes", "docs/why.md": "why",
     "docs/language.md": "language", "docs/field.md": "field", "docs/matches.md": "matches", "docs/machine.md": "machine",
-    "docs/numbers.md": "numbers", "docs/stages.md": "stages", "docs/web.md": "web", "docs/web-engine.md": "engine",
+    "docs/numbers.md": "numbers", "docs/stages.md": "stages", "docs/web.md": "web", "docs/web-parts.md": "parts", "docs/web-engine.md": "engine",
 }
 MANUALS = ("man/crobots.6", "man/crobots-robots.6")
 

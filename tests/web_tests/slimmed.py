@@ -19,7 +19,7 @@ from harness import skip  # noqa: E402
 from packages import lacking  # noqa: E402
 from replays.modules import script_of, waiting_script  # noqa: E402
 from webs.deflating import DISTANCES, LENGTHS, deflated, distance_class  # noqa: E402
-from webs.laying import EDITOR, EDITOR_FILES, scripts, slim, small  # noqa: E402
+from webs.laying import EDITOR, EDITOR_SCRIPTS, editor_script, scripts, small  # noqa: E402
 from webs.renaming import renamed  # noqa: E402
 from webs.slimming import Unclear, short, short_style  # noqa: E402
 from webs.zipping import zipped  # noqa: E402
@@ -31,6 +31,9 @@ CASES = {
     "words": ("return a in b ;", "return a in b;"),
     "lines": ("a\n\n  b\n", "a\nb\n"),
     "lines that end nothing": ("f(\n  a,\n  b\n) {\n  c;\n  [\n1\n]\n}\n", "f(a,b){c;[1]}\n"),
+    "semicolons that end a block's last statement": ("{ a; }\n{ f((b)); }\n{ c = ';' ; }\n{ do d(); while (e)\nf(); }", "{a}\n{f((b))}\n{c=';'}\n{do d();while(e)\nf()}"),
+    "semicolons that are statements": ("{ for (;(a);) ; } { while (b(c)); } { if (d) e; else ; } { ; } { f: ; } { if (g) ; }",
+                                       "{for(;(a););}{while(b(c));}{if(d)e;else;}{;}{f:;}{if(g);}"),
     "lines that end something": ("a\n(b)\n+c\n++\nd\n{}", "a\n(b)\n+c\n++\nd\n{}"),
     "comments": ("a; // one\nb; /* two */ c;\n/* three\n */ d\n// four", "a;b;c;d\n"),
     "a comment between words": ("typeof/* x */a; b /* x\n*/ c", "typeof a;b\nc"),
@@ -132,21 +135,32 @@ def differing(pairs: list[tuple[str, str]]) -> list[str]:
     return ran.stdout.splitlines()
 
 
+def editors() -> list[tuple[str, str]]:
+    """The scripts of the editor, one after the other, and the page's script of them, if they are installed."""
+    texts = [text_of(EDITOR, name).strip().removesuffix(";") for name in EDITOR_SCRIPTS if os.path.isdir(EDITOR)]
+    return [(";\n".join(texts), editor_script())] if texts else []
+
+
 def wrong_scripts() -> list[str]:
     """What is wrong with the scripts of the page and of the editor: each name has to mean what it meant."""
     if why := lacking([NODE, TYPES]):
         skip("what names mean in scripts that are made short", why)
         return []
-    editor = [text_of(EDITOR, name) for name in EDITOR_FILES if name.endswith(".js") and os.path.isdir(EDITOR)]
-    pairs = [*((script, small(script)) for script in scripts().values()), *((script, slim(script)) for script in editor)]
+    pairs = [*((script, small(script)) for script in scripts().values()), *editors()]
     found = differing([*pairs, *NAMES.values(), SLIP])
     return [*filter(None, found[:-1]), *([] if found[-1] else ["a slip isn't seen"])]
 
 
+def wrong_notices() -> list[str]:
+    """What is wrong if the editor's script doesn't begin with the notice of its licence, or has it twice."""
+    begins = "// CodeMirror, copyright (c) by Marijn Haverbeke and others\n// Distributed under an MIT license: https://codemirror.net"
+    return [script[:200] for _, script in editors() if not script.startswith(begins) or script.count("Marijn Haverbeke") != 1]
+
+
 def wrong_names() -> list[str]:
-    """What is wrong with names."""
+    """What is wrong with names, and with what is put together of scripts that get them."""
     cases = [f"{name}: {renamed(before)!r}, not {after!r}" for name, (before, after) in NAMES.items() if renamed(before) != after]
-    return cases + [f"{script!r} gets names" for script in UNKNOWN if not refuses(script, renamed)] + wrong_scripts()
+    return cases + [f"{script!r} gets names" for script in UNKNOWN if not refuses(script, renamed)] + wrong_scripts() + wrong_notices()
 
 
 def wrong() -> list[str]:
