@@ -54,8 +54,8 @@ use std::alloc::{AllocError, Global};
 use std::process::ExitCode;
 use tokens::{MemoryFeed, WINDOW_BYTES};
 use tools::{
-    Draft, Fault, OUTPUT_OPTIONS, Options, PROFILE_OPTIONS, Plain, ProgramFrame, Work, name_of, source_of,
-    tell_diagnostic, write_to,
+    Draft, Fault, OUTPUT_OPTIONS, Options, PROFILE_OPTIONS, Plain, ProgramFrame, Work, name_of,
+    source_of, tell_diagnostic, write_to,
 };
 
 /// The program's name, its line of wrong usage, and its options.
