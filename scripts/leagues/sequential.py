@@ -67,11 +67,11 @@ def sides(it: Score) -> float:
 
 def against(it: Score, mean: float) -> float:
     """The logarithm of how much more likely the matches are than by this mean, by the average over all chances."""
-    nodes = NODES + 2 * math.isqrt(it.played)
+    nodes, decided, even = NODES + 2 * math.isqrt(it.played), (it.won, it.yielded), it.even
     logs = []
     for node in range(nodes):
         won, lost = (node + 0.5) / nodes / mean, (nodes - node - 0.5) / nodes / (1 - mean)
-        logs.append(it.won * math.log(won) + it.yielded * math.log(lost) + it.even * math.log((won + lost) / 2))
+        logs.append(decided[0] * math.log(won) + decided[1] * math.log(lost) + even * math.log((won + lost) / 2))
     most = max(logs)
     return most + math.log(sum(math.exp(one - most) for one in logs) / nodes)
 

@@ -7,7 +7,7 @@ from collections import Counter, defaultdict
 from typing import Callable, Iterable, Sequence, TypeVar
 
 from .battles import Group
-from .scores import NONE, Score, between, counted
+from .scores import Score, between, counted
 
 # How matches ended: a letter w, t or l for the robot of each seat.
 Ended = str
@@ -36,15 +36,14 @@ class Tally:
 
     def pairs(self) -> dict[Group, Score]:
         """What the first robot of each pair, which has the lower number, did in all matches in which both were."""
-        found: dict[Group, Score] = {}
+        found: defaultdict[Group, dict[tuple[bool, bool], int]] = defaultdict(dict)
         for seats, endings in self.seatings.items():
             for one, other in itertools.combinations(sorted(range(len(seats)), key=seats.__getitem__), 2):
-                died = Counter[tuple[bool, bool]]()
+                of_pair = found[seats[one], seats[other]]
                 for ended, matches in endings.items():
-                    died[ended[one] == "l", ended[other] == "l"] += matches
-                pair = seats[one], seats[other]
-                found[pair] = found.get(pair, NONE).plus(between(died))
-        return found
+                    died = ended[one] == "l", ended[other] == "l"
+                    of_pair[died] = of_pair.get(died, 0) + matches
+        return {pair: between(died) for pair, died in found.items()}
 
     def faced(self) -> dict[Group, Score]:
         """What each robot did against each other one that it met."""
