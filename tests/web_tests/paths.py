@@ -241,7 +241,7 @@ def look_why(reader: Reader) -> None:
 def share_the_moment(reader: Reader) -> None:
     """A link to the moment is made; a page that is a file offers none."""
     reader.press(by_id("link-moment"))
-    is_done = "document.getElementById('told').textContent.startsWith('This page is a file')" if reader.way.is_file else "/&match=1&cycle=\\d+&robot=1$/.test(location.hash)"
+    is_done = "document.getElementById('told').textContent.startsWith('This page is a file')" if reader.way.is_file else "/&match=1&cycle=\\d+(&robot=\\d)?$/.test(location.hash)"
     reader.page.wait(f"return {is_done}")
 
 

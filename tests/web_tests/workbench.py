@@ -13,6 +13,8 @@ from typing import Callable, Iterator
 HERE = os.path.dirname(os.path.abspath(__file__))
 DEBIAN = "/usr/lib/python3/dist-packages"
 sys.path += [os.path.join(HERE, "..", "..", "scripts"), DEBIAN]
+import packages  # noqa: E402
+from harness import skip  # noqa: E402
 from ladder_tests.base import BAD, IDLE, SHOOTER, Base, Ladder, installed  # noqa: E402
 from ladder_tests.windows import BROWSERS, Driver, Window  # noqa: E402
 
@@ -30,8 +32,7 @@ WRITE = """(() => {
 
 def lacking(_folder: str) -> str:
     """What is lacking for these tests."""
-    missing = [name for name in ("flask", "waitress") if not os.path.exists(os.path.join(DEBIAN, name))]
-    return f"there is no {' and no '.join(missing)}" if missing else ""
+    return packages.lacking([f"{DEBIAN}/flask", f"{DEBIAN}/waitress"])
 
 
 def results(crobots: str, _stages: str, folder: str) -> Iterator[tuple[str, list[str]]]:
@@ -41,7 +42,7 @@ def results(crobots: str, _stages: str, folder: str) -> Iterator[tuple[str, list
             if find():
                 yield f"by {package}", [*ways(crobots, folder, os.path.join(place, package), begin)]
             else:
-                print(f"skipped: the workbench in {package}: there is no {package} (Debian: {package})")
+                skip(f"the workbench in {package}", packages.lacking([package]))
 
 
 class League(Base):
