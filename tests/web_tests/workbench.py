@@ -19,14 +19,16 @@ from ladder_tests.base import BAD, IDLE, SHOOTER, Base, Ladder, installed  # noq
 from ladder_tests.windows import BROWSERS, Driver, Window  # noqa: E402
 
 SIZES = ((360, 740), (1366, 768))
-# Gives the robot in work a name and a source, as whoever writes them does.
+# Gives the robot in work a name and a source, one after the other as whoever writes them does.
 WRITE = """(() => {
-    const name = document.getElementById('name'), {CodeMirror} = document.querySelector('.CodeMirror') ?? {};
-    const source = document.getElementById('source');
-    name.value = %s;
-    if (CodeMirror) CodeMirror.setValue(%s); else source.value = %s;
-    for (const field of CodeMirror ? [name] : [name, source])
+    const {CodeMirror} = document.querySelector('.CodeMirror') ?? {};
+    const write = (id, text) => {
+        const field = document.getElementById(id);
+        field.value = text;
         for (const kind of ['input', 'change']) field.dispatchEvent(new Event(kind, {bubbles: true}));
+    };
+    write('name', %s);
+    if (CodeMirror) CodeMirror.setValue(%s); else write('source', %s);
 })()"""
 
 
@@ -76,10 +78,14 @@ def way(it: Window, name: str) -> Iterator[str]:
     it.at("/mine")
     it.follow("nav a[href=\"/workbench/\"]")
     it.at("/workbench/")
-    it.until("!document.getElementById('main').hidden && !document.getElementById('run').disabled && document.getElementById('send')")
+    # the editor comes last
+    it.until("document.getElementById('source')?.readOnly === false && document.getElementById('send')")
     write(it, name, IDLE)
     it.driver.value("document.getElementById('run').click()")
     it.until(f"/^Totals: .*\\n.*{name}/m.test(document.getElementById('report').textContent)")
+    if not it.driver.value("document.getElementById('workbench').offsetWidth"):
+        # a narrow window shows the report in place of the editor
+        it.follow("#to-write")
     for source, wanted, is_good in ((BAD, f"{name}.r:2: reserved word", False), (IDLE, f"taken: {name}, version 1", True)):
         write(it, name, source)
         it.follow("#send")
