@@ -1,9 +1,8 @@
 """What a class does with the page: the ways of those who meet it for the first time, by mouse, by keys and by touch.
 
-The sample is changed and broken, the advice is read, the fault is mended. The robot is watched at the moment it is hit, and from
-inside; that moment is sent. What is written then gives way to the version that was run. A better robot wins. It is saved, a link is
-made, a friend's link is opened, and the next day one's own robots are there. `WAYS` has who goes how. Each browser walks three of
-them; with CROBOTS_PATHS=all all thirteen."""
+The sample is changed and broken, the advice is read, the fault is mended. The robot is watched at the moment it is hit. A
+better one wins. It is saved, a link is made, a friend's link is opened, and the next day one's own robots are there. `WAYS`
+has who goes how. Each browser walks three of them; with CROBOTS_PATHS=all all ten, which are thirty in the three browsers."""
 
 from __future__ import annotations
 
@@ -16,7 +15,7 @@ from typing import Any, Callable, Iterator
 from .battles import Battle
 from .pages import Page, fragment
 
-LAPTOP, PHONE, SCREEN, LOW = (1366, 651), (360, 640), (1920, 1000), (740, 360)
+LAPTOP, PHONE, SCREEN = (1366, 651), (360, 640), (1920, 1000)
 MOST_TABS = 200
 # how many keys a driver may lose, and how long a film takes to do what a key says
 MOST_LOST, SECONDS_OF_A_PRESS = 2, 10
@@ -60,9 +59,6 @@ WAYS = (
     Way("touch", LAPTOP, AT, "form", "sample", "changed"),
     Way("touch", SCREEN, NAME, "report", "sample", "followed"),
     Way("mouse", LAPTOP, BRACE, "form", "step", "changed", is_file=True),
-    Way("mouse", LOW, BREAK, "report", "sample", "changed"),
-    Way("keys", LOW, NAME, "form", "step", "followed"),
-    Way("touch", LOW, BRACE, "report", "step", "looked at"),
 )
 # those of each browser at each run: one by mouse, by keys and by touch, each in a window of its own
 FEW = 3
@@ -229,37 +225,6 @@ def watch_the_hit(reader: Reader) -> None:
               "document.getElementById('film').contentDocument.querySelector('#events li').innerText.replaceAll('\\n', ' ').trim())")
 
 
-def look_why(reader: Reader) -> None:
-    """The robot is seen from inside, at the line where it is at that moment."""
-    for is_open in (True, False):
-        reader.press("document.querySelector('#inside summary')")
-        reader.page.wait("return document.getElementById('inside').open === arguments[0]", is_open)
-        if is_open:
-            reader.page.wait("return document.querySelector('#inside-source .current')")
-
-
-def share_the_moment(reader: Reader) -> None:
-    """A link to the moment is made; a page that is a file offers none."""
-    reader.press(by_id("link-moment"))
-    is_done = "document.getElementById('told').textContent.startsWith('This page is a file')" if reader.way.is_file else "/&match=1&cycle=\\d+(&robot=\\d)?$/.test(location.hash)"
-    reader.page.wait(f"return {is_done}")
-
-
-def bring_back(reader: Reader) -> None:
-    """Something is written, and the version that was run comes back in its place."""
-    page, ran = reader.page, reader.page.source
-    reader.edit()
-    reader.write("/* newer */")
-    page.wait("return document.querySelector('.CodeMirror').CodeMirror.getValue().startsWith('/* newer */')")
-    reader.press("document.querySelector('#versions summary')")
-    button = "[...document.querySelectorAll('#robot-versions button:enabled')].find(it => it.textContent === 'Bring back')"
-    page.wait(f"return Boolean({button})")
-    reader.press(button)
-    page.wait("return document.querySelector('.CodeMirror').CodeMirror.getValue() === arguments[0]", ran)
-    reader.press("document.querySelector('#versions summary')")
-    page.wait("return !document.getElementById('versions').open")
-
-
 def win_by_step(reader: Reader) -> tuple[str, str]:
     """The robot of the last step is tried in a new battle."""
     reader.press("document.querySelector('#start summary')")
@@ -360,9 +325,6 @@ def whole(reader: Reader) -> Iterator[tuple[str, Callable[[], Any]]]:
     yield "the page", lambda: starts_well(reader)
     yield "write and mend", lambda: write_and_mend(reader)
     yield "watch the hit", lambda: watch_the_hit(reader)
-    yield "look why", lambda: look_why(reader)
-    yield "share the moment", lambda: share_the_moment(reader)
-    yield "bring back", lambda: bring_back(reader)
     yield "win", won
     yield "save and send", lambda: save_and_send(reader, names[0])
     yield "open a friend's", lambda: open_a_friends(reader)
