@@ -1,4 +1,4 @@
-use Rattle.std.proofs.Common.{◌≡◌, arith, rules}
+use Rattle.std.proofs.Common.{◌≡◌, rules}
 use Rattle.std.specs.Prelude.{Err}
 use Rattle.derivations.specs.Compiling.{Compiles, IsFirstFault}
 use Rattle.grammar.specs.Compiled.{compiled}
@@ -19,4 +19,4 @@ returns-in-Err-Source c further =
     let is : c.in-Err-Source.field-0 ≡ Source c.in-Err-Source.other = search rules in
     let first : compiled c.args.profile c.args.source.now ≡ Err c.in-Err-Source.other = rw is at fault in
     later_fault c.args.profile c.args.source.now c.args.fault.now c.in-Err-Source.other first
-    (omega (arith, further))
+    (c.is_no_earlier.ensures further)
