@@ -2,7 +2,6 @@
 
 ghost use Rattle.std.specs.Prelude.{◌≡◌, ◌≤◌, IfOk, IfSome, true};
 ghost use Rattle.derivations.specs.Compiling.{Compiles};
-ghost use Rattle.grammar.specs.Compiled.{compiled};
 ghost use Rattle.know.specs.Repairs.{HasNoFaultBefore, Repairs, StillCompiles, edited};
 
 use crate::notes_read::{behind, quoted};
