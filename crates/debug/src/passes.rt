@@ -54,7 +54,10 @@ impl<'m> Pass<'m> {
         let mut game = Game::new(pilots, wish.seed(), wish.first(), wish.limit());
         let mut row = Draft::new(text.alloc());
         for _ in 0..self.to {
-            if game.ending().is_over || session.robot >= pilots.len() {
+            if game.ending().is_over {
+                break;
+            }
+            if session.robot >= pilots.len() {
                 break;
             }
             let is_now = happens(&mut game, pilots, session.robot, &self.sought);

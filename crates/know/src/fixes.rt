@@ -1,8 +1,7 @@
 //! Fixes: changes of a source that a hint or a warning suggests, and that were tried.
 
-ghost use Rattle.std.specs.Prelude.{◌≡◌, Err, IfOk, IfSome, true};
+ghost use Rattle.std.specs.Prelude.{◌≡◌, ◌≤◌, IfOk, IfSome, true};
 ghost use Rattle.derivations.specs.Compiling.{Compiles};
-ghost use Rattle.grammar.specs.Compiled.{compiled};
 ghost use Rattle.know.specs.Repairs.{HasNoFaultBefore, Repairs, StillCompiles, edited};
 
 use crate::notes_read::{behind, quoted};
@@ -264,9 +263,16 @@ fn is_repaired(profile: Profile, source: &[u8], fault: &Diagnostic) -> bool
 {
     match compile(profile, &mut MemoryFeed::new(source, WINDOW_BYTES)) {
         Ok(_) => true,
-        Err(ParseFault::Source(other)) => fault.line <= other.line,
+        Err(ParseFault::Source(other)) => is_no_earlier(&other, fault),
         Err(ParseFault::Device | ParseFault::Memory) => false,
     }
+}
+
+/// Reports whether a fault is on no earlier line than another one.
+fn is_no_earlier(other: &Diagnostic, fault: &Diagnostic) -> bool
+    ensures { result ≡ true → fault.now.line ≤ other.now.line }
+{
+    fault.line <= other.line
 }
 
 /// Returns the change that a warning about the token of an index suggests, if there is one and the source compiles with it.
