@@ -17,11 +17,12 @@ const MOST_ROWS = 1000000;
 /**
  * What the module exports. Addresses and counts are numbers of 64 bits.
  * @typedef {(...words: bigint[]) => number} Call
- * @typedef {{memory: WebAssembly.Memory, run: Call, film: Call, film_windows: Call, moment: Call, find: Call, explain: Call, turns: Call,
- *     order_bytes: () => bigint, robot_bytes: () => bigint, target_bytes: () => bigint, sheet_bytes: () => bigint}} Exports
+ * @typedef {{memory: WebAssembly.Memory, run: Call, film: Call, film_windows: Call, moment: Call, find: Call, places: Call,
+ *     explain: Call, turns: Call, order_bytes: () => bigint, robot_bytes: () => bigint, target_bytes: () => bigint, sheet_bytes: () => bigint}} Exports
  * @type {(keyof Exports)[]}
  */
-const CALLS = ["run", "film", "film_windows", "moment", "find", "explain", "turns", "order_bytes", "robot_bytes", "target_bytes", "sheet_bytes"];
+const CALLS = ["run", "film", "film_windows", "moment", "find", "places", "explain", "turns", "order_bytes", "robot_bytes",
+    "target_bytes", "sheet_bytes"];
 
 const encoder = new TextEncoder();
 const decoder = new TextDecoder();
@@ -95,7 +96,7 @@ export class Engine {
 
     /** Lists where the instructions of robots come from. Returns {ending, text, faults}. */
     places(settings, robots) {
-        return this.runIn(0, settings, robots, this.exports.film);
+        return this.runIn(1, settings, robots, this.exports.places);
     }
 
     /**

@@ -11,7 +11,7 @@ const engine = await Engine.load(bytes);
 const ROBOT_BYTES = (engine.text - engine.robots) / 4;
 const SOURCE = new TextEncoder().encode("main(){ while (1) { cannon(rand(360), 99); drive(rand(360), 50); } }\x1a");
 // each call with how many words it takes
-const CALLS = {run: 5, film: 5, film_windows: 5, moment: 6, find: 6, explain: 4, turns: 4};
+const CALLS = {run: 5, film: 5, film_windows: 5, moment: 6, find: 6, places: 5, explain: 4, turns: 4};
 const MOST = 2 ** 32 - 1;
 const SIZES = [0, 1, 68, 69, 255, 256, 1048576, 1048577, 1048578, MOST];
 const NUMBERS = [0, 1, 2, 26, 27, 2 ** 31, MOST];

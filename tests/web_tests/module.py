@@ -27,8 +27,8 @@ MOST_SEED = 2**64 - 1
 SECONDS = 120
 MOST_BYTES = 400_000
 CALLS = 1000
-EXPORTS = ["__heap_base", "explain", "film", "film_windows", "find", "memory", "moment", "order_bytes", "robot_bytes", "run", "sheet_bytes",
-           "target_bytes", "turns"]
+EXPORTS = ["__heap_base", "explain", "film", "film_windows", "find", "memory", "moment", "order_bytes", "places", "robot_bytes", "run",
+           "sheet_bytes", "target_bytes", "turns"]
 TOKEN = re.compile(rb"[A-Za-z_]\w*|\d+|<<=|>>=|\+\+|--|&&|\|\||[-+*/%&|^<>=!]=|<<|>>|[^\s\x1a]")
 # a row of crobots-stages on a loop
 TURN = re.compile(r"^  line +(\d+)  \w+ +a turn  (?:(never begins again)|(at least )?(\d+)(?: to (\d+))? cycles)", re.MULTILINE)

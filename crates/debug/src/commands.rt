@@ -10,7 +10,7 @@ use std::alloc::AllocError;
 use watching::Sought;
 
 /// The most frames that are open.
-const MOST_OPEN: u64 = 1000;
+const MOST_OPEN: u32 = 1000;
 
 /// What a line asks for.
 #[derive(Drop)]
@@ -142,13 +142,13 @@ fn misread(word: &str) -> Refusal<'_> {
 
 /// Reads a cycle: 0 is before the first one.
 fn cycle_of(word: &str) -> Result<u32, Refusal<'_>> {
-    Ok(number_of(word, 0, u64::from(MOST_CYCLES))? as u32)
+    number_of(word, 0, MOST_CYCLES)
 }
 
 /// Reads a number from the least to the most.
-pub fn number_of(word: &str, least: u64, most: u64) -> Result<u64, Refusal<'_>> {
-    match value_number(word, least, most) {
-        Some(number) => Ok(number),
-        None => Err(Refusal::Number(word, least as i64, most as i64)),
+pub fn number_of(word: &str, least: u32, most: u32) -> Result<u32, Refusal<'_>> {
+    match value_number(word, u64::from(least), u64::from(most)) {
+        Some(number) => Ok(number as u32),
+        None => Err(Refusal::Number(word, i64::from(least), i64::from(most))),
     }
 }

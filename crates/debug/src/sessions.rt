@@ -144,7 +144,7 @@ fn addressed<'a, 's>(
     };
     let rest = rest.trim_start();
     let (word, rest) = rest.split_once(' ').unwrap_or((rest, ""));
-    let number = number_of(word.trim_end(), 1, count as u64)? as usize;
+    let number = number_of(word.trim_end(), 1, count.min(MOST_ROBOTS) as u32)? as usize;
     let robot = number.saturating_sub(1);
     match session.sources.robot(robot) {
         Some(noted) => Ok((

@@ -1,5 +1,5 @@
 -- Sheets of known contents hold the output of a run.
-use Rattle.std.proofs.Common.{◌≡◌, ◌⊎◌, ◌<◌, ◌≤◌, ◌+◌, ◌∙◌, inl, inr, ℕ, zero, suc, List, [], ◌∷◌, ◌++◌, Option, Some, None, Result, Ok, Err, IfErr, IfSome, IsSome, false, get_or, map, rules, refl, sym, ap, subst, append_assoc, arith, Bool, true, nat_le}
+use Rattle.std.proofs.Common.{◌≡◌, ◌⊎◌, ◌<◌, ◌≤◌, ◌+◌, ◌∙◌, inl, inr, ℕ, zero, suc, List, [], ◌∷◌, ◌++◌, Option, Some, None, Result, Ok, Err, IfErr, false, get_or, map, refl, sym, ap, subst, append_assoc, arith, Bool, true, nat_le}
 use Rattle.std.specs.Prelude.{if◌then◌else◌}
 use Rattle.std.specs.List.{concat}
 use Rattle.std.proofs.lemmas.List.{append-nil, get_or-set_same}
@@ -7,8 +7,9 @@ use Rattle.std.proofs.lemmas.List.Folds.{concat-append}
 use Rattle.std.proofs.lemmas.Bool.Decides.{nat_tests}
 use Rattle.std.proofs.lemmas.Simd.{map-map}
 use Rattle.settings.specs.Settings.{Settings}
+use Rattle.settings.specs.declared.settings.Mode.{Mode}
 use Rattle.series.specs.Compiling.{SourceFile}
-use Rattle.series.specs.Output.{Output}
+use Rattle.series.specs.Output.{Output, Runs}
 use Rattle.series.specs.SourceContents.{AreSources}
 use Rattle.series.specs.Failures.{FailsAsAnswered, Failures, SinkFailed, failing, no_device}
 use Rattle.tokens.specs.Feed.{failed_again}
@@ -22,9 +23,9 @@ use Rattle.sinks.specs.Portions.{KnownPortions, Portions, Takes}
 use Rattle.page.specs.declared.orders.Order.{Order}
 use Rattle.page.specs.declared.robots.RobotFile.{RobotFile}
 use Rattle.page.specs.declared.sheets.Sheet.{Sheet}
-use Rattle.page.specs.Orders.{setup_of}
+use Rattle.page.specs.Orders.{setup_by, setup_of}
 use Rattle.page.specs.Robots.{name_bytes, source_bytes, source_of}
-use Rattle.page.specs.Running.{Holds, IsOfRun, IsOutput, OneIsFull, RunsRobots, blank, bytes_on, code_of, output_of, part_on, status_code}
+use Rattle.page.specs.Running.{Holds, IsAccepted, OneIsFull, RunsRobots, blank, bytes_on, ending_of, output_of, part_on, taken_by}
 use Rattle.page.specs.Sheets.{IsFull, contents_of, most_frames, refused, told}
 
 -- two sinks of known contents
@@ -122,35 +123,22 @@ lines_held pieces text faults writes =
     let lines : told faults ≡ grow.new_faults.portions = ap (λ (t : Taken). portions_in t.faults) grow.is in
     ap concat lines ∙ grow.lines
 
--- a run's code says what the sheets hold
-pub is_output : (order : Order) (robots : List RobotFile) (ran : Option (Result Status RunFault)) (text faults : Sheet)
-    → IfSome ran (λ ran. RunsRobots order robots ran text faults) → IsOutput order robots (code_of ran) text faults
-is_output order robots None text faults runs = λ small. absurd (omega arith)
-is_output order robots (Some (Ok status)) text faults (writes, is) = λ small.
-    (ap status_code is, held (output_of order robots) text faults writes)
-is_output order robots (Some (Err (run_fault.Read file))) text faults runs = λ small. absurd (omega arith)
-is_output order robots (Some (Err run_fault.Write)) text faults runs = λ small. absurd (omega arith)
-is_output order robots (Some (Err run_fault.Memory)) text faults runs = λ small. absurd (omega arith)
-
 -- what is true of all sources with the robots' names and bytes, on blank sheets, is true of those of the robots
-pub by_robots : (R : Settings → List SourceFile → Taken → Type 0) (order : Order) (robots : List RobotFile)
-    (setup : Settings)
-    (words : List (List ℕ)) (known : List (Option (List ℕ))) (text faults : Sheet) → setup ≡ setup_of order words
-    → words ≡ map name_bytes robots → known ≡ map (λ robot. Some (source_bytes robot)) robots → told text ≡ [] →
-    told faults ≡ []
-    → ((sources : List SourceFile) → AreSources sources setup.file_words known
-    → R setup sources (on_both (contents_of text) (contents_of faults)))
-    → R (setup_of order (map name_bytes robots)) (map source_of robots) blank
-by_robots R order robots setup words known text faults is names bytes no_text no_faults runs =
-    let whole : setup ≡ setup_of order (map name_bytes robots) = is ∙ ap (setup_of order) names in
+pub by_robots : (R : Settings → List SourceFile → Taken → Type 0) (mode : Mode) (order : Order)
+    (robots : List RobotFile) (setup : Settings) (known : List (Option (List ℕ))) (text faults : Sheet)
+    → setup ≡ setup_by mode order (map name_bytes robots)
+    → known ≡ map (λ robot. Some (source_bytes robot)) robots → told text ≡ [] → told faults ≡ []
+    → ((sources : List SourceFile) → AreSources sources setup.file_words known → R setup sources (taken_by text faults))
+    → R (setup_by mode order (map name_bytes robots)) (map source_of robots) blank
+by_robots R mode order robots setup known text faults is bytes no_text no_faults runs =
     let named : map (λ (s : SourceFile). s.word) (map source_of robots) ≡ setup.file_words =
-    map-map (λ (s : SourceFile). s.word) source_of robots ∙ sym (ap (λ (s : Settings). s.file_words) whole) in
+    map-map (λ (s : SourceFile). s.word) source_of robots ∙ sym (ap (λ (s : Settings). s.file_words) is) in
     let told_bytes : map (λ (s : SourceFile). Some s.bytes) (map source_of robots) ≡ known =
     map-map (λ (s : SourceFile). Some s.bytes) source_of robots ∙ sym bytes in
-    let before : on_both (contents_of text) (contents_of faults) ≡ blank = rw (no_text, no_faults) refl in
+    let before : taken_by text faults ≡ blank = rw (no_text, no_faults) refl in
     let all = runs (map source_of robots) (record { named = named; bytes = told_bytes }) in
-    let P : Settings → Type 0 = λ s. R s (map source_of robots) (on_both (contents_of text) (contents_of faults)) in
-    subst (R (setup_of order (map name_bytes robots)) (map source_of robots)) before (subst P whole all)
+    let P : Settings → Type 0 = λ s. R s (map source_of robots) (taken_by text faults) in
+    subst (R (setup_by mode order (map name_bytes robots)) (map source_of robots)) before (subst P is all)
 
 -- a device that never failed, at any place
 never_failed : {X : Type 0} → (feeds : List X) (n : ℕ) → get_or (map (λ _. no_device) feeds) n no_device ≡ no_device
@@ -213,25 +201,25 @@ only_full {A = A} olds news (Err stopped) text faults film lines accounts =
     let found = only_writes {A = A} olds news (Err stopped) text faults (refused film) (refused lines) accounts in
     (found.0, one_full film lines found.1)
 
--- a full sheet is what stopped a run
-abbrev StopsFull : {A : Type 0} → Option (Result A RunFault) → Sheet → Sheet → Type 0
-StopsFull ran text faults =
-    IfSome ran (λ ran. IfErr ran (λ stopped. (stopped ≡ run_fault.Write) × OneIsFull text faults))
-
--- a run whose code is 4 has left a full sheet
-pub is_full : (ran : Option (Result Status RunFault)) (text faults : Sheet) → StopsFull ran text faults
-    → code_of ran ≡ 4 → OneIsFull text faults
-is_full None text faults stopped is = absurd (omega (arith, is))
-is_full (Some (Ok Done)) text faults stopped is = absurd (omega (arith, is))
-is_full (Some (Ok Faulty)) text faults stopped is = absurd (omega (arith, is))
-is_full (Some (Err stop)) text faults (writes, full) is = full
-
--- the code of a run that only a sink can have stopped
-pub is_of_run : (ran : Option (Result Status RunFault)) (text faults : Sheet) → IsSome ran → StopsFull ran text faults
-    → IsOfRun (code_of ran)
-is_of_run None text faults some stopped = absurd (cc some)
-is_of_run (Some (Ok Done)) text faults some stopped = inl (search rules)
-is_of_run (Some (Ok Faulty)) text faults some stopped = inl (search rules)
-is_of_run (Some (Err run_fault.Write)) text faults some stopped = inr refl
-is_of_run (Some (Err (run_fault.Read file))) text faults some (writes, full) = absurd (cc writes)
-is_of_run (Some (Err run_fault.Memory)) text faults some (writes, full) = absurd (cc writes)
+-- what the sheets hold after a run on blank ones, by its end
+pub ends_with : (order : Order) (robots : List RobotFile) (ran : Result Status RunFault) (text faults : Sheet)
+    → IsAccepted order robots
+    → Runs (setup_of order (map name_bytes robots)) (map source_of robots) ran blank (taken_by text faults)
+    → IfErr ran (λ stopped. (stopped ≡ run_fault.Write) × OneIsFull text faults)
+    → RunsRobots order robots (ending_of ran) text faults
+ends_with order robots (Ok Done) text faults accepted (writes, is) stopped = record {
+  accepted = accepted;
+  status = is;
+  writes = writes;
+  holds = held (output_of order robots) text faults writes;
+}
+ends_with order robots (Ok Faulty) text faults accepted (writes, is) stopped = record {
+  accepted = accepted;
+  status = is;
+  writes = writes;
+  holds = held (output_of order robots) text faults writes;
+}
+ends_with order robots (Err run_fault.Write) text faults accepted begins (is, full) =
+    record { accepted = accepted; begins = begins; full = full }
+ends_with order robots (Err (run_fault.Read file)) text faults accepted begins (is, full) = absurd (cc is)
+ends_with order robots (Err run_fault.Memory) text faults accepted begins (is, full) = absurd (cc is)

@@ -1,5 +1,7 @@
+pub mod Endings
 pub mod Explaining
 pub mod Films
+pub mod Insides
 pub mod Orders
 pub mod Robots
 pub mod Running

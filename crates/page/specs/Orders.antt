@@ -38,6 +38,10 @@ numbers_of order = record {
   first = order.first;
 }
 
--- what an order asks for of the files that these words name
+-- what an order asks for in a mode, of the files that these words name
+abbrev pub setup_by : Mode → Order → List (List ℕ) → Settings
+setup_by mode order words = setup.settings_of (numbers_of order) mode words
+
+-- and in its own mode
 abbrev pub setup_of : Order → List (List ℕ) → Settings
-setup_of order words = setup.settings_of (numbers_of order) (mode_by order.mode) words
+setup_of order words = setup_by (mode_by order.mode) order words

@@ -1,20 +1,19 @@
 //! Explanations of sources in memory: a fault's, with the warnings before it; or of a source without one the warnings, or
 //! what its loops take.
 
-ghost use Rattle.std.specs.Prelude.{◌≡◌, IfSome, IsSome};
-ghost use Rattle.derivations.specs.Compiling.{Compiles};
-ghost use Rattle.page.specs.Explaining.{ExplainsRobots, IsFaulty};
-ghost use Rattle.page.specs.Running.{IsAccepted};
+ghost use Rattle.page.specs.Explaining.{Explains, ExplainsRobots};
 
+use crate::endings::Ending;
 use crate::loop_turns::tell_turns;
 use crate::orders::Order;
 use crate::robots::RobotFile;
-use crate::running::words_of;
+use crate::running::settings_of;
 use crate::sheets::{FRAME_BYTES, Sheet};
-use crate::sources::names_in;
-use derivations::{Located, Tokens, locate_in};
+use crate::sources::SourceFeed;
+use derivations::{Located, Tokens, compile, locate_in};
 use explanations::{Warnings, explain, warnings_before, warnings_of};
 use grammar::{ParseFault, Profile};
+use series::Mode;
 
 /// What is reported of a source beside a fault.
 #[derive(Clone, Copy, PartialEq, Eq)]
@@ -25,51 +24,33 @@ pub enum Topic {
     Turns,
 }
 
-/// What was explained.
-#[derive(Clone, Copy, PartialEq, Eq)]
-pub enum Explained {
-    /// A source without a fault: the sheet has what was asked of it.
-    Good,
-    /// A source with a fault: the sheet has its explanation.
-    Faulty,
-    /// Nothing, or a part: the source has over `derivations::MOST_TOKENS` tokens, or the sheet is full.
-    Cut,
-}
-
 /// Explains the source of the first robot in the profile that an order asks for, on a sheet that is blank before: a line
 /// for each warning, up to the first fault, or a row for each loop; and the first fault.
-///
-/// `None` if a number of the order is not within its limits, a name is no text, or there is no robot or over four.
-pub fn explain_robot(
-    order: &Order,
-    robots: &[RobotFile],
-    topic: Topic,
-    sheet: &mut Sheet,
-) -> Option<Explained>
-    ensures explains { IfSome result (λ explained. ExplainsRobots order.now robots.now explained) }
-    ensures accepted { IsAccepted order.now robots.now → IsSome result }
-    ensures refused { IsSome result → IsAccepted order.now robots.now }
+#[tactic(auto, using(crate::proofs::ExplainingLemmas::explained))]
+pub fn explain_robot(order: &Order, robots: &[RobotFile], topic: Topic, sheet: &mut Sheet) -> Ending
+    ensures { ExplainsRobots order.now robots.now result }
 {
     sheet.clear();
-    let words = words_of(robots)?;
-    let settings = order.settings(words.as_slice())?;
-    match robots {
-        [robot, ..] => Some(explain_source(settings.profile(), robot.source(), topic, sheet)),
-        [] => None,
+    let Some(settings) = settings_of(order, Mode::Listing, robots) else {
+        return Ending::Refused;
+    };
+    let ending = explain_source(settings.profile(), robots[0].source(), topic, sheet);
+    if sheet.is_full() {
+        return Ending::Full;
     }
+    ending
 }
 
 /// Explains a source on a blank sheet.
-fn explain_source(profile: Profile, source: &[u8], topic: Topic, sheet: &mut Sheet) -> Explained
-    ensures good { result ≡ Explained.Good → Compiles profile source.now }
-    ensures faulty { result ≡ Explained.Faulty → IsFaulty profile source.now }
+fn explain_source(profile: Profile, source: &[u8], topic: Topic, sheet: &mut Sheet) -> Ending
+    ensures { Explains profile source.now result }
 {
     let mut tokens = Tokens::new();
     if !locate_in(&mut tokens, source) {
-        return Explained::Cut;
+        return Ending::Full;
     }
     let tokens = tokens.as_slice();
-    match names_in(profile, source) {
+    match compile(profile, &mut SourceFeed::new(source)) {
         Ok(_) => {
             match topic {
                 Topic::Warnings => tell_warnings(
@@ -79,7 +60,7 @@ fn explain_source(profile: Profile, source: &[u8], topic: Topic, sheet: &mut She
                 ),
                 Topic::Turns => tell_turns(tokens, profile, sheet),
             }
-            told(Explained::Good, sheet)
+            Ending::Done
         }
         Err(ParseFault::Source(diagnostic)) => {
             if topic == Topic::Warnings {
@@ -88,21 +69,9 @@ fn explain_source(profile: Profile, source: &[u8], topic: Topic, sheet: &mut She
             }
             let note = explain(source, tokens, profile, &diagnostic);
             tell(note.as_str(), sheet);
-            told(Explained::Faulty, sheet)
+            Ending::Faulty
         }
-        Err(_) => Explained::Cut,
-    }
-}
-
-/// Returns what was explained, if the sheet took all of it.
-fn told(explained: Explained, sheet: &Sheet) -> Explained
-    ensures good { result ≡ Explained.Good → explained ≡ Explained.Good }
-    ensures faulty { result ≡ Explained.Faulty → explained ≡ Explained.Faulty }
-{
-    if sheet.is_full() {
-        Explained::Cut
-    } else {
-        explained
+        Err(_) => Ending::Full,
     }
 }
 

@@ -1,23 +1,20 @@
 //! The calls of the module.
 
-ghost use Rattle.std.specs.Prelude.{◌≡◌, ◌≢◌, ◌≤◌, ◌⊎◌};
-ghost use Rattle.page.specs.Explaining.{IsExplained, code_explained};
-ghost use Rattle.page.specs.Films.{IsFilm, IsOfFilm, IsOfShown, IsOfStretch, IsOfWindows, film_code};
-ghost use Rattle.page.specs.Running.{IsAccepted, IsOfRun, IsOutput, OneIsFull, code_of};
+ghost use Rattle.std.specs.Prelude.{◌≡◌, None, Some};
+ghost use Rattle.page.specs.Endings.{EndsWith};
+ghost use Rattle.page.specs.Explaining.{ExplainsRobots};
+ghost use Rattle.page.specs.Films.{FilmsRobots};
+ghost use Rattle.page.specs.Orders.{stretch_of};
+ghost use Rattle.page.specs.Running.{RunsRobots};
 
-use crate::explaining::{Explained, Topic, explain_robot};
+use crate::explaining::{Topic, explain_robot};
 use crate::filming::tell_robots;
-use crate::films::Shown;
 use crate::orders::Order;
 use crate::robots::RobotFile;
 use crate::running::run_robots;
 use crate::sheets::Sheet;
 use crate::subjects::Subject;
 use crate::targets::Target;
-use series::{RunFault, Status};
-
-/// The answer of a film after which the match goes on.
-const GOES_ON: u32 = 6;
 
 /// The bytes of an order.
 const ORDER_BYTES: usize = size_of::<Order>();
@@ -43,12 +40,9 @@ pub extern "C" fn run(
     text: &mut Sheet,
     faults: &mut Sheet,
 ) -> u32
-    ensures output { IsOutput order.now robots.now result text.new faults.new }
-    ensures full { result ≡ 4 → OneIsFull text.new faults.new }
-    ensures accepted { IsAccepted order.now robots.now → IsOfRun result }
-    ensures refused { result ≢ 2 → IsAccepted order.now robots.now }
+    ensures { EndsWith (λ ending. RunsRobots order.now robots.now ending text.new faults.new) result }
 {
-    code(run_robots(order, robots, text, faults))
+    run_robots(order, robots, text, faults).code()
 }
 
 /// Plays the first match that the order asks for of one to four robots, and writes its film, or the diagnostics of
@@ -60,14 +54,16 @@ pub extern "C" fn film(
     text: &mut Sheet,
     faults: &mut Sheet,
 ) -> u32
-    ensures film { IsFilm order.now robots.now result text.new faults.new }
-    ensures full { result ≡ 4 → OneIsFull text.new faults.new }
-    ensures codes { IsOfFilm result }
-    ensures accepted { IsAccepted order.now robots.now → IsOfRun result }
-    ensures refused { result ≢ 2 → IsAccepted order.now robots.now }
+    ensures { EndsWith (λ ending. FilmsRobots order.now robots.now None ending text.new faults.new) result }
 {
-    let subject = Subject::Film(None, order.skipped);
-    film_code(tell_robots(order, robots, &subject, text, faults))
+    tell_robots(
+        order,
+        robots,
+        &Subject::Film(None, order.skipped),
+        text,
+        faults,
+    )
+    .code()
 }
 
 /// Plays the first match that the order asks for of one to four robots up to a number of updates, and films a number of
@@ -84,15 +80,16 @@ pub extern "C" fn film_windows(
     text: &mut Sheet,
     faults: &mut Sheet,
 ) -> u32
-    ensures film { IsFilm order.now robots.now result text.new faults.new }
-    ensures full { result ≡ 4 → OneIsFull text.new faults.new }
-    ensures shows { IsOfStretch order.now robots.now result }
-    ensures codes { IsOfWindows result }
-    ensures accepted { IsAccepted order.now robots.now → IsOfShown result }
-    ensures refused { result ≢ 2 → IsAccepted order.now robots.now }
+    ensures { EndsWith (λ ending. FilmsRobots order.now robots.now (Some (stretch_of order.now)) ending text.new faults.new) result }
 {
-    let subject = Subject::Film(Some(order.stretch()), order.skipped);
-    film_code(tell_robots(order, robots, &subject, text, faults))
+    tell_robots(
+        order,
+        robots,
+        &Subject::Film(Some(order.stretch()), order.skipped),
+        text,
+        faults,
+    )
+    .code()
 }
 
 /// Plays the first match that the order asks for of one to four robots up to a cycle, and writes where a robot is then,
@@ -105,14 +102,9 @@ pub extern "C" fn moment(
     text: &mut Sheet,
     faults: &mut Sheet,
 ) -> u32
-    ensures film { IsFilm order.now robots.now result text.new faults.new }
-    ensures full { result ≡ 4 → OneIsFull text.new faults.new }
-    ensures codes { IsOfFilm result }
-    ensures accepted { IsAccepted order.now robots.now → IsOfRun result }
-    ensures refused { result ≢ 2 → IsAccepted order.now robots.now }
+    ensures { EndsWith (λ ending. FilmsRobots order.now robots.now None ending text.new faults.new) result }
 {
-    let subject = Subject::Moment(target);
-    film_code(tell_robots(order, robots, &subject, text, faults))
+    tell_robots(order, robots, &Subject::Moment(target), text, faults).code()
 }
 
 /// Plays the first match that the order asks for of one to four robots, and writes the first cycle after a cycle, or
@@ -126,14 +118,23 @@ pub extern "C" fn find(
     text: &mut Sheet,
     faults: &mut Sheet,
 ) -> u32
-    ensures film { IsFilm order.now robots.now result text.new faults.new }
-    ensures full { result ≡ 4 → OneIsFull text.new faults.new }
-    ensures codes { IsOfFilm result }
-    ensures accepted { IsAccepted order.now robots.now → IsOfRun result }
-    ensures refused { result ≢ 2 → IsAccepted order.now robots.now }
+    ensures { EndsWith (λ ending. FilmsRobots order.now robots.now None ending text.new faults.new) result }
 {
-    let subject = Subject::Run(target);
-    film_code(tell_robots(order, robots, &subject, text, faults))
+    tell_robots(order, robots, &Subject::Run(target), text, faults).code()
+}
+
+/// Writes where the instructions of one to four robots come from, a row each, or the diagnostics of faulty sources.
+/// Answers as `run` does.
+#[unsafe(no_mangle)]
+pub extern "C" fn places(
+    order: &Order,
+    robots: &[RobotFile],
+    text: &mut Sheet,
+    faults: &mut Sheet,
+) -> u32
+    ensures { EndsWith (λ ending. FilmsRobots order.now robots.now None ending text.new faults.new) result }
+{
+    tell_robots(order, robots, &Subject::Places, text, faults).code()
 }
 
 /// Explains the source of the first robot in the language profile that the order asks for, as the program crobots-why
@@ -143,12 +144,9 @@ pub extern "C" fn find(
 /// 16,384 tokens, or the sheet is full.
 #[unsafe(no_mangle)]
 pub extern "C" fn explain(order: &Order, robots: &[RobotFile], text: &mut Sheet) -> u32
-    ensures explained { IsExplained order.now robots.now result }
-    ensures codes { (result ≤ 2) ⊎ (result ≡ 4) }
-    ensures accepted { IsAccepted order.now robots.now → result ≢ 2 }
-    ensures refused { result ≢ 2 → IsAccepted order.now robots.now }
+    ensures { EndsWith (λ ending. ExplainsRobots order.now robots.now ending) result }
 {
-    explained_code(explain_robot(order, robots, Topic::Warnings, text))
+    explain_robot(order, robots, Topic::Warnings, text).code()
 }
 
 /// Tells what the turns of the loops of the first robot take, in the language profile that the order asks for: a row for
@@ -156,53 +154,9 @@ pub extern "C" fn explain(order: &Order, robots: &[RobotFile], text: &mut Sheet)
 /// `crobots-bounds`. Answers as `explain` does.
 #[unsafe(no_mangle)]
 pub extern "C" fn turns(order: &Order, robots: &[RobotFile], text: &mut Sheet) -> u32
-    ensures explained { IsExplained order.now robots.now result }
-    ensures codes { (result ≤ 2) ⊎ (result ≡ 4) }
-    ensures accepted { IsAccepted order.now robots.now → result ≢ 2 }
-    ensures refused { result ≢ 2 → IsAccepted order.now robots.now }
+    ensures { EndsWith (λ ending. ExplainsRobots order.now robots.now ending) result }
 {
-    explained_code(explain_robot(order, robots, Topic::Turns, text))
-}
-
-/// Returns the number that stands for what was explained.
-fn explained_code(explained: Option<Explained>) -> u32
-    ensures { result ≡ code_explained explained }
-{
-    match explained {
-        Some(Explained::Good) => 0,
-        Some(Explained::Faulty) => 1,
-        None => 2,
-        Some(Explained::Cut) => 4,
-    }
-}
-
-/// Returns the number that stands for what a film shows, if it was made.
-fn film_code(ran: Option<Result<Shown, RunFault>>) -> u32
-    ensures { result ≡ film_code ran }
-{
-    match ran {
-        Some(Ok(Shown::Over)) => 0,
-        Some(Ok(Shown::Faulty)) => 1,
-        Some(Ok(Shown::GoesOn)) => GOES_ON,
-        None => 2,
-        Some(Err(RunFault::Read(_))) => 3,
-        Some(Err(RunFault::Write)) => 4,
-        Some(Err(RunFault::Memory)) => 5,
-    }
-}
-
-/// Returns the number that stands for how a run ended, if it was run.
-fn code(ran: Option<Result<Status, RunFault>>) -> u32
-    ensures { result ≡ code_of ran }
-{
-    match ran {
-        Some(Ok(Status::Done)) => 0,
-        Some(Ok(Status::Faulty)) => 1,
-        None => 2,
-        Some(Err(RunFault::Read(_))) => 3,
-        Some(Err(RunFault::Write)) => 4,
-        Some(Err(RunFault::Memory)) => 5,
-    }
+    explain_robot(order, robots, Topic::Turns, text).code()
 }
 
 /// Returns how many bytes an order has.

@@ -4,36 +4,20 @@ ghost use Rattle.std.specs.Prelude.{◌≡◌, ◌<◌, ◌≤◌, ◌/◌, leng
 ghost use Rattle.page.specs.Asking.{film_asks, kept_by};
 ghost use Rattle.page.specs.Sheets.{refused};
 
+use crate::compiled_robots::Functions;
 use crate::missiles::FiredMissile;
 use crate::rows::Row;
 use crate::sheets::Sheet;
 use crate::stretches::Stretch;
 use arena::{Arena, MOST_BURSTS};
-use arrayvec::ArrayVec;
 use code::{Cause, Intrinsic};
 use derivations::SourcePositions;
-use grammar::MOST_NAMES;
 use series::MOST_CYCLES;
 use std::str;
-use tokens::Name;
 use watching::{
     Camera, Event, Exchange, FILM_COLUMNS, FilmRows, Listener, Pilot, Place, Stance, Turn,
     UPDATE_CYCLES, Watcher, function_at, word_of,
 };
-
-/// The names of the functions of a file, by number.
-pub(crate) type Functions = ArrayVec<Name, MOST_NAMES>;
-
-/// What a film shows.
-#[derive(Clone, Copy, PartialEq, Eq, Drop)]
-pub enum Shown {
-    /// The match up to its end.
-    Over,
-    /// Windows after which the match goes on.
-    GoesOn,
-    /// Nothing: a source has a fault.
-    Faulty,
-}
 
 /// The rows of a film on a sheet: of all of it, or of a stretch. A full sheet takes no more.
 #[derive(Drop)]
@@ -92,17 +76,17 @@ impl FilmRows for SheetRows<'_> {
 pub(crate) struct Film<'a> {
     camera: Camera<SheetRows<'a>>,
     functions: &'a [Functions],
-    places: &'a [Option<SourcePositions>],
+    positions: &'a [Option<SourcePositions>],
     missiles: [FiredMissile; MOST_BURSTS],
 }
 
 impl<'a> Film<'a> {
     /// Begins a film of a stretch, or of a whole match, on a sheet. These are the functions of each file, and the
-    /// places of its instructions. The given number of rows are left out.
+    /// positions of its instructions. The given number of rows are left out.
     pub(crate) fn new(
         sheet: &'a mut Sheet,
         functions: &'a [Functions],
-        places: &'a [Option<SourcePositions>],
+        positions: &'a [Option<SourcePositions>],
         stretch: Option<Stretch>,
         skipped: u32,
     ) -> Film<'a>
@@ -119,7 +103,7 @@ impl<'a> Film<'a> {
         Film {
             camera: Camera::new(rows),
             functions,
-            places,
+            positions,
             missiles: [FiredMissile::default(); MOST_BURSTS],
         }
     }
@@ -133,9 +117,9 @@ impl<'a> Film<'a> {
     /// Returns the line that the instruction of an address comes from, 0 if it isn't known. A single file's program is
     /// that of both robots.
     fn line(&self, robot: usize, address: usize) -> u32 {
-        let file = robot.min(self.places.len().saturating_sub(1));
-        match self.places.get(file) {
-            Some(Some(places)) => places.place(address).unwrap_or_default().line,
+        let file = robot.min(self.positions.len().saturating_sub(1));
+        match self.positions.get(file) {
+            Some(Some(positions)) => positions.place(address).unwrap_or_default().line,
             _ => 0,
         }
     }

@@ -1,15 +1,17 @@
 //! Robots from inside: where a robot is at a moment of a match, and in which cycles it is somewhere.
 
-ghost use Rattle.std.specs.Prelude.{◌≡◌, ◌≢◌, ◌<◌, ◌≤◌, List, length, slice_get, Some};
+ghost use Rattle.std.specs.Prelude.{◌≡◌, ◌<◌, ◌≤◌, List, length};
 ghost use Rattle.grammar.specs.Tree.{File};
 ghost use Rattle.code.specs.Codes.{AreProgramsOf};
 ghost use Rattle.code.specs.Generation.{Program};
-ghost use Rattle.battles.specs.Battle.{first_state, last_cycle};
+ghost use Rattle.battles.specs.Battle.{first_state};
 ghost use Rattle.battles.specs.Pairing.{paired, robots_of};
 ghost use Rattle.watching.specs.Played.{codes_of};
 ghost use Rattle.watching.specs.Moments.{IsMoment};
-ghost use Rattle.watching.specs.Searches.{Happens, IsLast, IsNext};
+ghost use Rattle.watching.specs.Searches.{IsLast, IsNext};
+ghost use Rattle.page.specs.Insides.{OfSought};
 
+use crate::compiled_robots::CompiledRobots;
 use crate::films::add_columns;
 use crate::pilots::pilots_of;
 use crate::rows::Row;
@@ -17,29 +19,29 @@ use crate::sheets::Sheet;
 use crate::targets::Target;
 use arena::MOST_ROBOTS;
 use code::{Intrinsic, Machine, Want};
-use series::{Programs, Settings};
+use series::Settings;
 use watching::{
     Asked, Event, Field, Moment, Pilot, Sought, moment_at, next_cycle, previous_cycle, word_of,
 };
 
-/// Writes on a blank sheet where a robot is after a cycle of the first match of these programs, or at its end if that
+/// Writes on a blank sheet where a robot is after a cycle of the first match of compiled robots, or at its end if that
 /// comes before.
 #[tactic(auto, using(crate::proofs::FilmedRobots::two_paired))]
 pub(crate) fn tell_moment(
     settings: &Settings<'_>,
-    programs: &Programs,
+    compiled: &CompiledRobots,
     target: &Target,
     sheet: &mut Sheet,
 )
-    requires { 0 < length programs.now }
+    requires { 0 < length compiled.now.programs.items }
 {
     add_columns(sheet);
     let robot = target.robot as usize;
-    if robot >= programs.robots() {
+    if robot >= compiled.robots() {
         return;
     }
-    let mut pilots = pilots_of(programs);
-    let pilots = &mut pilots[..programs.robots()];
+    let mut pilots = pilots_of(compiled);
+    let pilots = &mut pilots[..compiled.robots()];
     let moment = moment_in(settings, pilots, robot, target.cycle);
     let mut inside = Inside {
         sheet,
@@ -67,25 +69,25 @@ fn moment_in(settings: &Settings<'_>, pilots: &mut [Pilot<'_>], robot: usize, cy
 }
 
 /// Writes on a blank sheet the first or the last cycle, after or before that of a target, after which a robot is at one
-/// of the target's instructions, in the first match of these programs. Writes none if there is none.
+/// of the target's instructions, in the first match of compiled robots. Writes none if there is none.
 #[tactic(auto, using(crate::proofs::FilmedRobots::two_paired))]
 pub(crate) fn tell_run(
     settings: &Settings<'_>,
-    programs: &Programs,
+    compiled: &CompiledRobots,
     target: &Target,
     sheet: &mut Sheet,
 )
-    requires { 0 < length programs.now }
+    requires { 0 < length compiled.now.programs.items }
 {
     add_columns(sheet);
     let robot = target.robot as usize;
-    if robot >= programs.robots() {
+    if robot >= compiled.robots() {
         return;
     }
-    let mut pilots = pilots_of(programs);
+    let mut pilots = pilots_of(compiled);
     let marked = target.marked();
     let sought = Sought::Address(&marked, target.frames as usize);
-    let pilots = &mut pilots[..programs.robots()];
+    let pilots = &mut pilots[..compiled.robots()];
     let found = if target.backwards == 0 {
         next_in(settings, pilots, robot, &sought, target.cycle)
     } else {
@@ -108,14 +110,7 @@ fn next_in(
     requires some { 2 ≤ length pilots.old }
     requires most { length pilots.old ≤ MOST_ROBOTS }
     requires inside { robot < length pilots.old }
-    ensures next { (programs : List Program) (files : List File) (code : Program)
-        → codes_of pilots.old ≡ paired programs → AreProgramsOf programs settings.now.profile files
-        → slice_get (paired programs) robot ≡ Some code
-        → IsNext (Happens (robots_of settings.now.profile files) code
-        (first_state (length (robots_of settings.now.profile files)) settings.now.seed settings.now.first) robot sought.now)
-        after (last_cycle (robots_of settings.now.profile files)
-        (first_state (length (robots_of settings.now.profile files)) settings.now.seed settings.now.first)
-        settings.now.limit) result }
+    ensures { OfSought settings.now pilots.old robot sought.now (λ happens last. IsNext happens after last result) }
 {
     let (seed, number, limit) = (settings.seed(), settings.first(), settings.limit());
     next_cycle(pilots, robot, sought, after, seed, number, limit)
@@ -133,14 +128,7 @@ fn last_in(
     requires some { 2 ≤ length pilots.old }
     requires most { length pilots.old ≤ MOST_ROBOTS }
     requires inside { robot < length pilots.old }
-    ensures last { (programs : List Program) (files : List File) (code : Program)
-        → codes_of pilots.old ≡ paired programs → AreProgramsOf programs settings.now.profile files
-        → slice_get (paired programs) robot ≡ Some code
-        → IsLast (Happens (robots_of settings.now.profile files) code
-        (first_state (length (robots_of settings.now.profile files)) settings.now.seed settings.now.first) robot sought.now)
-        before (last_cycle (robots_of settings.now.profile files)
-        (first_state (length (robots_of settings.now.profile files)) settings.now.seed settings.now.first)
-        settings.now.limit) result }
+    ensures { OfSought settings.now pilots.old robot sought.now (λ happens last. IsLast happens before last result) }
 {
     let (seed, number, limit) = (settings.seed(), settings.first(), settings.limit());
     previous_cycle(pilots, robot, sought, before, seed, number, limit)

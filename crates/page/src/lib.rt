@@ -1,6 +1,8 @@
 //! The engine for a page in a browser: runs over sources in memory that the caller lends.
 #![tactic(auto)]
 
+mod compiled_robots;
+mod endings;
 mod explaining;
 mod exports;
 mod filming;
@@ -10,7 +12,7 @@ mod loop_turns;
 mod missiles;
 mod orders;
 mod pilots;
-mod places;
+mod positions;
 mod robots;
 mod rows;
 mod running;
@@ -20,13 +22,13 @@ mod stretches;
 mod subjects;
 mod targets;
 
-pub use explaining::{Explained, Topic, explain_robot};
+pub use endings::Ending;
+pub use explaining::{Topic, explain_robot};
 pub use exports::{
-    explain, film, film_windows, find, moment, order_bytes, robot_bytes, run, sheet_bytes,
+    explain, film, film_windows, find, moment, order_bytes, places, robot_bytes, run, sheet_bytes,
     target_bytes, turns,
 };
 pub use filming::tell_robots;
-pub use films::Shown;
 pub use orders::Order;
 pub use robots::{NAME_MAX, RobotFile, SOURCE_MAX};
 pub use running::run_robots;

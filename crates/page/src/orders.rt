@@ -1,7 +1,7 @@
 //! Orders: what a run is asked to do, as numbers.
 
 ghost use Rattle.std.specs.Prelude.{◌≡◌, ◌<◌, ◌≤◌, true, length, map, IfSome, IsSome};
-ghost use Rattle.page.specs.Orders.{AreWithin, mode_by, numbers_of, setup_of, stretch_of};
+ghost use Rattle.page.specs.Orders.{AreWithin, mode_by, numbers_of, setup_by, stretch_of};
 
 use crate::stretches::Stretch;
 use arrayvec::ArrayVec;
@@ -14,7 +14,7 @@ use series::{MOST_CYCLES, MOST_FILES, MOST_FIRST_MATCH, MOST_MATCHES, Mode, Numb
 pub struct Order {
     /// The seed of the random numbers.
     pub seed: u64,
-    /// What is asked for: 0 for listings, 1 for matches.
+    /// What a run does: 0 for listings, 1 for matches. The other calls have no use for it.
     pub mode: u32,
     /// How many matches are played, 1 to 1,000,000.
     pub matches: u32,
@@ -33,11 +33,11 @@ pub struct Order {
 }
 
 impl Order {
-    /// Makes the settings of a run of the files that these words name, one to four. `None` if a number is not within
-    /// its limits.
-    pub fn settings<'a>(&self, words: &[&'a str]) -> Option<Settings<'a>>
+    /// Makes the settings of a run in a mode of the files that these words name, one to four. `None` if a number is not
+    /// within its limits.
+    pub(crate) fn settings<'a>(&self, mode: Mode, words: &[&'a str]) -> Option<Settings<'a>>
         requires some { 0 < length words.now }
-        ensures value { IfSome result (λ settings. settings ≡ setup_of self.now (map (λ word. word.now) words.now)) }
+        ensures value { IfSome result (λ settings. settings ≡ setup_by mode self.now (map (λ word. word.now) words.now)) }
         ensures accepted { AreWithin self.now → length words.now ≤ MOST_FILES → IsSome result }
         ensures within { IsSome result → AreWithin self.now }
     {
@@ -45,7 +45,7 @@ impl Order {
             return None;
         }
         let words = ArrayVec::try_from(words).ok()?;
-        Some(Settings::new(self.mode(), self.numbers(), words))
+        Some(Settings::new(mode, self.numbers(), words))
     }
 
     /// Returns the windows that are filmed.
@@ -84,8 +84,8 @@ impl Order {
         }
     }
 
-    /// Returns the mode.
-    fn mode(&self) -> Mode
+    /// Returns the mode of a run.
+    pub(crate) fn mode(&self) -> Mode
         ensures { result ≡ mode_by self.now.mode }
     {
         if self.mode == 0 {

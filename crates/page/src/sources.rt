@@ -1,13 +1,11 @@
-//! Sources as devices, and the names of one.
+//! Sources as devices.
 
-ghost use Rattle.std.specs.Prelude.{◌≡◌, [], IfErr, OnOk, Some, false};
-ghost use Rattle.derivations.specs.Compiling.{Compiles, IsFirstFault};
+ghost use Rattle.std.specs.Prelude.{◌≡◌, [], Some, false};
 
-use derivations::compile;
-use grammar::{ParseFault, Pools, Profile};
 use tokens::{DeviceFault, Feed};
 
-/// A source that is read, which never fails: the bytes still to come, and whether a read gave none.
+/// A source that is read, which never fails: the bytes still to come, and whether a read gave none. By this device the
+/// module has one parser for all that it compiles.
 #[derive(Drop)]
 pub(crate) struct SourceFeed<'a> {
     rest: &'a [u8],
@@ -46,17 +44,5 @@ impl Feed for SourceFeed<'_> {
         self.rest = &self.rest[count..];
         self.ended = count == 0;
         Ok(count)
-    }
-}
-
-/// Compiles a source, and drops its program: returns its names, or its first fault. By this device the module has one
-/// parser for all that it compiles.
-pub(crate) fn names_in(profile: Profile, source: &[u8]) -> Result<Pools, ParseFault>
-    ensures compiles { OnOk result (Compiles profile source.now) }
-    ensures fault { IfErr result (IsFirstFault profile source.now) }
-{
-    match compile(profile, &mut SourceFeed::new(source)) {
-        Ok(made) => Ok(made.names),
-        Err(fault) => Err(fault),
     }
 }

@@ -21,7 +21,7 @@ use Rattle.series.specs.declared.run_results.RunFault.TheVariants as run_fault
 use Rattle.series.specs.declared.run_results.Status.{Status}
 use Rattle.series.specs.declared.run_results.Status.TheVariants.{Done, Faulty}
 use Rattle.series.specs.Compiling.{SourceFile, and_file, compiling, files_of, compile_status}
-use Rattle.series.specs.CompiledFiles.{programs_of}
+use Rattle.series.specs.CompiledFiles.{CompilesTo, programs_of}
 use Rattle.series.specs.Output.{output, played, Runs, StopsRun}
 use Rattle.series.specs.Pieces.{Piece, Taken, Writes, Begins}
 use Rattle.series.specs.Playing.{playing}
@@ -161,3 +161,14 @@ stops_run settings sources run_fault.Write before after begins =
     begins_more before after (compiling settings.mode settings.profile sources)
     (played settings settings.mode (files_of settings.profile sources)) begins
 stops_run settings sources run_fault.Memory before after never = never
+
+-- what listing left: nothing was played
+pub lists_run : (settings : Settings) (sources : List SourceFile) (result : Result Status RunFault)
+    (before after : Taken) → settings.mode ≡ Listing
+    → CompilesTo (compile_status (files_of settings.profile sources)) settings sources result before after
+    → Runs settings sources result before after
+lists_run settings sources (Ok status) before after listing (writes, is) =
+    let none : played settings settings.mode (files_of settings.profile sources) ≡ [] = rw listing refl in
+    (rw (none, append-nil (compiling settings.mode settings.profile sources)) writes, is)
+lists_run settings sources (Err stopped) before after listing stops =
+    stops_run settings sources stopped before after stops

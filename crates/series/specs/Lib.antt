@@ -14,5 +14,6 @@ pub mod CompiledFiles
 pub mod ProgramKeeping
 pub mod SourceReading
 pub mod Failures
+pub mod FileRuns
 pub mod SameReport
 pub mod KnownOutputs

@@ -2,12 +2,12 @@
 
 ghost use Rattle.std.specs.Prelude.{◌≡◌, ℕ, ◌+◌, ◌-◌, ◌^◌, ◌<◌, ◌≤◌, List, [], ◌∷◌, Some, length, map};
 ghost use Rattle.series.specs.Compiling.{SourceFile};
-ghost use Rattle.series.specs.Failures.{FailsAsAnswered, AreReady, CountsFileFailures, failures};
+ghost use Rattle.series.specs.Failures.{AreReady, CountsFileFailures};
+ghost use Rattle.series.specs.FileRuns.{GoesOver};
 ghost use Rattle.series.specs.Pieces.{taken_by_sinks};
-ghost use Rattle.series.specs.SourceReading.{IfRead, ReadsSources, ReadsFile};
+ghost use Rattle.series.specs.SourceReading.{IfRead, ReadsFile};
 ghost use Rattle.series.specs.ProgramKeeping.{CanKeep, IsNewKeeper, KeepsAll, KeepsOn, worse_status};
 ghost use Rattle.series.specs.CompiledFiles.{CompilesAll, CompilesFile};
-ghost use Rattle.series.specs.SourceContents.{AreSources, known_to_come};
 
 use crate::diagnostic_lines::put_diagnostic;
 use crate::keeping::TakesPrograms;
@@ -32,7 +32,7 @@ pub(crate) enum CompileFault {
 ///
 /// It isn't inlined: a caller that lists files would have room for their names in its frame while matches are played.
 #[inline(never)]
-pub(crate) fn compile_all<K: TakesPrograms, F: Feed, O: Sink, E: Sink>(
+pub fn compile_all<K: TakesPrograms, F: Feed, O: Sink, E: Sink>(
     keeper: &mut K,
     settings: &Settings,
     feeds: &mut [F],
@@ -42,15 +42,10 @@ pub(crate) fn compile_all<K: TakesPrograms, F: Feed, O: Sink, E: Sink>(
     requires new { IsNewKeeper settings.now.mode (K.mode keeper.old) (K.kept keeper.old) }
     requires ready { AreReady F.device (length settings.now.file_words) feeds.old
         (O.written out.old) (E.written err.old) }
-    ensures output { (sources : List SourceFile) → AreSources sources settings.now.file_words (known_to_come F.device feeds.old)
-        → CompilesAll settings.now sources result (K.kept keeper.new)
-        (taken_by_sinks (O.written out.old) (E.written err.old)) (taken_by_sinks (O.written out.new) (E.written err.new)) }
+    ensures over { GoesOver F.device settings.now feeds.old feeds.new (O.written out.old) (E.written err.old)
+        (O.written out.new) (E.written err.new) result
+        (λ sources before after. CompilesAll settings.now sources result (K.kept keeper.new) before after) }
     ensures keeps { KeepsAll settings.now.profile (length settings.now.file_words) result (K.kept keeper.new) }
-    ensures read { ReadsSources settings.now result (known_to_come F.device feeds.old) (known_to_come F.device feeds.new)
-        (taken_by_sinks (O.written out.old) (E.written err.old)) (taken_by_sinks (O.written out.new) (E.written err.new)) }
-    ensures failures { FailsAsAnswered result
-        (failures F.device feeds.old (O.written out.old) (E.written err.old))
-        (failures F.device feeds.new (O.written out.new) (E.written err.new)) }
 {
     let words = settings.file_words();
     let profile = settings.profile();

@@ -23,7 +23,7 @@ use sinks::Sink;
 use tokens::DeviceFault;
 
 /// What takes the programs of good files, in order. It has a mode: in that of listings it puts the listing of each.
-pub(crate) trait TakesPrograms {
+pub trait TakesPrograms {
     /// The programs that it was given, unless it lets them go.
     ghost kept: { Self → Option (List Program) };
 

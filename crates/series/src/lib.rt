@@ -14,7 +14,9 @@ mod totals;
 mod worked_outputs;
 
 pub use battles::Programs;
+pub use compiling::compile_all;
 pub use diagnostic_lines::put_diagnostic;
+pub use keeping::TakesPrograms;
 pub use listings::put_listing;
 pub use run_results::{RunFault, SeriesFault, Status, Step};
 pub use runs::{compile_files, run};

@@ -6,6 +6,7 @@ ghost use Rattle.code.specs.Codes.{AreProgramsOf};
 ghost use Rattle.grammar.specs.Tree.{File};
 ghost use Rattle.series.specs.Compiling.{SourceFile};
 ghost use Rattle.series.specs.Failures.{FailsAsAnswered, AreReady, failures};
+ghost use Rattle.series.specs.FileRuns.{GoesOver};
 ghost use Rattle.series.specs.Output.{Runs};
 ghost use Rattle.series.specs.Pieces.{taken_by_sinks};
 ghost use Rattle.series.specs.Playing.{playing};
@@ -14,7 +15,7 @@ ghost use Rattle.sinks.specs.Puts.{CanFail, CountsSink};
 ghost use Rattle.series.specs.SourceReading.{ReadsSources};
 ghost use Rattle.series.specs.CompiledFiles.{Compiles, PutsPieces};
 ghost use Rattle.series.specs.SourceContents.{AreSources, known_to_come};
-ghost use Rattle.settings.specs.declared.settings.Mode.TheVariants.{Listing, Matches};
+ghost use Rattle.settings.specs.declared.settings.Mode.TheVariants.{Matches};
 
 use crate::compiling::compile_all;
 use crate::keeping::{Keeper, Lister};
@@ -52,31 +53,9 @@ pub fn run<F: Feed, O: Sink, E: Sink>(
         (failures F.device feeds.new (O.written out.new) (E.written err.new)) }
 {
     match settings.mode() {
-        Mode::Listing => list_files(settings, feeds, out, err),
+        Mode::Listing => compile_all(&mut Lister, settings, feeds, out, err),
         Mode::Matches => play_files(settings, feeds, out, err),
     }
-}
-
-/// Compiles the files and lists them.
-fn list_files<F: Feed, O: Sink, E: Sink>(
-    settings: &Settings,
-    feeds: &mut [F],
-    out: &mut O,
-    err: &mut E,
-) -> Result<Status, RunFault>
-    requires listing { settings.now.mode ≡ Listing }
-    requires ready { AreReady F.device (length settings.now.file_words) feeds.old
-        (O.written out.old) (E.written err.old) }
-    ensures output { (sources : List SourceFile) → AreSources sources settings.now.file_words (known_to_come F.device feeds.old)
-        → Runs settings.now sources result (taken_by_sinks (O.written out.old) (E.written err.old))
-        (taken_by_sinks (O.written out.new) (E.written err.new)) }
-    ensures read { ReadsSources settings.now result (known_to_come F.device feeds.old) (known_to_come F.device feeds.new)
-        (taken_by_sinks (O.written out.old) (E.written err.old)) (taken_by_sinks (O.written out.new) (E.written err.new)) }
-    ensures failures { FailsAsAnswered result
-        (failures F.device feeds.old (O.written out.old) (E.written err.old))
-        (failures F.device feeds.new (O.written out.new) (E.written err.new)) }
-{
-    compile_all(&mut Lister, settings, feeds, out, err)
 }
 
 /// Compiles the files, and plays the matches of their programs if no file has a fault.
@@ -92,16 +71,11 @@ fn play_files<F: Feed, O: Sink, E: Sink>(
     requires matches { settings.now.mode ≡ Matches }
     requires ready { AreReady F.device (length settings.now.file_words) feeds.old
         (O.written out.old) (E.written err.old) }
-    ensures output { (sources : List SourceFile) → AreSources sources settings.now.file_words (known_to_come F.device feeds.old)
-        → Runs settings.now sources result (taken_by_sinks (O.written out.old) (E.written err.old))
-        (taken_by_sinks (O.written out.new) (E.written err.new)) }
-    ensures read { ReadsSources settings.now result (known_to_come F.device feeds.old) (known_to_come F.device feeds.new)
-        (taken_by_sinks (O.written out.old) (E.written err.old)) (taken_by_sinks (O.written out.new) (E.written err.new)) }
-    ensures failures { FailsAsAnswered result
-        (failures F.device feeds.old (O.written out.old) (E.written err.old))
-        (failures F.device feeds.new (O.written out.new) (E.written err.new)) }
+    ensures { GoesOver F.device settings.now feeds.old feeds.new (O.written out.old) (E.written err.old)
+        (O.written out.new) (E.written err.new) result
+        (λ sources before after. Runs settings.now sources result before after) }
 {
-    let mut keeper = Keeper::new(settings.mode());
+    let mut keeper = Keeper::new(Mode::Matches);
     match compile_all(&mut keeper, settings, feeds, out, err) {
         Ok(Status::Done) => {
             // For the proof alone: a file that compiles is resolved.
@@ -149,18 +123,13 @@ pub fn compile_files<F: Feed, O: Sink, E: Sink>(
 ) -> Result<Option<Programs>, RunFault>
     requires ready { AreReady F.device (length settings.now.file_words) feeds.old
         (O.written out.old) (E.written err.old) }
-    ensures output { (sources : List SourceFile) → AreSources sources settings.now.file_words (known_to_come F.device feeds.old)
-        → Compiles settings.now sources result (taken_by_sinks (O.written out.old) (E.written err.old))
-        (taken_by_sinks (O.written out.new) (E.written err.new)) }
+    ensures over { GoesOver F.device settings.now feeds.old feeds.new (O.written out.old) (E.written err.old)
+        (O.written out.new) (E.written err.new) result
+        (λ sources before after. Compiles settings.now sources result before after) }
     ensures manned { IfOk result (λ programs. IfSome programs
         (λ programs. length programs ≡ length settings.now.file_words)) }
     ensures profile { IfOk result (λ programs. IfSome programs
         (λ programs. AreOfProfile settings.now.profile programs)) }
-    ensures read { ReadsSources settings.now result (known_to_come F.device feeds.old) (known_to_come F.device feeds.new)
-        (taken_by_sinks (O.written out.old) (E.written err.old)) (taken_by_sinks (O.written out.new) (E.written err.new)) }
-    ensures failures { FailsAsAnswered result
-        (failures F.device feeds.old (O.written out.old) (E.written err.old))
-        (failures F.device feeds.new (O.written out.new) (E.written err.new)) }
 {
     let mut keeper = Keeper::new(settings.mode());
     match compile_all(&mut keeper, settings, feeds, out, err) {

@@ -4,9 +4,7 @@ use Rattle.battles.specs.Pairing.{robots_of}
 use Rattle.page.proofs.insides.next_in.Goals as goal
 
 pub returns : goal.returns
-returns c = record {
-  next = λ programs files code same are here.
-      let are_robots = rw (sym same) at (plain_robots programs c.args.settings.now.profile files are) in
-      rw (c.seed-seed.ensures.value, c.first-number.ensures.value, c.limit-limit.ensures.value) at
-      (c.next_cycle.ensures.next (robots_of c.args.settings.now.profile files) code are_robots (rw same here));
-}
+returns c = λ programs files code same are here.
+    let are_robots = rw (sym same) at (plain_robots programs c.args.settings.now.profile files are) in
+    rw (c.seed-seed.ensures.value, c.first-number.ensures.value, c.limit-limit.ensures.value) at
+    (c.next_cycle.ensures.next (robots_of c.args.settings.now.profile files) code are_robots (rw same here))

@@ -3,13 +3,14 @@ use Rattle.watching.proofs.Playing.{plain_robots}
 use Rattle.battles.specs.Pairing.{paired, robots_of}
 use Rattle.watching.specs.Played.{codes_of}
 use Rattle.page.proofs.KeptFilms.{same_name, same_stretch}
-use Rattle.page.proofs.filming.play_programs.Goals as goal
+use Rattle.page.proofs.filming.play_robots.Goals as goal
 
 pub returns-clause-battle : goal.returns-clause-battle
 returns-clause-battle c = λ files are.
-    let same : codes_of (take c.robots.result c.pilots_of-pilots.result) ≡ paired c.args.programs.now =
+    let programs = c.args.compiled.now.programs.items in
+    let same : codes_of (take c.robots.result c.pilots_of-pilots.result) ≡ paired programs =
     rw c.robots.ensures.robots c.pilots_of-pilots.ensures in
-    let are_robots = rw (sym same) at (plain_robots c.args.programs.now c.args.settings.now.profile files are) in
+    let are_robots = rw (sym same) at (plain_robots programs c.args.settings.now.profile files are) in
     rw (c.seed-seed.ensures.value, c.first-number.ensures.value, c.limit-limit.ensures.value) at
     (c.play.ensures.battle (robots_of c.args.settings.now.profile files) are_robots)
 

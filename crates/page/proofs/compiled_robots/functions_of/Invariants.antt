@@ -1,5 +1,5 @@
 use Rattle.std.proofs.Common.{◌≤◌, length}
-use Rattle.page.proofs.filming.functions_in.Given as goal
+use Rattle.page.proofs.compiled_robots.functions_of.Given as goal
 
 -- as many names as functions so far
 abbrev pub invariant-loop-function : goal.invariant-loop-function

@@ -1,0 +1,18 @@
+use Rattle.std.proofs.Common.{rules}
+use Rattle.page.proofs.explaining.explain_source.Goals as goal
+
+pub returns-in-Warnings : goal.returns-in-Warnings
+returns-in-Warnings c = (c.in-Ok.ensures.compiles c.args.source.now (search rules)).compiles
+
+pub returns-in-Turns : goal.returns-in-Turns
+returns-in-Turns c = (c.in-Ok.ensures.compiles c.args.source.now (search rules)).compiles
+
+pub explain-note-requires : goal.explain-note-requires
+explain-note-requires c =
+    rw c.in-Err-Source.field-0-is at (c.in-Err-Source.ensures.fault c.args.source.now (search rules))
+
+pub returns-after-eq : goal.returns-after-eq
+returns-after-eq c = record {
+  diagnostic = c.in-Err-Source.diagnostic;
+  is = rw c.in-Err-Source.field-0-is at (c.in-Err-Source.ensures.fault c.args.source.now (search rules));
+}
