@@ -52,12 +52,12 @@ pub struct Trouble<'a> {
 
 /// Returns the first suggestion by which a source hasn't a fault any more where its first one is, nor before, if there is
 /// such a one. The only error is that memory is refused.
-pub fn fix_of_fault(
+pub fn fix_of_fault<'a>(
     alloc: Global,
-    source: &[u8],
+    source: &'a [u8],
     profile: Profile,
     fault: &Diagnostic,
-    trouble: &Trouble<'_>,
+    trouble: &Trouble<'a>,
 ) -> Result<Option<Fix>, AllocError>
     ensures { IfOk result (λ found. IfSome found (Repairs profile source.now fault.now)) }
 {

@@ -1,6 +1,6 @@
 use Rattle.std.proofs.Common.{◌≡◌, rules}
 use Rattle.std.specs.Prelude.{Err}
-use Rattle.derivations.specs.Compiling.{Compiles, IsFirstFault}
+use Rattle.derivations.specs.Compiling.{IsFirstFault}
 use Rattle.grammar.specs.Compiled.{compiled}
 use Rattle.grammar.specs.declared.diagnostics.ParseFault.TheVariants.{Source}
 use Rattle.know.proofs.RepairLaws.{later_fault, without_fault}
