@@ -82,6 +82,13 @@ SCRIPTS = (
     Script("crobots-tune", "tune", ("tools", "tuning", "tournaments", "leagues", "results", "sites", "replays"), "crobots"),
 )
 COMMANDS: tuple[Command, ...] = (*PROGRAMS, *SCRIPTS)
+
+
+def packages_of(script: str) -> tuple[str, ...]:
+    """The folders of modules that a script takes."""
+    return next(command.packages for command in SCRIPTS if command.file == script)
+
+
 # The game by itself, which is installed before the others.
 GAME = PROGRAMS[0]
 EXAMPLES = (Example("outline"), Example("folding"), Example("duel"))

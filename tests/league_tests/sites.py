@@ -12,6 +12,7 @@ import subprocess
 import zipfile
 from typing import Callable
 
+from catalog.commands import packages_of
 from leagues.words import Words
 
 from .base import HERE, LEAGUE, Base, League, read, write
@@ -51,7 +52,7 @@ class Sites(Base):
     def the_version_of_the_program(self) -> list[str]:
         """It is that of the file beside the installed scripts, of the program that was installed with them alone."""
         top, scripts = self.at("installed"), os.path.join(HERE, "..", "..", "scripts")
-        for package in ("tools", "leagues", "ladder", "tournaments", "sites", "replays"):
+        for package in packages_of("league"):
             shutil.copytree(os.path.join(scripts, package), f"{top}/share/crobots/lib/{package}")
         os.makedirs(f"{top}/bin")
         for name, path in (("crobots", self._program), ("crobots-league", LEAGUE),

@@ -10,6 +10,7 @@ import signal
 import subprocess
 import time
 
+from catalog.commands import packages_of
 from web_tests.pages import is_in_time
 
 from .base import SCRIPTS, Base, read, write
@@ -48,7 +49,7 @@ class Signals(Base):
     def a_signal_after_all_was_played(self) -> list[str]:
         """While the table is made, and while records are merged: here modules wait there until the signal comes."""
         wait = "import time\ndef ratings(*_: object) -> None:\n    print(end='rating', flush=True)\n    time.sleep(9)\n"
-        for package in ("tools", "tournaments", "sites", "replays"):
+        for package in packages_of("tournament"):
             shutil.copytree(os.path.join(SCRIPTS, package), self._at(f"waiting/{package}"))
         shutil.copy(os.path.join(SCRIPTS, "tournament"), self._at("waiting/tournament"))
         with open(self._at("waiting/tournaments/ratings.py"), "a", encoding="ascii") as module:
