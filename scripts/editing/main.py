@@ -10,7 +10,7 @@ from tools.output import OUTPUT, write_all
 from tools.programs import number
 from tools.running import run as begin
 
-from .words import DEBUGGER, NAME, help_page
+from .words import DEBUGGER, NAME, help_page, usage
 
 ABOUT = {NAME: "Answers an editor's questions about robots, by the Language Server Protocol on standard input and output.",
          DEBUGGER: "Lets an editor step through matches of robots, by the Debug Adapter Protocol on standard input and output."}
@@ -44,4 +44,4 @@ def is_text(word: str) -> bool:
 
 def run(name: str, words: list[str]) -> int:
     """Does what the words ask for; answers the status."""
-    return begin(name, lambda: serve(name, words), f"usage: {name}")
+    return begin(name, lambda: serve(name, words), usage(name))

@@ -12,12 +12,17 @@ HERE = os.path.dirname(os.path.realpath(__file__))
 PAGES = (("..", "..", "docs"), ("..", "..", "..", "doc", "crobots"))
 
 
+def usage(name: str) -> str:
+    return f"usage: {name} [--stdio]"
+
+
 def help_page(name: str, about: str) -> str:
-    return f"""usage: {name}
+    return f"""{usage(name)}
 
 {about}
 
 options:
+  --stdio           changes nothing: some clients say it
   -h, --help        show this page
   --version         show the version
 
