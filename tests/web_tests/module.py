@@ -27,6 +27,8 @@ MOST_SEED = 2**64 - 1
 SECONDS = 120
 MOST_BYTES = 400_000
 CALLS = 1000
+# Of a larger source crobots-stages shows nothing.
+MOST_SHOWN = 262_144
 EXPORTS = ["__heap_base", "explain", "film", "film_windows", "find", "memory", "moment", "order_bytes", "places", "robot_bytes", "run",
            "sheet_bytes", "target_bytes", "turns"]
 TOKEN = re.compile(rb"[A-Za-z_]\w*|\d+|<<=|>>=|\+\+|--|&&|\|\||[-+*/%&|^<>=!]=|<<|>>|[^\s\x1a]")
@@ -332,7 +334,7 @@ def places(crobots: str, stages: str, folder: str) -> list[str]:
         for (line, column), instruction in zip(where, code):
             token = token_at(source, line, column)
             wrong += [] if comes_from(instruction, token) else [f"{name}:{line}:{column}: {instruction} from {token}"]
-        if [line for line, _ in where] != lines_of_code(stages, name, source, profile):
+        if len(source) <= MOST_SHOWN and [line for line, _ in where] != lines_of_code(stages, name, source, profile):
             wrong.append(f"{name}, profile {profile}: lines other than those of stages")
     return wrong
 
@@ -347,10 +349,10 @@ def any_blocks(folder: str) -> list[str]:
     wrong = [f"imports: {told['imports']}"] if told["imports"] else []
     wrong += [] if sorted(told["exports"]) == EXPORTS else [f"exports: {told['exports']}"]
     wrong += [] if set(told["codes"]) >= {"0", "1", "2"} and set(told["codes"]) <= {"0", "1", "2", "4", "6"} else [f"codes: {told['codes']}"]
-    wrong += [] if told["inside"] == [2] * 7 else [f"inside of the memory: {told['inside']}"]
-    # each of three calls with five words, two with six, and two with four, with each word so: the memory's end, and five numbers
+    wrong += [] if told["inside"] == [2] * 8 else [f"inside of the memory: {told['inside']}"]
+    # each of four calls with five words, two with six, and two with four, with each word so: the memory's end, and five numbers
     # beyond it
-    return wrong + ([] if told["ends"] == ["ended"] * 210 else [f"outside of the memory: {told['ends']}"])
+    return wrong + ([] if told["ends"] == ["ended"] * 240 else [f"outside of the memory: {told['ends']}"])
 
 
 def explanations(folder: str) -> list[str]:
