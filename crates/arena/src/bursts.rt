@@ -8,8 +8,8 @@ ghost use Rattle.arena.specs.Due.{burst_damage};
 
 use crate::points::Point;
 use crate::rules::{
-    INNER_RING, LAST_RING, LAST_RING_DAMAGE, MIDDLE_RING, MIDDLE_RING_DAMAGE, MOST_BURST_DAMAGE,
-    MOST_BURSTS, MOST_ROBOTS, MOST_UPDATE_DAMAGE,
+    INNER_RING, INNER_RING_DAMAGE, LAST_RING, LAST_RING_DAMAGE, MIDDLE_RING, MIDDLE_RING_DAMAGE,
+    MOST_BURST_DAMAGE, MOST_BURSTS, MOST_ROBOTS, MOST_UPDATE_DAMAGE,
 };
 
 /// The squared radius of each ring.
@@ -111,7 +111,7 @@ fn ring(square: u32) -> u8
     ensures most { result ≤ MOST_BURST_DAMAGE }
 {
     if square <= INNER_SQUARE {
-        MOST_BURST_DAMAGE
+        INNER_RING_DAMAGE
     } else if square <= MIDDLE_SQUARE {
         MIDDLE_RING_DAMAGE
     } else if square <= LAST_SQUARE {

@@ -64,14 +64,17 @@ pub const MIDDLE_RING: u16 = 200;
 /// The radius of the last ring of a burst, the widest.
 pub const LAST_RING: u16 = 400;
 
-/// What a burst takes in the inner ring, and the most that a burst takes.
-pub const MOST_BURST_DAMAGE: u8 = 10;
+/// What a burst takes in the inner ring.
+pub const INNER_RING_DAMAGE: u8 = 10;
 
 /// What a burst takes in the middle ring.
 pub const MIDDLE_RING_DAMAGE: u8 = 5;
 
 /// What a burst takes in the last ring.
 pub const LAST_RING_DAMAGE: u8 = 3;
+
+/// The most that a burst takes.
+pub const MOST_BURST_DAMAGE: u8 = INNER_RING_DAMAGE;
 
 /// The most that the bursts of an update take.
 pub const MOST_UPDATE_DAMAGE: u8 = MOST_BURSTS as u8 * MOST_BURST_DAMAGE;

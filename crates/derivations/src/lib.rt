@@ -22,7 +22,7 @@ mod walks;
 pub use addresses::{MOST_PLACES, SourcePosition, SourcePositions, lines};
 pub use candidates::{Fitting, MOST_FITTING, fitting, spelled};
 pub use choices::{choice, enters};
-pub use compiling::{Compiled, compile, positions_of};
+pub use compiling::{Compiled, CompiledSource, compile, compile_source, positions_of};
 pub use emissions::{Emission, MOST_ACTIONS, Origin};
 pub use locations::{Located, MOST_TOKENS, Tokens, locate, locate_in};
 pub use source_tree::{Body, MOST_NODES, Node, NodeKind, SourceTree};

@@ -2,7 +2,7 @@
 
 ghost use Rattle.std.specs.Prelude.{◌<◌, ◌≤◌, length};
 
-use crate::notes::{NotedProgram, name_text};
+use crate::notes::NotedProgram;
 use crate::spelling::{add_call, add_instruction, add_words, name_in};
 use arena::{Arena, MOST_ROBOTS};
 use code::{Machine, Want};
@@ -128,7 +128,7 @@ fn add_calls(text: &mut Draft, noted: &NotedProgram<'_>, machine: &Machine) {
 /// Adds a row of this kind for each name and its value.
 fn add_values(text: &mut Draft, kind: &str, names: &[Name], values: &[i32]) {
     for (name, value) in names.iter().zip(values) {
-        writeln!(text, "{kind}\t{}\t{value}", name_text(name));
+        writeln!(text, "{kind}\t{}\t{value}", name.as_str());
     }
 }
 

@@ -3,12 +3,11 @@
 ghost use Rattle.std.specs.Prelude.{◌≡◌, ◌<◌, ◌≤◌, IfOk, length};
 
 use code::Program;
-use derivations::{Compiled, SourcePositions, compile, positions_of};
+use derivations::{SourcePositions, compile_source};
 use grammar::{Name, ParseFault, Pools};
 use settings::{MOST_FILES, Settings};
 use std::alloc::{AllocError, Global};
 use std::str;
-use tokens::{MemoryFeed, WINDOW_BYTES};
 use tools::{Fault, name_of, source_of, tell_diagnostic, visible};
 use watching::function_at;
 
@@ -37,7 +36,7 @@ impl Note {
     /// Returns the name of the function of this number.
     pub fn function_name(&self, number: usize) -> &str {
         match self.names.functions().get(number) {
-            Some(function) => name_text(function.name()),
+            Some(function) => function.name().as_str(),
             None => "?",
         }
     }
@@ -66,11 +65,6 @@ fn line_length(text: &[u8]) -> usize {
         }
     }
     text.len()
-}
-
-/// Returns a name as text.
-pub fn name_text(name: &Name) -> &str {
-    str::from_utf8(name.as_bytes()).unwrap_or("?")
 }
 
 /// A program, and what is known of its file beside it.
@@ -165,18 +159,16 @@ fn compiled_file(
     word: &str,
 ) -> Result<Option<(Program, Note)>, Fault> {
     let text = source_of(rt, program, word)?;
-    let mut feed = MemoryFeed::new(text.as_slice(), WINDOW_BYTES);
-    match compile(wish.profile(), &mut feed) {
-        Ok(Compiled { program, names }) => {
-            // a program has a position in its source for each instruction
-            let positions = positions_of(&program, text.as_slice()).ok_or(Fault::Source)?;
+    match compile_source(wish.profile(), text.as_slice()) {
+        Ok(made) => {
             let note = Note {
                 name: plain(rt.alloc(), name_of(word).as_bytes())?,
                 text,
-                positions,
-                names,
+                // a program has a position in its source for each instruction
+                positions: made.positions.ok_or(Fault::Source)?,
+                names: made.names,
             };
-            Ok(Some((program, note)))
+            Ok(Some((made.program, note)))
         }
         Err(ParseFault::Source(diagnostic)) => {
             tell_diagnostic(rt, word, &diagnostic);

@@ -1,6 +1,6 @@
 //! How instructions, words of a stack, and calls are written.
 
-use crate::notes::{NotedProgram, name_text};
+use crate::notes::NotedProgram;
 use code::Instr;
 use grammar::{Callee, Intrinsic, Name, Var};
 use listings::instruction_text;
@@ -49,7 +49,7 @@ pub fn name_in<'a>(noted: &NotedProgram<'a>, address: usize) -> &'a str {
 /// Returns the name of this number.
 fn name_at(names: &[Name], number: u8) -> &str {
     match names.get(usize::from(number)) {
-        Some(name) => name_text(name),
+        Some(name) => name.as_str(),
         None => "",
     }
 }

@@ -13,7 +13,6 @@ use arena::{Arena, MOST_BURSTS};
 use code::{Cause, Intrinsic};
 use derivations::SourcePositions;
 use series::MOST_CYCLES;
-use std::str;
 use watching::{
     Camera, Event, Exchange, FILM_COLUMNS, FilmRows, Listener, Pilot, Place, Stance, Turn,
     UPDATE_CYCLES, Watcher, function_at, word_of,
@@ -268,7 +267,7 @@ pub(crate) fn add_columns(sheet: &mut Sheet) {
 fn function_name(files: &[Functions], robot: usize, number: usize) -> &str {
     let file = if files.len() == 1 { 0 } else { robot };
     match files.get(file).and_then(|functions| functions.get(number)) {
-        Some(name) => str::from_utf8(name.as_bytes()).unwrap_or("?"),
+        Some(name) => name.as_str(),
         None => "?",
     }
 }

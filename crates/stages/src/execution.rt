@@ -4,7 +4,6 @@ ghost use Rattle.code.specs.ReachedMachines.{IsReachable};
 
 use crate::replies::Replies;
 use crate::robots::Robot;
-use crate::texts::text_of;
 use code::{Cause, Instr, Intrinsic, Machine, Want};
 use std::alloc::AllocError;
 
@@ -46,7 +45,7 @@ fn add_start(text: &mut String, robot: &Robot, machine: &Machine) -> Result<(), 
     let mut is_first = true;
     for (name, value) in values.chain(externals.zip(machine.externals())) {
         let mark = if is_first { "  ; " } else { ", " };
-        write!(text, "{mark}{} = {value}", text_of(name))?;
+        write!(text, "{mark}{} = {value}", name.as_str())?;
         is_first = false;
     }
     text.push('\n')

@@ -7,9 +7,8 @@ ghost use Rattle.listings.specs.Spelling.{instr_text};
 ghost use Rattle.stages.specs.Owners.{Owns};
 
 use crate::origins::Origins;
-use crate::texts::text_of;
 use code::{Instr, Program};
-use derivations::Compiled;
+use derivations::CompiledSource;
 use grammar::{Callee, Name, Pools, Var};
 use listings::instruction_text;
 use std::alloc::{AllocError, Global};
@@ -26,20 +25,28 @@ pub struct Robot {
 }
 
 impl Robot {
-    /// Makes the robot of what its source compiles to, and of the lines of its instructions.
-    pub fn new(made: Compiled, origins: Origins) -> Robot {
-        let Compiled { program, names } = made;
-        Robot {
+    /// Makes the robot of what its source compiles to. It knows the lines of its first instructions, at most this many.
+    pub fn new(alloc: Global, made: CompiledSource, most: usize) -> Result<Robot, AllocError> {
+        let CompiledSource {
+            program,
+            names,
+            positions,
+        } = made;
+        let origins = match &positions {
+            Some(found) => Origins::of(alloc, found, most)?,
+            None => Origins::none(alloc),
+        };
+        Ok(Robot {
             program,
             names,
             origins,
-        }
+        })
     }
 
     /// Returns the name of the function of this number.
     pub fn function_name(&self, number: usize) -> &str {
         match self.names.functions().get(number) {
-            Some(function) => text_of(function.name()),
+            Some(function) => function.name().as_str(),
             None => "?",
         }
     }
@@ -58,7 +65,7 @@ impl Robot {
             Var::External(number) => self.names.externals().get(usize::from(number)),
             Var::Local(number) => self.variables(function).get(usize::from(number)),
         };
-        name.map_or("?", text_of)
+        name.map_or("?", Name::as_str)
     }
 
     /// Returns the instruction of an address as a listing has it, and nothing past the last one.

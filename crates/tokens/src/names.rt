@@ -1,6 +1,6 @@
 //! Names, in arrays of fixed size.
 
-ghost use Rattle.std.specs.Prelude.{◌≡◌, ◌∷◌, [], ◌++◌, ◌<◌, ◌≤◌, ◌↔◌, IsTrue, true, length};
+ghost use Rattle.std.specs.Prelude.{◌≡◌, ◌∷◌, [], ◌++◌, ◌<◌, ◌≤◌, ◌↔◌, IsTrue, IsUtf8, true, length};
 ghost use Rattle.std.specs.Str.{bytes_eq};
 ghost use Rattle.tokens.specs.TokenLimits.{most_name_bytes};
 ghost use Rattle.tokens.specs.Lexing.{BeginsName};
@@ -8,6 +8,7 @@ ghost use Rattle.tokens.specs.Lexing.{BeginsName};
 use crate::characters::is_name_byte;
 use crate::token_limits::MOST_NAME_BYTES;
 use std::marker::Model;
+use std::str;
 
 /// A name of at most `MOST_NAME_BYTES` bytes. Its value is the list of its bytes.
 #[derive(Clone, Copy, Debug, PartialEq, Eq)]
@@ -117,6 +118,13 @@ impl Name {
         ensures bounded { length result.now ≤ most_name_bytes }
     {
         &self.bytes[..self.len as usize]
+    }
+
+    /// Returns it as text. The names of a source are ASCII; of other bytes that are no text it is a question mark.
+    pub fn as_str(&self) -> &str
+        ensures { IsUtf8 self.now → result.now ≡ self.now }
+    {
+        str::from_utf8(self.as_bytes()).unwrap_or("?")
     }
 
     /// Reports whether it is this name. Most others differ in their length or in one of their first bytes.

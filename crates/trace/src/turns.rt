@@ -8,7 +8,7 @@ use crate::tellers::Teller;
 use arena::{Arena, MOST_ROBOTS};
 use code::{Cause, Machine};
 use grammar::{MOST_NAMES, Name};
-use notes::{NotedProgram, Sources, add_call, add_instruction, add_words, name_in, name_text};
+use notes::{NotedProgram, Sources, add_call, add_instruction, add_words, name_in};
 use std::alloc::AllocError;
 use tools::{Draft, Fault, Text};
 use watching::{Exchange, Pilot, Turn, Watcher};
@@ -131,7 +131,7 @@ fn add_changes(text: &mut Draft, names: &[Name], before: &[i32], after: &[i32]) 
     for ((name, old), new) in names.iter().zip(before).zip(after) {
         if new != old {
             text.add(if is_first { "" } else { " " });
-            write!(text, "{}={new}", name_text(name));
+            write!(text, "{}={new}", name.as_str());
             is_first = false;
         }
     }

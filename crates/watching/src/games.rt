@@ -161,16 +161,9 @@ impl Game {
         let is_decided = update_after(&mut self.arena, watcher, cycle);
         self.ending = PlayEnd {
             cycles: cycle,
-            is_over: is_last(is_decided, cycle, self.limit),
+            is_over: is_decided || cycle == self.limit,
         };
     }
-}
-
-/// Reports whether a cycle is a match's last one: it decides the match, or reaches the limit.
-fn is_last(is_decided: bool, cycle: u32, limit: u32) -> bool
-    ensures { result ≡ (is_decided || cycle == limit) }
-{
-    is_decided || cycle == limit
 }
 
 /// Plays the match of this number and seed before a watcher, up to its end, or until the watcher wants no more: at most

@@ -5,7 +5,6 @@ ghost use Rattle.std.specs.Prelude.{◌≡◌, ◌<◌, ◌-◌, ◌^◌, false}
 use lang::{Code, Diagnostic, FunctionTree, ParseFault, Pools, Profile, TreeMaker, parse};
 use std::alloc::Global;
 use std::process::Abort;
-use std::str;
 use std::test::Fail;
 use tokens::{MemoryFeed, Name};
 
@@ -119,7 +118,7 @@ pub fn shown(alloc: Global, outcome: &Observed) -> Result<String, Fail> {
 /// Adds a function's name, those of its variables, and its tree.
 fn add_function(text: &mut String, names: &Pools, tree: &FunctionTree) -> Result<(), Fail> {
     if let Some(function) = names.functions().get(tree.number as usize) {
-        text.push_str(str::from_utf8(function.name().as_bytes())?)?;
+        text.push_str(function.name().as_str())?;
         add_names(text, function.variables())?;
     }
     write!(text, ": {tree:?}")?;
@@ -130,7 +129,7 @@ fn add_function(text: &mut String, names: &Pools, tree: &FunctionTree) -> Result
 fn add_names(text: &mut String, names: &[Name]) -> Result<(), Fail> {
     for name in names {
         text.push_str(" ")?;
-        text.push_str(str::from_utf8(name.as_bytes())?)?;
+        text.push_str(name.as_str())?;
     }
     Ok(())
 }
