@@ -17,6 +17,7 @@ ABOUT = {NAME: "Answers an editor's questions about robots, by the Language Serv
 SERVERS = {NAME: ("editing.serving", "Server"), DEBUGGER: ("editing.debugging", "Adapter")}
 # Words that clients add by themselves: there is no other way of transport.
 TRANSPORTS = {"--stdio"}
+VERSION = "--version"
 
 
 def serve(name: str, words: list[str]) -> int:
@@ -26,10 +27,10 @@ def serve(name: str, words: list[str]) -> int:
         raise Misuse(f"{strange} is no text")
     if {*asked} & {"-h", "--help"}:
         write_all(OUTPUT, help_page(name, ABOUT[name]).encode())
-    elif asked and {*asked} == {"--version"}:
+    elif asked and {*asked} == {VERSION}:
         write_all(OUTPUT, f"{name} {number()}\n".encode())
-    elif asked:
-        raise Misuse(f"unknown option {asked[0]}" if asked[0].startswith("-") else f"{asked[0]}: no file is read")
+    elif unknown := next((word for word in asked if word != VERSION), None):
+        raise Misuse(f"unknown option {unknown}" if unknown.startswith("-") else f"{unknown}: no file is read")
     else:
         module, server = SERVERS[name]
         made: Callable[[], object] = getattr(importlib.import_module(module), server)
