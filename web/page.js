@@ -23,6 +23,8 @@ import {Worths} from "./worths.js";
 // how much room versions take at most: in a database, and where there is only the storage of texts
 const MOST_BYTES = 24 * 1024 * 1024;
 const MOST_LOCAL_BYTES = 6 * 1024 * 1024;
+// what does nothing before the editor is there
+const FURNISHED = ["add", "name", "find", "new", "wanted-battle", "export"];
 // for so long the editor waits for the match that is shown
 const MILLISECONDS_FIRST = 1500;
 
@@ -94,6 +96,7 @@ class Page {
         this.finder = new Finder(editor);
         helpWriting(editor, data.functions);
         this.showSteps();
+        FURNISHED.forEach(id => { byId(id).disabled = false; });
         store.changed();
     }
 
@@ -196,7 +199,6 @@ export async function embed(module) {
 /** Makes the page of what it is built with and of the module: from a file nothing can be fetched, so all of it is a script. */
 export async function make(module) {
     const data = globalThis.CROBOTS;
-    byId("main").hidden = false;
     const address = workerOf(data);
     // the module is compiled in its worker meanwhile
     const newCaller = () => new Caller(address, module);
@@ -208,6 +210,8 @@ export async function make(module) {
     const kept = await keeper.load();
     const page = new Page(runner, data, keeper);
     page.store.take(kept);
+    // seen when each press is heard
+    byId("main").hidden = false;
     const isFirst = page.keeping.begin(battle, data.robots);
     const shown = page.playing.begin(battle && (linkedMoment(location.hash, battle) ?? {number: battle.settings.first, cycle: 0}), isFirst);
     byId("source").value = page.store.robot.source;

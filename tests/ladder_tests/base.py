@@ -34,6 +34,8 @@ NAMES = ("crobots", "crobots-why", "crobots-trace")
 SHOOTER, IDLE, BAD = "main(){while(1)cannon(0,0);}", "main(){while(1);}", "main(){\nbreak; }"
 # For an answer, on a machine that has much else to do.
 SECONDS = 600
+# By hand, the processors of the server and the player alone, as `0,1`.
+PROCESSORS = os.environ.get("LADDER_PROCESSORS", "")
 # It is about noon here: so no day ends while tests run, and programs that they run have this zone, too.
 os.environ["TZ"] = f"NOON{time.gmtime().tm_hour - 12:+d}"
 time.tzset()
@@ -101,8 +103,9 @@ class Ladder:
 
     def serve(self, *words: str) -> None:
         """Serves the league by `crobots-league serve`, and waits until it answers."""
+        apart = ["taskset", "-c", PROCESSORS] if PROCESSORS else []
         with open(f"{self.folder}.said", "a", encoding="utf-8") as said:
-            self.process = subprocess.Popen([LEAGUE, "serve", self.folder, "--port", str(self.port), "-j2", *words], env=self.environment, text=True,
+            self.process = subprocess.Popen([*apart, LEAGUE, "serve", self.folder, "--port", str(self.port), "-j2", *words], env=self.environment, text=True,
                                             stdout=subprocess.PIPE, stderr=said, start_new_session=True)
         assert self.process.stdout
         self.said = self.process.stdout.readline()

@@ -1,6 +1,7 @@
 """Many authors and many readers at once, many requests one after another, and a new robot in a full table.
 
-By hand with LADDER_AUTHORS=200 and LADDER_READERS=500 the times are judged, too; LADDER_ASKED=100000 and LADDER_FIELD=60 make the others long."""
+By hand with LADDER_AUTHORS=200 and LADDER_READERS=500 the times are judged, too; LADDER_ASKED=100000 and LADDER_FIELD=60 make the others long.
+LADDER_PROCESSORS=0,1 keeps server and player to two processors; whoever asks is given the others by `taskset`."""
 
 from __future__ import annotations
 

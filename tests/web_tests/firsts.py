@@ -23,6 +23,14 @@ WATCH = """if (top === window) { const look = () => { const player = document.ge
 # the editor's script doesn't come
 NO_EDITOR = """const append = Element.prototype.append;
     Element.prototype.append = function (...parts) { if (!parts[0]?.src?.endsWith('/codemirror.js')) append.apply(this, parts); }"""
+# notes what listens, and which buttons and fields of the page that is first shown do nothing: neither they nor their form listens
+LISTENING = """if (top === window) { const add = EventTarget.prototype.addEventListener, heard = new Map();
+    EventTarget.prototype.addEventListener = function (kind, ...rest) { heard.set(this, [...heard.get(this) ?? [], kind]); add.call(this, kind, ...rest); };
+    const hears = (it, kinds) => kinds.some(kind => heard.get(it)?.includes(kind));
+    window.idle = () => [...document.querySelectorAll('#main button, #main input')].filter(it => !it.disabled && !it.closest('[hidden]')
+        && !hears(it, it.tagName === 'INPUT' ? ['input', 'change'] : ['click']) && !(it.form && hears(it.form, ['submit', 'input']))).map(it => it.id);
+    document.addEventListener('DOMContentLoaded', () => new MutationObserver(() => { window.firstIdle ??= window.idle(); })
+        .observe(document.getElementById('main'), {attributeFilter: ['hidden']})); }"""
 # the most milliseconds until then, by hand, on a processor that is slowed down four times; and in any case the most that the page's thread
 # takes of one that isn't. Of some openings the fastest counts
 MOST, SLOWDOWN, MOST_BUSY, OPENINGS = 1000, 4, 400, 5
@@ -178,6 +186,20 @@ def before_the_editor(page: Page) -> list[str]:
     return [] if report.startswith("Match 1: ") and not mirrors else [f"{report[:80]} {mirrors}"]
 
 
+def heard(page: Page) -> list[str]:
+    """No press is lost: what is shown does what it says from the first moment on, or is disabled until it does."""
+    page.forget()
+    with page.before(LISTENING):
+        with page.before(NO_EDITOR):
+            page.driver.get(page.address)
+            page.wait(MOVES)
+            idle = page.js("return [firstIdle, idle()]")
+        page.driver.get(page.address)
+        page.wait("return document.querySelector('.CodeMirror')")
+        idle += page.js("return [firstIdle, idle(), [...document.querySelectorAll('#main button[disabled], #main input[disabled]')].map(it => it.id)]")
+    return [] if idle == [[], [], [], [], ["stop"]] else [f"{idle}"]
+
+
 def samples_are_there(page: Page) -> list[str]:
     """The robots of the match are those in the tabs."""
     page.fresh()
@@ -190,7 +212,7 @@ SHOWN: dict[str, Callable[[Page], list[str]]] = {
     "in sight": in_sight, "drawers": drawers, "a robot that beats it": beat, "at once": at_once, "by a link": by_link, "a link that is faulty": faulty_link,
     "coming back": back, "its robots": samples_are_there,
 }
-DRIVEN: dict[str, Callable[[Page], list[str]]] = {"no motion": calm, "before the editor": before_the_editor, "soon": soon}
+DRIVEN: dict[str, Callable[[Page], list[str]]] = {"no motion": calm, "before the editor": before_the_editor, "no press is lost": heard, "soon": soon}
 
 
 def results(page: Page, is_chromium: bool = False) -> Iterator[tuple[str, list[str]]]:
