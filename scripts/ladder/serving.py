@@ -37,6 +37,8 @@ LOCAL = "127.0.0.1"
 # An address that is nobody's: the way to it begins at this machine's own one.
 NOWHERE = ("192.0.2.1", 9)
 PAUSE = 1.0
+# How much the player, and what it runs, stand behind the server.
+NICE = 10
 
 
 def serve(given: argparse.Namespace) -> None:
@@ -124,7 +126,8 @@ def options(site: Site) -> dict[str, Any]:
 
 
 def play(given: argparse.Namespace) -> None:
-    """The player. If somebody else plays the league, it waits for its turn."""
+    """The player. If somebody else plays the league, it waits for its turn. Whoever waits for an answer comes first."""
+    os.nice(NICE)
     while True:
         try:
             players.run(given.script, given.league, given.crobots, given.jobs, lambda: None)
