@@ -7,11 +7,13 @@ import functools
 import hashlib
 import json
 import os
+import threading
 from dataclasses import asdict, dataclass, fields
 
 from tools.output import replaced
 
 FOLDER, NAME = "ladder", "table.json"
+reading = threading.Lock()
 TAG_LETTERS = 20
 
 
@@ -76,12 +78,15 @@ def write(league: str, it: Live) -> None:
 
 
 def read(league: str) -> Live:
-    """The table that was written last; an empty one if there is none. It is read once, as many ask for it."""
+    """The table that was written last; an empty one if there is none. It is read once, however many ask for it at a time."""
     try:
         it = os.stat(path_of(league))
     except OSError:
         return Live()
-    return parsed(league, (it.st_ino, it.st_mtime_ns, it.st_size))
+    with reading:
+        found = parsed(league, (it.st_ino, it.st_mtime_ns, it.st_size))
+        _ = found.tag  # so this is worked out once, too
+    return found
 
 
 @functools.lru_cache(8)

@@ -2,6 +2,7 @@
 
 from __future__ import annotations
 
+import threading
 import time
 from typing import Iterable, Mapping, Sequence
 
@@ -33,6 +34,7 @@ TEXTAREA_ROWS = 18
 # The tables that were made of late, each with its time, and for how many seconds one is taken again.
 KEPT = 2.0
 kept: dict[tuple[str, str], tuple[float, Markup]] = {}
+making = threading.Lock()
 
 
 def robot_link(site: Site, robot: str, shown: Mapping[str, str]) -> Markup:
@@ -48,14 +50,15 @@ def authors_shown(store: Store) -> dict[str, str]:
 
 
 def standing(site: Site, store: Store, it: Live) -> Markup:
-    """The live table, which is replaced as it stands. It is made once, as many ask for it, and anew when names may be others."""
+    """The live table, which is replaced as it stands. It is made once, however many ask for it at a time, and anew when names may be others."""
     key = site.folder, it.tag
-    made = kept.get(key)
-    if made is None or made[0] + KEPT < time.monotonic():
-        if len(kept) > 8:
-            kept.clear()
-        made = kept[key] = time.monotonic(), rendered(site, store, it)
-    return made[1]
+    with making:
+        made = kept.get(key)
+        if made is None or made[0] + KEPT < time.monotonic():
+            if len(kept) > 8:
+                kept.clear()
+            made = kept[key] = time.monotonic(), rendered(site, store, it)
+        return made[1]
 
 
 def rendered(site: Site, store: Store, it: Live) -> Markup:

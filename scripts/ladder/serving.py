@@ -37,6 +37,8 @@ LOCAL = "127.0.0.1"
 # An address that is nobody's: the way to it begins at this machine's own one.
 NOWHERE = ("192.0.2.1", 9)
 PAUSE = 1.0
+# For so many seconds one of the server's threads goes on while others wait.
+SWITCH = 0.0005
 # How much the player, and what it runs, stand behind the server.
 NICE = 10
 
@@ -113,7 +115,8 @@ def clean() -> None:
 
 
 def web(waitress: Any, site: Site, heard: socket.socket) -> None:
-    """The web server."""
+    """The web server. The thread that hears all waits for the others no longer than this."""
+    sys.setswitchinterval(SWITCH)
     app = importlib.import_module("ladder.app").made(site)
     waitress.serve(app, sockets=[heard], **options(site))
 
