@@ -10,13 +10,14 @@ from itertools import groupby
 from operator import itemgetter
 from typing import Iterable, Iterator, NamedTuple
 
+from .schema import DAMAGE
 from .store import Store
 
 BEGIN = "crobots league 1"
 # The tables whose rows are hashed, in this order. Of removed matches there are two lines: as a match, and as removed.
 TABLES = ("robot", "entry", "season", "ruling", "ending", "correction", "member", "worker", "seating", "battle",
           "removal", "removed", "publication", "standing", "handed", "code")
-BATTLE = "seating, number, cycles, damage1, damage2, damage3, damage4, day, worker, publication"
+BATTLE = f"seating, number, cycles, {DAMAGE}, day, worker, publication"
 QUERIES = {
     "battle": f"SELECT publication, {BATTLE} FROM (SELECT 1 AS stands, 0 AS removal, {BATTLE} FROM battle UNION ALL "
               f"SELECT 0, removal, {BATTLE} FROM removed) WHERE publication > ? "

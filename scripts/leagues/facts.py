@@ -7,11 +7,11 @@ from collections import defaultdict
 from dataclasses import dataclass, replace
 from typing import Iterable, Iterator, Sequence
 
-from results.battles import DEAD
 from results.standings import Standing
 from sites.facts import Battle, Facts, Pair, Program, Robot, Seat, Settings, Sums, Table, Version
 from sites.facts import Season as SiteSeason
 from sites.gathering import Gathering
+from tools.rules import DEADLY
 
 from .entries import WITHDRAW, Entrant, Entry, entries, source
 from .naming import names as given_names
@@ -172,7 +172,7 @@ def gathered(them: Iterable[tuple[tuple[str, str], Seated]], results: Results, r
             battles = [battle(robots, seed, it) for it in played]
             found.add(battles)
             for at, robot in enumerate(robots):
-                there = [(it.day, one) for it, one in zip(played, battles) if it.match.damage[at] >= DEAD]
+                there = [(it.day, one) for it, one in zip(played, battles) if it.match.damage[at] >= DEADLY]
                 lost[robot] = last_ones([*lost[robot], *there])
     return found, lost
 

@@ -34,12 +34,13 @@ from .results import Results, ended
 from .schedules import Schedule
 from .seasons import Season, field, seasons
 from .standings import standings
+from .schema import DAMAGE
 from .store import Store
 
 MATCHES = 100
 # Most matches that are replayed by one run of the program.
 RUN = 100
-COLUMNS = "seating, number, cycles, damage1, damage2, damage3, damage4 FROM battle"
+COLUMNS = f"seating, number, cycles, {DAMAGE} FROM battle"
 
 
 @dataclass(frozen=True)

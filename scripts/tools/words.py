@@ -1,4 +1,4 @@
-"""Words of command lines whose values are judged by the program that they are handed on to."""
+"""Words of command lines whose values are judged by the program that they are handed on to, and what pages of help say of them."""
 
 from __future__ import annotations
 
@@ -6,8 +6,17 @@ from dataclasses import dataclass, field
 from typing import Collection
 
 from .faults import Misuse
+from .rules import CYCLES_DEFAULT, FIRST_DEFAULT, MOST_PROFILE, PROFILE_DEFAULT, SEED_DEFAULT
 
 FLAGS = ("-h", "--help", "--version")
+PROFILES = tuple(map(str, range(1, MOST_PROFILE + 1)))
+PROFILE_HELP = f"language profile, {' or '.join(PROFILES)} (default {PROFILE_DEFAULT})"
+# What a page of help says of the options by which one match is chosen.
+MATCH_HELP = f"""  -k, -f MATCH      number of the match (default {FIRST_DEFAULT})
+  -l CYCLES         most cycles of the match (default {CYCLES_DEFAULT})
+  -s SEED           seed of the random numbers (default {SEED_DEFAULT})
+  -p PROFILE        {PROFILE_HELP}
+"""
 
 
 @dataclass(frozen=True)
