@@ -42,7 +42,8 @@ def for_scripts() -> str:
     each = {f"MOST_{name}": value for name, value in numbers("most").items()}
     each |= {f"{name}_DEFAULT": value for name, value in numbers("default").items()} | numbers("field")
     lines = (f"{name.upper()} = {value}" for name, value in each.items())
-    return "\n".join(('"""The rules of the game in numbers. Made by dev/rules of what crates/rules writes, and not changed by hand."""', "", *lines, ""))
+    head = '"""The rules of the game in numbers. Made by dev/rules of what crates/rules writes, and not changed by hand."""'
+    return "\n".join((head, "", *lines, ""))
 
 
 def for_page() -> str:

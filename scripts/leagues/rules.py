@@ -87,6 +87,6 @@ def played_by(it: Rules, program: Program) -> Rules:
 def rules(text: str) -> Rules:
     """The rules of a text that `Rules.text` made."""
     said: dict[str, Any] = json.loads(text)
-    known = {it.name for it in fields(Rules)}
+    known = {field.name for field in fields(Rules)}
     values = {name: tuple(value) if isinstance(value, list) else value for name, value in said.items() if name in known}
     return Rules(**values)

@@ -39,21 +39,21 @@ class Given:
     def handed_on(self, but: Collection[str] = (), more: Collection[str] = ()) -> list[str]:
         """The words of all options but some, more words, and the files, which none can take for options."""
         dashes = ["--"] if any(file.startswith("-") for file in self.files) else []
-        return [*(word for it in self.options if it.name not in but for word in it.words), *more, *dashes, *self.files]
+        return [*(word for option in self.options if option.name not in but for word in option.words), *more, *dashes, *self.files]
 
     def last(self, *names: str) -> str | None:
         """The value that one of these options has last."""
-        return next((it.value for it in reversed(self.options) if it.name in names), None)
+        return next((option.value for option in reversed(self.options) if option.name in names), None)
 
     def once(self, name: str) -> str | None:
         """The value of an option that may be given once."""
-        if len([it for it in self.options if it.name == name]) > 1:
+        if len([option for option in self.options if option.name == name]) > 1:
             raise Misuse(f"{name} is given twice")
         return self.last(name)
 
     def some_files(self) -> Given:
         """The same words, if they name files; else a value may be the file that is missing."""
-        taken = [it for it in self.options if len(it.words) > 1 and not (it.value.isascii() and it.value.isdigit())]
+        taken = [option for option in self.options if len(option.words) > 1 and not (option.value.isascii() and option.value.isdigit())]
         if not self.files and not self.flags & {*FLAGS}:
             raise Misuse(f"no file: {taken[-1].name} took {taken[-1].value} for its value" if taken else "")
         return self
