@@ -26,4 +26,7 @@ export const Limits = Object.freeze({
 export const Usual = Object.freeze({
     matches: 1, limit: 500000, first: 1, profile: 1, seed: 1n,
 });
+
+/** The damage at which a robot is dead. */
+export const DEADLY = 100;
 // to here

@@ -48,7 +48,7 @@ def for_scripts() -> str:
 
 def for_page() -> str:
     """What the page has of the limits of a run, and of one of which nothing is said."""
-    most, usual = numbers("most"), numbers("default")
+    most, usual, field = numbers("most"), numbers("default"), numbers("field")
     return f"""/** The limits of a run. */
 export const Limits = Object.freeze({{
     robots: {most["files"]},
@@ -65,4 +65,7 @@ export const Limits = Object.freeze({{
 export const Usual = Object.freeze({{
     matches: {usual["matches"]}, limit: {usual["cycles"]}, first: {usual["first"]}, profile: {usual["profile"]}, seed: {usual["seed"]}n,
 }});
+
+/** The damage at which a robot is dead. */
+export const DEADLY = {field["deadly"]};
 """
