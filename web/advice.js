@@ -1,4 +1,4 @@
-// A sentence of advice for each diagnostic, by its text.
+// A sentence of advice for each diagnostic, by its text: a page with another diagnostic isn't built.
 
 const ADVICE = {
     "bad character": "The language has no such character: no quotes, no brackets for arrays, no fractions, no # and no ?.",
@@ -21,5 +21,5 @@ const ADVICE = {
 
 /** Returns what may help with a diagnostic. */
 export function adviceOf(text) {
-    return ADVICE[text] ?? "";
+    return ADVICE[text];
 }

@@ -1,7 +1,7 @@
 // Battles: one to four robots and settings. What comes from a link, a file or the browser's storage is made one here.
 //
 // A robot has a key, by which it is the same one while its name and its source change; a link carries none.
-import {Limits} from "./limits.js";
+import {Limits, Usual} from "./limits.js";
 import {cleanName} from "./names.js";
 
 /**
@@ -12,14 +12,14 @@ import {cleanName} from "./names.js";
  */
 
 /** @type {Settings} */
-const USUAL = {matches: 1, limit: 500000, seed: "1", first: 1, profile: 1};
+const USUAL = {...Usual, seed: String(Usual.seed)};
 const FIRST_ROBOTS = ["hunter.r", "sniper.r"];
 /** The match of the first robots that is worth watching: of the first sixteen the closest one. */
 export const FIRST_MATCH = 2;
 /** Who wins it. */
 export const FIRST_WINNER = "sniper.r";
 /** @type {Record<string, number>} */
-const MOST = {matches: Limits.matches, limit: Limits.cycles, first: Limits.first, profile: 2};
+const MOST = {matches: Limits.matches, limit: Limits.cycles, first: Limits.first, profile: Limits.profile};
 const SETTINGS = Object.keys(USUAL);
 
 /** Returns a whole number from 1 to the most, or what is usual. */

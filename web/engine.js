@@ -2,11 +2,11 @@
 //
 // The module's calls take the addresses of blocks that this file laid out once, behind the module's own memory, and
 // never anything else. The blocks hold numbers and bytes alone, and every value of them is allowed.
-import {Ending, Limits} from "./limits.js";
+import {Ending, Limits, NAME_BYTES, Usual} from "./limits.js";
 
 const PAGE_BYTES = 65536;
 const ORDER_BYTES = 40;
-const ROBOT_BYTES = 8 + Limits.nameBytes + Limits.sourceBytes;
+const ROBOT_BYTES = 8 + NAME_BYTES + Limits.sourceBytes;
 const FRAME_BYTES = 256;
 const FRAMES = 32768;
 const SHEET_BYTES = 16 + FRAMES * FRAME_BYTES;
@@ -182,7 +182,9 @@ export class Engine {
         return {ending, text: this.textOf(this.text), faults: this.textOf(this.faults)};
     }
 
-    putOrder(mode, {matches = 1, limit = 500000, seed = 1n, profile = 1, first = 1, skipped = 0, from = 0, windows = 0}) {
+    putOrder(mode, settings) {
+        const {matches = Usual.matches, limit = Usual.limit, seed = Usual.seed, profile = Usual.profile, first = Usual.first} = settings;
+        const {skipped = 0, from = 0, windows = 0} = settings;
         const view = new DataView(this.memory.buffer, this.order, ORDER_BYTES);
         view.setBigUint64(0, BigInt(seed), true);
         [mode, matches, limit, profile, first, skipped, from, windows]
@@ -191,7 +193,7 @@ export class Engine {
 
     putRobots(robots) {
         if (robots.length > Limits.robots) {
-            throw new RangeError("There are more than four robots.");
+            throw new RangeError(`There are more than ${Limits.robots} robots.`);
         }
         robots.forEach((robot, i) => this.putRobot(this.robots + i * ROBOT_BYTES, robot));
     }
@@ -199,15 +201,15 @@ export class Engine {
     putRobot(at, {name, source}) {
         const nameBytes = encoder.encode(name);
         const sourceBytes = (typeof source === "string" ? encoder.encode(source) : source).subarray(0, Limits.sourceBytes);
-        if (nameBytes.length > Limits.nameBytes) {
-            throw new RangeError("A robot's name has more than 255 bytes.");
+        if (nameBytes.length > NAME_BYTES) {
+            throw new RangeError(`A robot's name has more than ${NAME_BYTES} bytes.`);
         }
         const view = new DataView(this.memory.buffer, at, 8);
         view.setUint32(0, nameBytes.length, true);
         view.setUint32(4, sourceBytes.length, true);
         const bytes = new Uint8Array(this.memory.buffer, at + 8, ROBOT_BYTES - 8);
         bytes.set(nameBytes);
-        bytes.set(sourceBytes, Limits.nameBytes);
+        bytes.set(sourceBytes, NAME_BYTES);
     }
 
     /** Returns the bytes of the sheet at this address. */

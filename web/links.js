@@ -35,7 +35,7 @@ export async function fragmentOf(battle, moment = null) {
  * is followed. A battle of one robot has it twice.
  */
 export function linkedMoment(fragment, {robots}) {
-    const found = /&match=(\d{1,7})&cycle=(\d{1,10})(?:&robot=([1-4]))?$/.exec(fragment);
+    const found = /&match=(\d{1,10})&cycle=(\d{1,10})(?:&robot=([1-9]))?$/.exec(fragment);
     const [number, cycle, robot] = found ? found.slice(1).map(it => Number(it ?? 0)) : [0, 0, 0];
     const isFit = number >= 1 && number <= Limits.first && cycle <= Limits.cycles && robot <= Math.max(2, robots.length);
     return isFit ? {number, cycle, robot} : null;

@@ -1,5 +1,5 @@
 // Matches of pairs that are played for their results alone: in slices, so that one sees how far they are and can end them.
-import {Ending} from "./limits.js";
+import {DEADLY, Ending} from "./limits.js";
 import {CHALLENGER, keyOf, seatingsOf} from "./seatings.js";
 
 /** What a match is worth. */
@@ -8,7 +8,6 @@ export const MOST_MATCHES = 10000;
 const MILLISECONDS_OF_A_SLICE = 80;
 const FIRST_SLICE = 5;
 const MOST_OF_A_SLICE = 500;
-const DEAD = 100;
 const MATCH = /^Match (\d+): cycles = (\d+)\n {2}1\) \w+ +damage +(\d+)% 1\n {2}2\) \w+ +damage +(\d+)% 2$/gm;
 
 /** @typedef {{number: number, cycles: number, did: "won" | "tied" | "lost"}} Played */
@@ -18,7 +17,7 @@ const MATCH = /^Match (\d+): cycles = (\d+)\n {2}1\) \w+ +damage +(\d+)% 1\n {2}
  * @returns {"won" | "tied" | "lost"}
  */
 function didOf(mine, other) {
-    return mine >= DEAD ? "lost" : other >= DEAD ? "won" : "tied";
+    return mine >= DEADLY ? "lost" : other >= DEADLY ? "won" : "tied";
 }
 
 /**

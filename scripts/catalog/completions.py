@@ -7,10 +7,10 @@ from pathlib import Path
 
 from catalog.commands import COMMANDS, Command
 from catalog.options import Option, about, options, words
+from tools.words import PROFILES
 
 # Values that are paths: their names in the pages, and whether these are of folders.
 PATHS = {"FILE": False, "SCRIPT": False, "PLAN": False, "PROGRAM": False, "ARCHIVE": False, "FOLDER": True, "DIR": True, "LEAGUE": True}
-PROFILES = ("1", "2")
 # Where the completions of a shell are looked for, below `share`.
 PLACES = {"bash": "bash-completion/completions", "zsh": "zsh/site-functions", "fish": "fish/vendor_completions.d"}
 

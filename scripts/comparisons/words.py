@@ -6,9 +6,8 @@ import argparse
 from typing import NoReturn
 
 from tools.faults import Fault
-from tournaments.words import MATCHES_MAX, Parser, of_match, settle, within
-
-MOST_ROBOTS = 4
+from tools.rules import MOST_MATCHES, MOST_ROBOTS
+from tournaments.words import Parser, of_match, settle, within
 
 
 class MatchParser(Parser):
@@ -26,7 +25,7 @@ def parser(name: str) -> Parser:
     it.add_argument("--old", metavar="OLD", required=True, help="the older version")
     it.add_argument("--json", action="store_true", help="print the answer as JSON")
     it.add_argument("--robot", metavar="N", type=within(1, MOST_ROBOTS), default=1, help="number of the newer version among the files (default 1)")
-    it.add_argument("-k", "-f", dest="match", metavar="MATCH", type=within(1, MATCHES_MAX), default=1, help="number of the match (default 1)")
+    it.add_argument("-k", "-f", dest="match", metavar="MATCH", type=within(1, MOST_MATCHES), default=1, help="number of the match (default 1)")
     of_match(it, "most cycles of the match", "seed of the random numbers (default 1)")
     it.add_argument("files", metavar="FILE", nargs="+", help="the robots of the match, the newer version among them")
     return it

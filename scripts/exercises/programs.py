@@ -10,10 +10,9 @@ from types import TracebackType
 
 from tools.faults import PROGRAM, Fault
 from tools.programs import found, started
+from tools.rules import UPDATE_CYCLES
 
 SECONDS = 60
-# The field moves after each cycle that this divides.
-UPDATE = 15
 
 
 class Programs:
@@ -56,7 +55,7 @@ class Programs:
         """The first update of the field after a robot's first shot."""
         self.lay("robot.r", source)
         asks = (line for line in self.lines("crobots-stages", "--run", "3000", "robot.r") if "; cannon(" in line)
-        return -(-int(first_number(next(asks, ""), r"^ *(\d+) ")) // UPDATE) * UPDATE
+        return -(-int(first_number(next(asks, ""), r"^ *(\d+) ")) // UPDATE_CYCLES) * UPDATE_CYCLES
 
     def damage(self, source: str, cycles: int) -> int:
         """The damage of a robot after so many cycles of a match with itself."""

@@ -7,7 +7,9 @@ from dataclasses import dataclass
 from random import Random
 from typing import Callable
 
-from .programs import UPDATE, Programs
+from tools.rules import UPDATE_CYCLES
+
+from .programs import Programs
 
 STILL = "main(){ while (1); }\n"
 MOST_CYCLES = 3000
@@ -46,7 +48,7 @@ def shot(random: Random) -> Task:
     count, more = random.randrange(5, 40), random.randrange(1, 6)
     robot = f"main()\n{{\n  int n;\n  while (n < {count}) n = n + 1;\n{'  1;' * more}\n  cannon(0, 0);\n  while (1) ;\n}}\n"
     return Task("After which cycle does this robot have damage? Write down the number alone.", robot,
-                lambda them: [str(next(cycle for cycle in range(them.shot(robot), MOST_CYCLES, UPDATE) if them.damage(robot, cycle)))])
+                lambda them: [str(next(cycle for cycle in range(them.shot(robot), MOST_CYCLES, UPDATE_CYCLES) if them.damage(robot, cycle)))])
 
 
 def life(random: Random) -> Task:

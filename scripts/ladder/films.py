@@ -9,6 +9,7 @@ import threading
 from leagues import seasons
 from leagues.entries import source
 from leagues.naming import names
+from leagues.schema import DAMAGE
 from leagues.store import Store
 from sites.facts import Battle, Seat, Settings
 from sites.films import before_all, film, order
@@ -64,7 +65,7 @@ def shown(made: bytes, table: str, is_playing: bool) -> bytes:
 def played(store: Store, season: seasons.Season, seating: int, number: int) -> Battle | None:
     """A match of the season's robots as they are now."""
     rules = season.rules
-    row = store.one("SELECT hashes, seed, battle.cycles, damage1, damage2, damage3, damage4 FROM battle JOIN seating ON seating.number = seating "
+    row = store.one(f"SELECT hashes, seed, battle.cycles, {DAMAGE} FROM battle JOIN seating ON seating.number = seating "
                     "WHERE seating = ? AND battle.number = ? AND seating.cycles = ? AND profile = ? AND program = ?",
                     seating, number, rules.cycles, rules.profile, rules.program)
     if not row:

@@ -11,10 +11,10 @@ from leagues.results import Played, Results
 from leagues.schedules import Schedule
 from leagues.sources import laid
 from leagues.store import Store
-from results.battles import DEAD
 from sites.frames import section, sentence
 from sites.markup import Markup, block, joined, name_of, tag
 from tools.faults import Fault
+from tools.rules import DEADLY
 
 from .frames import Site
 from .judging import ran, said
@@ -77,7 +77,7 @@ def against(schedule: Schedule, results: Results, group: tuple[int, ...], at: in
 
 def badness(it: Played, seat: int) -> tuple[int, int, int]:
     """How bad a lost match was, the worst first: the less the others were hurt, and the sooner it ended."""
-    hurt = min((damage for at, damage in enumerate(it.match.damage) if at != seat), default=DEAD)
+    hurt = min((damage for at, damage in enumerate(it.match.damage) if at != seat), default=DEADLY)
     return hurt, it.match.cycles, it.number
 
 

@@ -9,7 +9,7 @@ from typing import NamedTuple
 
 from leagues.seasons import Season
 from leagues.store import Store
-from tournaments.words import SEED_MAX
+from tools.rules import MOST_SEED
 
 
 class Drawn(NamedTuple):
@@ -36,7 +36,7 @@ def drawn(store: Store, announced: bool) -> Drawn:
     """The seed of the next final: the one that was announced, or a new one."""
     it = last(store)
     if it is None or it.season is not None:
-        store.run("INSERT INTO ladder_final (seed, announced) VALUES (?, ?)", str(secrets.randbelow(SEED_MAX + 1)), announced)
+        store.run("INSERT INTO ladder_final (seed, announced) VALUES (?, ?)", str(secrets.randbelow(MOST_SEED + 1)), announced)
         it = last(store)
     assert it
     return it

@@ -12,7 +12,7 @@ from leagues import entries, seasons
 from leagues.store import Store
 from tools.faults import Fault
 from tools.output import replaced
-from tournaments.words import SEED_MAX
+from tools.rules import MOST_SEED
 
 from .accounts import Who
 from .audits import note
@@ -62,7 +62,7 @@ def allowed(store: Store, who: Who, against: str) -> bytes:
 
 def played(store: Store, robot: str, source: bytes, against: str, theirs: bytes, programs: Programs) -> str:
     """Plays the matches, on a seed that nobody knows before; answers how they ended."""
-    rules, seed = seasons.season(store).rules, secrets.randbelow(SEED_MAX + 1)
+    rules, seed = seasons.season(store).rules, secrets.randbelow(MOST_SEED + 1)
     with tempfile.TemporaryDirectory(prefix="crobots-ladder-") as folder:
         places = [os.path.join(folder, at, f"{name}.r") for at, name in (("yours", robot), ("theirs", against))]
         for place, text in zip(places, (source, theirs)):

@@ -170,7 +170,7 @@ def load(store: Store, archive: zipfile.ZipFile, tables: Iterable[str]) -> None:
                    for _, name, kind, must, *_ in store.rows(f"PRAGMA table_info({kept})")]
         with archive.open(f"{kept}.csv") as file:
             rows = csv.reader(io.TextIOWrapper(file, encoding="utf-8", newline=""))
-            if next(rows, []) != [it.name for it in columns]:
+            if next(rows, []) != [column.name for column in columns]:
                 raise ValueError(f"{kept}.csv has other columns")
             query = f"INSERT INTO {kept} VALUES ({', '.join('?' * len(columns))})"
             try:

@@ -10,13 +10,14 @@ from itertools import groupby
 from operator import itemgetter
 from typing import Iterable, Iterator, NamedTuple
 
+from .schema import DAMAGE
 from .store import Store
 
 BEGIN = "crobots league 1"
 # The tables whose rows are hashed, in this order. Of removed matches there are two lines: as a match, and as removed.
 TABLES = ("robot", "entry", "season", "ruling", "ending", "correction", "member", "worker", "seating", "battle",
           "removal", "removed", "publication", "standing", "handed", "code")
-BATTLE = "seating, number, cycles, damage1, damage2, damage3, damage4, day, worker, publication"
+BATTLE = f"seating, number, cycles, {DAMAGE}, day, worker, publication"
 QUERIES = {
     "battle": f"SELECT publication, {BATTLE} FROM (SELECT 1 AS stands, 0 AS removal, {BATTLE} FROM battle UNION ALL "
               f"SELECT 0, removal, {BATTLE} FROM removed) WHERE publication > ? "
@@ -53,7 +54,7 @@ def query(store: Store, table: str) -> str:
 
 def line(table: str, cells: Iterable[object]) -> str:
     """A row as it is hashed: its cells after the table's name, with tabs between them; no value is an empty cell."""
-    return "\t".join([table, *("" if it is None else str(it) for it in cells)]) + "\n"
+    return "\t".join([table, *("" if cell is None else str(cell) for cell in cells)]) + "\n"
 
 
 def lines(store: Store, after: int) -> Iterator[tuple[int, str]]:
@@ -71,7 +72,7 @@ def segments(store: Store, after: int = 0) -> Iterator[tuple[int, Iterator[str]]
     """The rows after a publication, each time those up to a link of the chain: its number, and its lines.
 
     What no link shows comes last, with the number 0."""
-    ends = [it.number for it in links(store) if it.number > after]
+    ends = [link.number for link in links(store) if link.number > after]
 
     def end(row: tuple[int, str]) -> int:
         while ends and ends[0] < row[0]:

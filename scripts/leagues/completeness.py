@@ -84,7 +84,7 @@ class Judge:
         if len(group) not in self.rules.sizes or not self._may_meet(group):
             return False
         if self.rules.mode == GAUNTLET:
-            return self.rules.champion in {it.robot for it in robots}
+            return self.rules.champion in {robot.robot for robot in robots}
         if self.rules.sample or self.rules.mode == LADDER:
             return self._groups is None or group in self._groups
         return True
@@ -162,7 +162,7 @@ def judges_of(store: Store, season: Season) -> list[Judge]:
 def beyond(store: Store) -> Iterator[Finding]:
     """The matches that no rules ask for, and those after which a pair was decided already."""
     them, copies = judges(store), copies_of(store)
-    known = {it.name: it for it in seasons(store)}
+    known = {season.name: season for season in seasons(store)}
     played = {seating: last for seating, last in store.rows("SELECT seating, max(number) FROM battle GROUP BY 1")}
     for number, hashes, seed, *by in store.rows("SELECT number, hashes, seed, cycles, profile, program FROM seating"):
         found = [(judge, group) for judge in them if [judge.rules.cycles, judge.rules.profile, judge.rules.program] == by

@@ -137,7 +137,7 @@ def last_table(store: Store, table: list[Standing]) -> Iterator[str]:
     """Rows of the last publication that aren't those of a table."""
     them = [it for it in every(store) if it.hash]
     if them:
-        shown, wanted = ({it.robot: it if them[-1].scale == SCALE else replace(it, rating=NOTHING, close=False) for it in rows}
+        shown, wanted = ({row.robot: row if them[-1].scale == SCALE else replace(row, rating=NOTHING, close=False) for row in rows}
                          for rows in (published(store, them[-1].number), table))
         for robot in sorted(shown.keys() | wanted.keys()):
             if not are_equal(shown.get(robot), wanted.get(robot)):

@@ -38,7 +38,7 @@ def correct_entries(store: Store, given: argparse.Namespace) -> list[str]:
     chosen, before = them[-given.last:], them[:-given.last]
     if len(chosen) < given.last:
         raise Fault(f"there are only {len(chosen)} entries")
-    ended = max([it.last_entry or 0 for it in seasons.seasons(store)])
+    ended = max([season.last_entry or 0 for season in seasons.seasons(store)])
     if chosen[0].number <= ended:
         raise Fault(f"a season ended with entry {ended}, whose table stays")
     if given.to and before and given.to < before[-1].day:

@@ -20,7 +20,7 @@ Pair = tuple[str, str, Told]
 def decided(schedule: Schedule, results: Results) -> Iterator[Pair]:
     """The pairs in the order of the robots' ids; none if the season has no test."""
     if schedule.field.rules.sure:
-        verdicts, names = Verdicts(schedule, results), [it.robot for it in schedule.field.robots]
+        verdicts, names = Verdicts(schedule, results), [robot.robot for robot in schedule.field.robots]
         found = ((names[pair[0]], names[pair[1]], verdicts.told((pair[0], pair[1]))) for pair in schedule.groups())
         yield from sorted(((one, other, told) if one < other else (other, one, told.turned) for one, other, told in found if told),
                           key=lambda it: it[:2])

@@ -11,11 +11,12 @@ from tools.output import show
 from .completeness import Judge, judges_of
 from .days import given_day
 from .keys import copies_of, possible
+from .schema import DAMAGE
 from .seasons import running
 from .store import Store, opened
 from .verdicts import EACH_LOOK
 
-MATCH = "seating, number, cycles, damage1, damage2, damage3, damage4, day, worker, publication"
+MATCH = f"seating, number, cycles, {DAMAGE}, day, worker, publication"
 # A match: its seating and its number.
 At = tuple[int, int]
 

@@ -61,7 +61,7 @@ def entries(store: Store, until: int | None = None) -> list[Entry]:
     """What happened, in its order, but for what was taken back, and with its days as they were corrected; until such
     an entry."""
     most = -1 if until is None else until
-    days = {it.of: it.day for it in corrections(store) if it.what == ENTRY}
+    days = {correction.of: correction.day for correction in corrections(store) if correction.what == ENTRY}
     rows = store.rows("SELECT number, day, what, robot, sha256, copy FROM entry ORDER BY number LIMIT ?", most)
     return [Entry(number, days.get(number) or day, *more) for number, day, *more in rows
             if days.get(number, day) is not None]
@@ -103,7 +103,7 @@ def add(store: Store, robot: str, author: str, source: bytes, day: str) -> None:
     if not ID.fullmatch(robot):
         raise Fault(f"{robot!r} is no id: a letter or a digit, and up to 39 letters, digits, '-', '_' and '.'")
     had = store.one("SELECT author FROM robot WHERE id = ?", robot)
-    if had and any(it.robot == robot for it in entries(store)):
+    if had and any(entry.robot == robot for entry in entries(store)):
         raise Fault(taken(robot, had[0], author))
     if had and had[0] != named(author):
         raise Fault(f"the id {robot} was given to {had[0] or 'nobody'}, whose robot was taken back; --id gives another")
@@ -140,7 +140,7 @@ def withdraw(store: Store, robot: str, day: str) -> None:
 
 def known(store: Store, robot: str) -> None:
     """Refuses an id that nobody has."""
-    if not any(it.robot == robot for it in entries(store)):
+    if not any(entry.robot == robot for entry in entries(store)):
         raise Fault(f"there is no robot {robot}")
 
 
@@ -174,7 +174,7 @@ def enter(store: Store, what: str, robot: str, sha256: str, day: str) -> None:
 
 def last_day(store: Store) -> str:
     """The day of the last entry that wasn't taken back; nothing if there is none."""
-    days = {it.of: it.day for it in corrections(store) if it.what == ENTRY}
+    days = {correction.of: correction.day for correction in corrections(store) if correction.what == ENTRY}
     rows = store.database.execute("SELECT number, day FROM entry ORDER BY number DESC")
     return next((days.get(number) or str(day) for number, day in rows if days.get(number, day) is not None), "")
 

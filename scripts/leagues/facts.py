@@ -7,11 +7,11 @@ from collections import defaultdict
 from dataclasses import dataclass, replace
 from typing import Iterable, Iterator, Sequence
 
-from results.battles import DEAD
 from results.standings import Standing
 from sites.facts import Battle, Facts, Pair, Program, Robot, Seat, Settings, Sums, Table, Version
 from sites.facts import Season as SiteSeason
 from sites.gathering import Gathering
+from tools.rules import DEADLY
 
 from .entries import WITHDRAW, Entrant, Entry, entries, source
 from .naming import names as given_names
@@ -96,7 +96,7 @@ def more(season: Season) -> Iterator[tuple[str, str]]:
 
 def rows(standings: Sequence[Standing]) -> tuple[Standing, ...]:
     """The rows of the tables of all divisions, of robots that have a rating."""
-    return tuple(it for it in standings if it.is_rated)
+    return tuple(standing for standing in standings if standing.is_rated)
 
 
 def earlier(store: Store, season: Season, day: str) -> Iterator[Table]:
@@ -158,7 +158,7 @@ def seatings(schedule: Schedule, guests: Sequence[Entrant]) -> Iterator[tuple[tu
 
 def named(schedule: Schedule, groups: Iterable[tuple[int, ...]]) -> Iterator[tuple[tuple[str, str], Seated]]:
     """The seatings of groups, with the robots' ids in the order of their seats."""
-    ids = [it.robot for it in schedule.field.robots]
+    ids = [robot.robot for robot in schedule.field.robots]
     for group in groups:
         for seats, seed in schedule.seatings(group):
             yield schedule.seated(seats, seed), (tuple(ids[at] for at in seats), seed)
@@ -172,7 +172,7 @@ def gathered(them: Iterable[tuple[tuple[str, str], Seated]], results: Results, r
             battles = [battle(robots, seed, it) for it in played]
             found.add(battles)
             for at, robot in enumerate(robots):
-                there = [(it.day, one) for it, one in zip(played, battles) if it.match.damage[at] >= DEAD]
+                there = [(it.day, one) for it, one in zip(played, battles) if it.match.damage[at] >= DEADLY]
                 lost[robot] = last_ones([*lost[robot], *there])
     return found, lost
 

@@ -48,7 +48,7 @@ def take_in(given: argparse.Namespace) -> None:
     with opened(given.league) as store:
         profile = seasons.season(store).rules.profile
         choices = [chosen(it, by.path, profile) for it in found]
-        faults = [f"{it} is in no author's folder" for it in strays(given.folder)] + [why for it in choices for why in it.faults]
+        faults = [f"{stray} is in no author's folder" for stray in strays(given.folder)] + [why for choice in choices for why in choice.faults]
         for why in faults:
             say(given.script, plain(why))
         if faults and given.all_or_none:

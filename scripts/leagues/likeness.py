@@ -45,7 +45,7 @@ def code_of(listing: str) -> str:
 def codes(store: Store, profile: int, by: Program, sources: Mapping[str, str], jobs: int) -> dict[str, str]:
     """The code of each source by a program, by the hashes of their bytes and their files. What was compiled before is kept."""
     known = dict(store.rows("SELECT sha256, hash FROM code WHERE profile = ? AND program = ?", profile, by.sha256))
-    new = [it for it in sources if it not in known]
+    new = [source for source in sources if source not in known]
     with ThreadPoolExecutor(jobs) as pool:
         found = [*pool.map(lambda it: compiled(by.path, profile, sources[it]), new)]
     rows = [(sha256, profile, by.sha256, it.code, store.next()) for sha256, it in zip(new, found) if it.code]

@@ -71,7 +71,7 @@ def renew(database: sqlite3.Connection) -> None:
 def moved(database: sqlite3.Connection) -> None:
     """Moves all rows into tables of this version."""
     tables = ("source", *KEPT)
-    renaming = (f"ALTER TABLE {it} RENAME TO old_{it}" for it in tables)
+    renaming = (f"ALTER TABLE {table} RENAME TO old_{table}" for table in tables)
     removing = (f"DROP TABLE old_{it}" for it in reversed(tables))
     for statement in (*renaming, *SCHEMA.split(";\n"), *MOVES.split(";\n"), *removing, f"PRAGMA user_version = {VERSION}"):
         database.execute(statement)

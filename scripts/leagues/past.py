@@ -41,14 +41,14 @@ def changed(store: Store, before: Store, name: str) -> Iterator[str]:
 def inconsistent_links(store: Store) -> Iterator[str]:
     """Publications of the older archive that aren't what it has."""
     found = chain.hashes(store)
-    yield from (f"the older archive was changed: its publication {it.number} has another hash"
-                for it in chain.links(store) if found.get(it.number) != it.hash)
+    yield from (f"the older archive was changed: its publication {link.number} has another hash"
+                for link in chain.links(store) if found.get(link.number) != link.hash)
 
 
 def differences(before: Store, now: Store, last: int) -> Iterator[str]:
     """The rows of two archives, up to a publication, that only one of them has."""
     one, other = rows(before, last), rows(now, last)
-    found = [*(f"is gone: {it}" for it in (one - other).elements()), *(f"was added: {it}" for it in (other - one).elements())]
+    found = [*(f"is gone: {element}" for element in (one - other).elements()), *(f"was added: {it}" for it in (other - one).elements())]
     yield from (it.replace("\t", " ").rstrip("\n") for it in found[:MOST_SHOWN])
     if len(found) > MOST_SHOWN:
         yield f"and {len(found) - MOST_SHOWN} more rows"

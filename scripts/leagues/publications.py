@@ -44,7 +44,7 @@ def publish(store: Store, season: Season, day: str, standings: Sequence[Standing
     number = store.run("INSERT INTO publication (season, day, final, missing, scale, before, hash) "
                        "VALUES (?, ?, ?, ?, ?, ?, '')", *wanted, before[-1].hash if before else "")
     store.database.executemany(f"INSERT INTO standing (publication, played, {COLUMNS}) VALUES ({', '.join('?' * 14)})",
-                               [(number, it.score.played, *values(it)) for it in standings])
+                               [(number, standing.score.played, *values(standing)) for standing in standings])
     found = chain.hashed(text for _, text in chain.lines(store, before[-1].number if before else 0))
     store.run("UPDATE publication SET hash = ? WHERE number = ?", found, number)
     return Publication(number, *wanted, before[-1].hash if before else "", found)

@@ -50,7 +50,7 @@ def publish(given: argparse.Namespace) -> None:
         with published(store, day) as now:
             archive = os.path.join(now.store.folder, f"{name}-{day}.zip")
             archives.write(now.store, now.table, archive, day)
-            sources = laid(now.store, {it.sha256 for it in now.schedule.field.robots})
+            sources = laid(now.store, {robot.sha256 for robot in now.schedule.field.robots})
             # sums show lines of the sources
             said = {} if is_hidden(now.season) else sums(now.schedule, now.results, sources, given.sums, given.jobs)
             verify = f"crobots-league verify 100 {shlex.quote(os.path.basename(archive))}"

@@ -7,11 +7,13 @@ from itertools import groupby
 from operator import itemgetter
 from typing import Collection, Iterator, NamedTuple, Sequence
 
-from results.battles import DEAD, Match, letters, match
+from results.battles import Match, letters, match
 from results.scores import Score, between, counted
 from tools.faults import FILE, Fault
+from tools.rules import DEADLY, MOST_ROBOTS
 
 from .rules import Rules
+from .schema import DAMAGE, DAMAGES
 from .store import Store
 
 # Hashes in the order of seats, with commas between them, and the seed of the matches.
@@ -19,10 +21,10 @@ Seated = tuple[str, str]
 # Whether the first robot of a pair died, and whether the second did.
 DIED = [(one, other) for one in (False, True) for other in (False, True)]
 BY = "seating.cycles = ? AND profile = ? AND program = ?"
-COLUMNS = "seating, battle.number, battle.cycles, damage1, damage2, damage3, damage4, battle.day"
-FOUGHT = "number, cycles, damage1, damage2, damage3, damage4, day"
+COLUMNS = f"seating, battle.number, battle.cycles, {DAMAGE}, battle.day"
+FOUGHT = f"number, cycles, {DAMAGE}, day"
 JOINED = f"FROM battle JOIN seating ON seating.number = seating WHERE {BY}"
-INSERT = "INSERT INTO battle VALUES (?, ?, ?, ?, ?, ?, ?, ?, ?, ?)"
+INSERT = f"INSERT INTO battle VALUES ({', '.join('?' * (6 + MOST_ROBOTS))})"
 
 
 def seated(hashes: Sequence[str], seed: int) -> Seated:
@@ -70,7 +72,7 @@ class Results:
 
     def counts(self, look: int) -> dict[int, dict[int, Score]]:
         """Of each seating of two robots what the first one did, in each part of `look` matches."""
-        ended = ", ".join(f"sum((damage1 = {DEAD}) = {one:d} AND (damage2 = {DEAD}) = {other:d})" for one, other in DIED)
+        ended = ", ".join(f"sum((damage1 = {DEADLY}) = {one:d} AND (damage2 = {DEADLY}) = {other:d})" for one, other in DIED)
         query = f"SELECT seating, (battle.number - 1) / {look}, {ended} {JOINED} AND damage3 IS NULL GROUP BY 1, 2"
         found: dict[int, dict[int, Score]] = {}
         for seating, part, *counts in self._store.database.execute(query, self._by):
@@ -79,9 +81,9 @@ class Results:
 
     def endings(self) -> dict[int, dict[str, int]]:
         """Of each seating how many matches ended so: a letter w, t or l for the robot of each seat."""
-        died = ", ".join(f"damage{seat} = {DEAD}" for seat in range(1, 5))
+        died = ", ".join(f"{it} = {DEADLY}" for it in DAMAGES)
         found: dict[int, dict[str, int]] = {}
-        query = f"SELECT seating, count(*), {died} {JOINED} GROUP BY 1, 3, 4, 5, 6"
+        query = f"SELECT seating, count(*), {died} {JOINED} GROUP BY 1, {died}"
         for seating, count, *dead in self._store.database.execute(query, self._by):
             found.setdefault(seating, {})[letters([it for it in dead if it is not None])] = count
         return found
@@ -138,11 +140,11 @@ def keep(store: Store, rules: Rules, where: Seated, first: int, results: str, da
 
 def ours(store: Store, seating: int, first: int, last: int) -> dict[int, Match]:
     """The matches that are there already."""
-    query = ("SELECT number, cycles, damage1, damage2, damage3, damage4 FROM battle "
+    query = (f"SELECT number, cycles, {DAMAGE} FROM battle "
              "WHERE seating = ? AND number BETWEEN ? AND ?")
     return {number: ended(cycles, damage) for number, cycles, *damage in store.rows(query, seating, first, last)}
 
 
 def row(seating: int, number: int, it: Match) -> tuple[int | None, ...]:
-    damage: list[int | None] = [*it.damage, None, None]
-    return seating, number, it.cycles, *damage[:4]
+    empty: list[int | None] = [None] * (MOST_ROBOTS - len(it.damage))
+    return seating, number, it.cycles, *it.damage, *empty

@@ -8,6 +8,7 @@ from decimal import Decimal
 from typing import Any
 
 from results.scores import Scoring
+from tools.rules import CYCLES_DEFAULT, PROFILE_DEFAULT, SEED_DEFAULT
 from tournaments.programs import Program, version
 
 PAIRS, THREES, FOURS, SIZES, LADDER, GAUNTLET = "pairs", "threes", "fours", "sizes", "ladder", "gauntlet"
@@ -20,9 +21,9 @@ class Rules:
 
     mode: str = PAIRS
     matches: int = 100
-    cycles: int = 500_000
-    seed: int = 1
-    profile: int = 1
+    cycles: int = CYCLES_DEFAULT
+    seed: int = SEED_DEFAULT
+    profile: int = PROFILE_DEFAULT
     # the hash of the program, and its version if that was known
     program: str = ""
     version: str = ""
@@ -86,6 +87,6 @@ def played_by(it: Rules, program: Program) -> Rules:
 def rules(text: str) -> Rules:
     """The rules of a text that `Rules.text` made."""
     said: dict[str, Any] = json.loads(text)
-    known = {it.name for it in fields(Rules)}
+    known = {field.name for field in fields(Rules)}
     values = {name: tuple(value) if isinstance(value, list) else value for name, value in said.items() if name in known}
     return Rules(**values)

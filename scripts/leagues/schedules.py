@@ -21,7 +21,7 @@ class Schedule:
 
     def __init__(self, field: Field) -> None:
         self.field = field
-        self.keys = [it.key for it in field.robots]
+        self.keys = [robot.key for robot in field.robots]
         rules = field.rules
         self.settings = Settings(rules.matches, rules.cycles, rules.seed, rules.profile, rules.program,
                                  len(field.robots), rules.sizes, rules.sample)

@@ -4,8 +4,13 @@ Only the hash of a publication is written into its row when that is there, and m
 
 from __future__ import annotations
 
+from tools.rules import MOST_ROBOTS
+
 APPLICATION = 0x43524F42
 VERSION = 3
+# The columns that have the damage of each seat, which SCHEMA has too: with more seats it is another version.
+DAMAGES = [f"damage{seat}" for seat in range(1, MOST_ROBOTS + 1)]
+DAMAGE = ", ".join(DAMAGES)
 
 SCHEMA = """
 CREATE TABLE source (sha256 TEXT PRIMARY KEY, bytes BLOB NOT NULL) WITHOUT ROWID;

@@ -85,7 +85,7 @@ def settle(store: Store, season: Season, by: Rules, day: str) -> None:
 def seasons(store: Store) -> list[Season]:
     """All seasons in their order, with their last rules, and with their days as they were corrected."""
     rulings = dict(store.rows("SELECT season, rules FROM ruling WHERE rules != '' ORDER BY number"))
-    days = {(it.what, it.of): it.day for it in corrections(store)}
+    days = {(correction.what, correction.of): correction.day for correction in corrections(store)}
     return [Season(number, name, days.get((BEGIN, number)) or begun, days.get((END, number)) or ended or "", first, last,
                    rules(rulings.get(number, text)))
             for number, name, begun, ended, first, last, text in store.rows(QUERY)]

@@ -61,7 +61,7 @@ def wanted(store: Store, season: Season, jobs: int, piece: int | None) -> Wanted
     """What a season wants now, cut into series."""
     schedule, results = Schedule(field(store, season)), Results(store, season.rules)
     series = by_gap(schedule, results, [*missing(schedule, results)])
-    folder = laid(store, {it.sha256 for it in schedule.field.robots})
+    folder = laid(store, {robot.sha256 for robot in schedule.field.robots})
     robots = [Robot(f"{folder}/{it.sha256}", it.sha256) for it in schedule.field.robots]
     most = piece or max(1, math.ceil(sum(it.matches for it in series) / (8 * jobs)))
     return Wanted(Plan(schedule.settings, robots, most, tuple(series)), folder)
@@ -90,7 +90,7 @@ def play(given: argparse.Namespace) -> None:
 
 def relative(plan: Plan) -> Plan:
     """A plan whose robots are named by their hashes, as the league's folder of sources has them."""
-    return replace(plan, robots=[Robot(it.sha256, it.sha256) for it in plan.robots])
+    return replace(plan, robots=[Robot(robot.sha256, robot.sha256) for robot in plan.robots])
 
 
 def play_all(store: Store, given: argparse.Namespace, found: Program) -> None:

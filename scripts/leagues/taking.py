@@ -108,7 +108,7 @@ class Taker:
             by, is_new = worker_of(self._store, worker)
             before = taken.new
             for number, record in lines:
-                where = seated([it.sha256 for it in record.robots], record.series.seed)
+                where = seated([robot.sha256 for robot in record.robots], record.series.seed)
                 try:
                     new, known = keep(self._store, self._rules, where, record.series.first, record.results, self._day, by)
                     taken.new, taken.known = taken.new + new, taken.known + known

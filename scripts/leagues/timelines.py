@@ -63,7 +63,7 @@ def standing(had: dict[str, list[tuple[int, Entrant | None]]]) -> dict[str, tupl
 
 def within(store: Store, span: Span) -> Iterator[State]:
     """The states of a time, with the one in which it began."""
-    return (it for it in states(store) if span.first <= it.count <= span.last)
+    return (state for state in states(store) if span.first <= state.count <= span.last)
 
 
 def ruled(store: Store, season: Season, last: int) -> list[Ruled]:

@@ -10,7 +10,7 @@ from tools.faults import Fault
 from tools.output import show
 from tools.tables import aligned
 from tournaments.programs import program
-from tournaments.words import SEED_MAX
+from tools.rules import MOST_SEED
 
 from . import publications, seasons
 from .days import given_day
@@ -66,7 +66,7 @@ def begin(store: Store, given: argparse.Namespace) -> None:
     day = given_day(given)
     if day < last.ended:
         raise Fault(f"the season {last.name} ended on {last.ended}, so none can begin on {day}")
-    seed = (last.rules.seed + 1) % (SEED_MAX + 1)
+    seed = (last.rules.seed + 1) % (MOST_SEED + 1)
     by = replace(last.rules, seed=seed, divisions=given.divisions or last.rules.divisions)
     by = checked(ruled(by, given))
     if given.crobots:

@@ -111,8 +111,8 @@ class Verdicts:
 
     def _parts(self, pair: Group) -> list[Score]:
         """What the first robot did from each look to the next, as far as both seatings were played."""
-        one, other = (self._counts.get(self._results.number(self._schedule.seated(*it)) or 0, {})
-                      for it in self._schedule.seatings(pair))
+        one, other = (self._counts.get(self._results.number(self._schedule.seated(*seating)) or 0, {})
+                      for seating in self._schedule.seatings(pair))
         found = []
         for part, begin in enumerate(range(0, self._each, EACH_LOOK)):
             there, turned = one.get(part, NONE), other.get(part, NONE)

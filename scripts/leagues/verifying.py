@@ -34,12 +34,13 @@ from .results import Results, ended
 from .schedules import Schedule
 from .seasons import Season, field, seasons
 from .standings import standings
+from .schema import DAMAGE
 from .store import Store
 
 MATCHES = 100
 # Most matches that are replayed by one run of the program.
 RUN = 100
-COLUMNS = "seating, number, cycles, damage1, damage2, damage3, damage4 FROM battle"
+COLUMNS = f"seating, number, cycles, {DAMAGE} FROM battle"
 
 
 @dataclass(frozen=True)
@@ -60,7 +61,7 @@ def verify(given: argparse.Namespace) -> None:
     found = program(given.crobots)
     with archives.read(given.archive) as (store, table):
         changes = changed_since(store, given.since) if given.since else ()
-        said = [*findings(store, table), *(Finding(True, it) for it in changes)]
+        said = [*findings(store, table), *(Finding(True, change) for change in changes)]
         runs = chosen(store, None if given.all else given.number or MATCHES)
         said += [Finding(True, it) for it in (*recompiled(store, found), *replayed(store, found, given, runs))]
         total = store.one("SELECT count(*) FROM battle")[0]
@@ -95,7 +96,7 @@ def sources(store: Store) -> Iterator[str]:
 
 def seeds(store: Store) -> Iterator[str]:
     """Seatings whose seed isn't the one of their robots in any season."""
-    copies, drawn_from = copies_of(store), {it.rules.seed for it in seasons(store)}
+    copies, drawn_from = copies_of(store), {season.rules.seed for season in seasons(store)}
     for hashes, seed in store.rows("SELECT hashes, seed FROM seating"):
         keys = [*possible(hashes.split(","), copies)] if {*hashes.split(",")} <= copies.keys() else []
         if int(seed) not in {seats.drawn(it, key) for it in drawn_from for key in keys}:
@@ -125,7 +126,7 @@ def ended_table(store: Store, season: Season, ours: list[Standing]) -> Iterator[
         return
     theirs = final(store, season)
     if them[-1].scale != publications.SCALE:
-        theirs, ours = ([replace(it, rating=NOTHING, close=False) for it in rows] for rows in (theirs, ours))
+        theirs, ours = ([replace(row, rating=NOTHING, close=False) for row in rows] for rows in (theirs, ours))
     yield from unequal(season, tables.comma(theirs), tables.comma(ours))
 
 
@@ -202,7 +203,7 @@ def replayed(store: Store, found: Program, given: argparse.Namespace, runs: list
 
 def versions(store: Store) -> dict[str, str]:
     """The versions of the programs that played, by their hashes, if they are known."""
-    return {it.rules.program: it.rules.version for it in seasons(store)}
+    return {season.rules.program: season.rules.version for season in seasons(store)}
 
 
 def named(known: str, sha256: str) -> str:
@@ -214,7 +215,7 @@ def changed(now: Record, run: Run) -> Iterator[str]:
     """The matches of a run that ended otherwise."""
     for (number, match), before in zip(now.matches(), run.matches):
         if match != before:
-            robots = " ".join(f"{SOURCES}{it.sha256}.r" for it in now.robots)
+            robots = " ".join(f"{SOURCES}{robot.sha256}.r" for robot in now.robots)
             yield (f"match {number}: the archive has {said(before)}, played again it is {said(match)}: crobots -m1 "
                    f"-l{now.settings.cycles} -s{now.series.seed} -p{now.settings.profile} -f{number} {robots}")
 

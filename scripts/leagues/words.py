@@ -11,7 +11,8 @@ from urllib.parse import urlsplit
 
 from sites.addresses import page as address
 from tools.faults import Fault
-from tournaments.words import MATCHES_MAX, Parser, decimals, of_match, within
+from tools.rules import MOST_MATCHES
+from tournaments.words import Parser, decimals, of_match, within
 
 from .days import day
 from .entries import BEGIN, END, ENTRY, ID
@@ -61,7 +62,7 @@ def of_rules(it: argparse.ArgumentParser) -> None:
     rules = it.add_argument_group("rules")
     one = rules.add_argument
     one("--mode", metavar="MODE", type=mode, help=f"who plays whom: {MODES} (default pairs)")
-    one("-m", dest="matches", metavar="MATCHES", type=within(1, MATCHES_MAX),
+    one("-m", dest="matches", metavar="MATCHES", type=within(1, MOST_MATCHES),
         help="matches of each group (default 100)")
     of_match(rules, seed="seed (default 1; each season has the next one)")
     one("--points", metavar="WIN,TIE", type=points, help="what a win and a tie count (default 3,1)")
@@ -218,7 +219,7 @@ class Words:
         """What is played."""
         it = self._command("play", "plays what is missing")
         of_playing(it)
-        it.add_argument("--piece", metavar="MATCHES", type=within(1, MATCHES_MAX),
+        it.add_argument("--piece", metavar="MATCHES", type=within(1, MOST_MATCHES),
                         help="most matches of one series (default: so that all processors are busy)")
         it.add_argument("--plan", action="store_true", help="print what is missing as command lines, and play nothing")
         it.add_argument("--chunk", metavar="N", type=within(1, 10_000), default=1,
@@ -311,7 +312,7 @@ class Words:
         it.add_argument("--early", action="store_true", help="begin it though robots are still handed in")
         it.add_argument("--unfinished", action="store_true", help="end the season before it though matches are missing")
         it.add_argument("--csv", action="store_true", help="print it as comma-separated values")
-        it.add_argument("-m", dest="matches", metavar="MATCHES", type=within(1, MATCHES_MAX), help="matches of each group (default: as before)")
+        it.add_argument("-m", dest="matches", metavar="MATCHES", type=within(1, MOST_MATCHES), help="matches of each group (default: as before)")
         of_playing(it)
         it.set_defaults(piece=None, day=None, future=False)
 

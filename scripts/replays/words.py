@@ -6,7 +6,8 @@ from dataclasses import dataclass
 
 from tools.faults import Misuse
 from tools.output import written_over
-from tools.words import given, number
+from tools.rules import MOST_CYCLES
+from tools.words import MATCH_HELP, given, number
 
 NAME = "crobots-replay"
 USAGE_LINE = f"usage: {NAME} [-kMATCH] [-lCYCLES] [-sSEED] [-pPROFILE] [--from CYCLE] [--to CYCLE] [--inside] [-o FILE] FILE.."
@@ -15,12 +16,8 @@ HELP = f"""{USAGE_LINE}
 Plays one match, and makes a page that shows it in a browser.
 
 options:
-  -k, -f MATCH      number of the match (default 1)
-  -l CYCLES         most cycles of the match (default 500000)
-  -s SEED           seed of the random numbers (default 1)
-  -p PROFILE        language profile, 1 or 2 (default 1)
-  --from CYCLE      the page begins with this cycle (default 0)
-  --to CYCLE        the page ends with this cycle (default 1000000000)
+{MATCH_HELP}  --from CYCLE      the page begins with this cycle (default 0)
+  --to CYCLE        the page ends with this cycle (default {MOST_CYCLES})
   --inside          show the sources too, and where the robots are in them
   -o FILE           write into this file, and not on standard output
   -h, --help        show this page

@@ -6,8 +6,8 @@ import functools
 from dataclasses import dataclass
 from typing import Sequence
 
-# The damage of a robot that died.
-DEAD = 100
+from tools.rules import DEADLY
+
 # What a robot did, by its letter.
 DID = {"w": "won", "t": "tied", "l": "lost"}
 # The places of some robots among all.
@@ -24,7 +24,7 @@ class Match:
     @property
     def results(self) -> str:
         """What each robot did, as the totals of `crobots` count it: a letter w, t or l for each."""
-        return letters([damage >= DEAD for damage in self.damage])
+        return letters([damage >= DEADLY for damage in self.damage])
 
 
 def letters(died: Sequence[bool]) -> str:
@@ -49,4 +49,4 @@ def endings(results: str) -> list[str]:
 def ending(damage: str) -> str:
     """What each robot did, of damage as 0:100; nothing if that can't be."""
     ended = match(f"0:{damage}")
-    return ended.results if max(ended.damage) <= DEAD else ""
+    return ended.results if max(ended.damage) <= DEADLY else ""

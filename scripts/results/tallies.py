@@ -77,4 +77,4 @@ FEW = 3
 
 def strata(seatings: Sequence[Counter[Ended]]) -> Sequence[Counter[Ended]]:
     """The matches of a group that are compared with each other to see how much chance there is in them."""
-    return seatings if all(it.total() >= FEW for it in seatings) else [sum(seatings, Counter[Ended]())]
+    return seatings if all(seating.total() >= FEW for seating in seatings) else [sum(seatings, Counter[Ended]())]

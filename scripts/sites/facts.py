@@ -8,10 +8,11 @@ from __future__ import annotations
 from dataclasses import dataclass
 from typing import Mapping, NamedTuple
 
-from results.battles import DEAD, letters
+from results.battles import letters
 from results.scores import Score
 from results.standings import Standing
 from results.verdicts import BETTER, OPEN, WORSE, Verdict
+from tools.rules import DEADLY
 
 RobotId = str
 
@@ -70,7 +71,7 @@ class Battle:
     @property
     def results(self) -> str:
         """What each robot did: a letter w, t or l for each."""
-        return letters([seat.damage >= DEAD for seat in self.seats])
+        return letters([seat.damage >= DEADLY for seat in self.seats])
 
 
 @dataclass(frozen=True)

@@ -10,8 +10,8 @@ from collections import Counter, defaultdict
 from dataclasses import dataclass, replace
 from typing import Iterable, Iterator, Mapping, Sequence
 
-from results.battles import DEAD
 from results.scores import Score, added, between
+from tools.rules import DEADLY
 
 from .facts import Battle, BySeat, Notable, Pair, RobotId, Series
 from .notables import notables, shortness
@@ -60,8 +60,8 @@ class Losses:
 
     def add(self, battle: Battle) -> None:
         """Takes note of the robots that lost to another one."""
-        survivors = [seat.robot for seat in battle.seats if seat.damage < DEAD]
-        for robot in {seat.robot for seat in battle.seats if seat.damage >= DEAD}:
+        survivors = [seat.robot for seat in battle.seats if seat.damage < DEADLY]
+        for robot in {seat.robot for seat in battle.seats if seat.damage >= DEADLY}:
             for survivor in survivors:
                 known = self._lost[robot].get(survivor)
                 if known is None or shortness(battle) < shortness(known):
@@ -75,7 +75,7 @@ class Losses:
 
 def score(battles: Iterable[Battle], seat: int, against: int) -> Score:
     """What the robot in one seat did to that in another."""
-    return between(Counter((it.seats[seat - 1].damage >= DEAD, it.seats[against - 1].damage >= DEAD) for it in battles))
+    return between(Counter((it.seats[seat - 1].damage >= DEADLY, it.seats[against - 1].damage >= DEADLY) for it in battles))
 
 
 @functools.lru_cache(1 << 14)

@@ -4,7 +4,8 @@ from __future__ import annotations
 
 from typing import Iterable, Iterator
 
-from results.battles import DEAD
+from tools.rules import DEADLY
+
 
 from .facts import Battle, Notable, RobotId
 
@@ -19,8 +20,8 @@ def decided(battles: Iterable[Battle], one: RobotId, other: RobotId) -> Iterator
     for battle in battles:
         damage = {seat.robot: seat.damage for seat in battle.seats}
         mine, theirs = damage[one], damage[other]
-        if (mine < DEAD) != (theirs < DEAD):
-            yield mine < DEAD, min(mine, theirs), battle
+        if (mine < DEADLY) != (theirs < DEADLY):
+            yield mine < DEADLY, min(mine, theirs), battle
 
 
 def notables(battles: Iterable[Battle], better: RobotId, worse: RobotId) -> tuple[Notable, ...]:

@@ -7,6 +7,8 @@ from __future__ import annotations
 
 from dataclasses import dataclass
 
+from tools.rules import MOST_CYCLES
+
 from .marks import Marks
 from .moments import Moment
 from .pipes import Debugger, Refused
@@ -14,7 +16,7 @@ from .sources import Source
 from .words import Asked
 
 FORWARDS, BACKWARDS = "next", "last"
-LAST_CYCLE = 1_000_000_000
+LAST_CYCLE = MOST_CYCLES
 # A list of all lines.
 ALL = "1-4294967295"
 

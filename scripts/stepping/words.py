@@ -4,7 +4,7 @@ from __future__ import annotations
 
 from dataclasses import dataclass
 
-from tools.words import Given, given, number
+from tools.words import MATCH_HELP, Given, given, number
 
 NAME = "crobots-step"
 USAGE_LINE = f"usage: {NAME} [-kMATCH] [-lCYCLES] [-sSEED] [-pPROFILE] [--robot N] [-x SCRIPT] FILE.."
@@ -13,11 +13,7 @@ HELP = f"""{USAGE_LINE}
 Steps through a robot in a match, forwards and backwards.
 
 options:
-  -k, -f MATCH      number of the match (default 1)
-  -l CYCLES         most cycles of the match (default 500000)
-  -s SEED           seed of the random numbers (default 1)
-  -p PROFILE        language profile, 1 or 2 (default 1)
-  --robot N         the robot to step through, from 1 (default 1)
+{MATCH_HELP}  --robot N         the robot to step through, from 1 (default 1)
   -x SCRIPT         read commands from this file, a line each
   -h, --help        show this page
   --version         show the version

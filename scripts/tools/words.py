@@ -1,4 +1,4 @@
-"""Words of command lines whose values are judged by the program that they are handed on to."""
+"""Words of command lines whose values are judged by the program that they are handed on to, and what pages of help say of them."""
 
 from __future__ import annotations
 
@@ -6,8 +6,17 @@ from dataclasses import dataclass, field
 from typing import Collection
 
 from .faults import Misuse
+from .rules import CYCLES_DEFAULT, FIRST_DEFAULT, MOST_PROFILE, PROFILE_DEFAULT, SEED_DEFAULT
 
 FLAGS = ("-h", "--help", "--version")
+PROFILES = tuple(map(str, range(1, MOST_PROFILE + 1)))
+PROFILE_HELP = f"language profile, {' or '.join(PROFILES)} (default {PROFILE_DEFAULT})"
+# What a page of help says of the options by which one match is chosen.
+MATCH_HELP = f"""  -k, -f MATCH      number of the match (default {FIRST_DEFAULT})
+  -l CYCLES         most cycles of the match (default {CYCLES_DEFAULT})
+  -s SEED           seed of the random numbers (default {SEED_DEFAULT})
+  -p PROFILE        {PROFILE_HELP}
+"""
 
 
 @dataclass(frozen=True)
@@ -30,21 +39,21 @@ class Given:
     def handed_on(self, but: Collection[str] = (), more: Collection[str] = ()) -> list[str]:
         """The words of all options but some, more words, and the files, which none can take for options."""
         dashes = ["--"] if any(file.startswith("-") for file in self.files) else []
-        return [*(word for it in self.options if it.name not in but for word in it.words), *more, *dashes, *self.files]
+        return [*(word for option in self.options if option.name not in but for word in option.words), *more, *dashes, *self.files]
 
     def last(self, *names: str) -> str | None:
         """The value that one of these options has last."""
-        return next((it.value for it in reversed(self.options) if it.name in names), None)
+        return next((option.value for option in reversed(self.options) if option.name in names), None)
 
     def once(self, name: str) -> str | None:
         """The value of an option that may be given once."""
-        if len([it for it in self.options if it.name == name]) > 1:
+        if len([option for option in self.options if option.name == name]) > 1:
             raise Misuse(f"{name} is given twice")
         return self.last(name)
 
     def some_files(self) -> Given:
         """The same words, if they name files; else a value may be the file that is missing."""
-        taken = [it for it in self.options if len(it.words) > 1 and not (it.value.isascii() and it.value.isdigit())]
+        taken = [option for option in self.options if len(option.words) > 1 and not (option.value.isascii() and option.value.isdigit())]
         if not self.files and not self.flags & {*FLAGS}:
             raise Misuse(f"no file: {taken[-1].name} took {taken[-1].value} for its value" if taken else "")
         return self

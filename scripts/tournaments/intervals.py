@@ -31,7 +31,7 @@ def mean(classes: Sequence[Sequence[float]], weights: Sequence[float] = (), unse
     The degrees of freedom of several classes are those of Welch and Satterthwaite. Few numbers that differ say little of how many
     there are. So the variance may be that of the numbers and of two more that weren't seen: one that is so much more, and one that
     is as much less."""
-    parts = [it / sum(weights) for it in weights] or [1 / len(classes)] * len(classes)
+    parts = [weight / sum(weights) for weight in weights] or [1 / len(classes)] * len(classes)
     value = sum(part * statistics.fmean(it) for part, it in zip(parts, classes))
     variances = [part**2 * variance(it) / len(it) for part, it in zip(parts, classes)]
     counted = 1 / sum(part**2 / len(it) for part, it in zip(parts, classes))
@@ -47,7 +47,7 @@ def mean(classes: Sequence[Sequence[float]], weights: Sequence[float] = (), unse
 def variance(numbers: Sequence[float]) -> float:
     """The variance that two numbers or more say of all. The library takes longer, by fractions."""
     middle = statistics.fmean(numbers)
-    return math.fsum([(it - middle) ** 2 for it in numbers]) / (len(numbers) - 1)
+    return math.fsum([(number - middle) ** 2 for number in numbers]) / (len(numbers) - 1)
 
 
 def together(parts: Sequence[tuple[float, int]]) -> float:

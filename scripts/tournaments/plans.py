@@ -10,6 +10,7 @@ from itertools import groupby
 from typing import Iterable, Iterator
 
 from tools.faults import Fault
+from tools.rules import MOST_SEED
 
 from .groups import count, whole_series
 from .journals import Journal
@@ -20,7 +21,6 @@ from .settings import Settings
 
 SERIES = os.path.join(os.path.dirname(os.path.realpath(__file__)), "series")
 ONE_WRITE = 4096
-SEED_MAX = 2**64 - 1
 
 
 @dataclass(frozen=True)
@@ -82,7 +82,7 @@ def one_write(settings: Settings, robots: list[Robot]) -> int:
     size = max(settings.sizes)
     longest = sorted(robots, key=lambda it: -len(encoded(it.path)))[:size]
     group = tuple(range(settings.robots - size, settings.robots))
-    series = Series(group, SEED_MAX, settings.matches, settings.matches)
+    series = Series(group, MOST_SEED, settings.matches, settings.matches)
     begin = len(Record(settings, series, tuple(longest)).line())
     most = (ONE_WRITE - begin) // (len(str(settings.cycles)) + len(":100") * size + 1)
     if most < 1:

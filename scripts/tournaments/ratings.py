@@ -111,7 +111,7 @@ class Part:
         How well their variance is known is measured for all pairs as one, which is enough, and for each group of more robots by itself:
         there one group may have nearly all of it."""
         those = self._rows
-        far = [weights[robot] - it for it in weights]
+        far = [weights[robot] - weight for weight in weights]
         squares = [it * it for it in far]
         spreads = [it.moments(weights) for it in those.spreads[robot]]
         more = sum(variance for variance, _ in spreads)
@@ -127,7 +127,7 @@ class Part:
     def _parts(self, robot: int, upsets: Vector) -> Iterator[float]:
         """The parts that a robot's pairs have of its unseen upsets: where all have met, all alike, else rather by their squares."""
         whole, alike = product(upsets, upsets), (1 - self._sparse) / self._rows.opponents(robot)
-        return (alike + self._sparse * it * it / whole for it in upsets)
+        return (alike + self._sparse * upset * upset / whole for upset in upsets)
 
     def _bent(self, robot: int, moved: float) -> float:
         """How far a robot's strength moves if its score does as it would for this way on a straight line.
@@ -135,7 +135,7 @@ class Part:
         The others stay where they are to each other. So if it moves by some way, they move back, since the mean is 0."""
         met, strengths = self._rows.met[robot], self._fit.strengths
         ours, many, back = chances(strengths, robot), self._rows.opponents(robot), len(strengths) / (len(strengths) - 1)
-        score, bend, least = product(met, ours), product(met, [it * (1 - it) for it in ours]), many * TIES / 2
+        score, bend, least = product(met, ours), product(met, [share * (1 - share) for share in ours]), many * TIES / 2
         wanted = min(max(score + bend * back * moved, least), many - least)
         return (alone(met, strengths, strengths[robot], wanted) - strengths[robot]) / back
 
@@ -178,7 +178,7 @@ def alone(met: Vector, strengths: Vector, begin: float, wanted: float) -> float:
     others = [math.exp(it) for it, is_met in zip(strengths, met) if is_met]
     for _ in range(STEPS_MAX):
         power = math.exp(begin)
-        shares = [power / (power + it) for it in others]
+        shares = [power / (power + other) for other in others]
         step = (wanted - sum(shares)) / (sum(shares) - product(shares, shares))
         begin += max(-STEP_MAX, min(STEP_MAX, step))
         if abs(step) < EXACT:

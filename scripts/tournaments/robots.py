@@ -92,7 +92,7 @@ def names(paths: list[str]) -> list[str]:
     parts = [os.path.normpath(path).split(os.sep) for path in paths]
     found: list[str] = [""] * len(paths)
     for length in range(1, max(map(len, parts), default=0) + 1):
-        ends = [os.sep.join(it[-length:]) for it in parts]
+        ends = [os.sep.join(part[-length:]) for part in parts]
         often = Counter(ends)
         for at, end in enumerate(ends):
             if not found[at] and (often[end] == 1 or len(parts[at]) <= length):

@@ -6,10 +6,12 @@ from dataclasses import dataclass
 from functools import cache, cached_property
 
 from results.battles import Group
+from tools.rules import MOST_ROBOTS
 
 from .seats import rounded
 
 SIZE_NAMES = {2: "pairs", 3: "threes", 4: "fours"}
+SIZE = rf"[2-{MOST_ROBOTS}]"
 
 
 @dataclass(frozen=True)
@@ -53,7 +55,7 @@ class Settings:
 
 NUMBER = r"\d{1,20}"
 PATTERN = (rf"m={NUMBER} l={NUMBER} s={NUMBER} p={NUMBER} program=[0-9a-f]{{64}} "
-           rf"robots={NUMBER} sizes=[2-4](?:,[2-4]){{0,2}} sample={NUMBER}(?: those=[0-9a-f]+)?")
+           rf"robots={NUMBER} sizes={SIZE}(?:,{SIZE}){{0,{len(SIZE_NAMES) - 1}}} sample={NUMBER}(?: those=[0-9a-f]+)?")
 
 
 @cache

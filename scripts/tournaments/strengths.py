@@ -50,13 +50,13 @@ def fitted(met: Sequence[Vector], scores: Vector) -> Fit:
         if longest < EXACT:
             break
     mean = sum(strengths) / len(strengths)
-    return Fit([it - mean for it in strengths], inverse(factored(curvature(met, strengths))))
+    return Fit([strength - mean for strength in strengths], inverse(factored(curvature(met, strengths))))
 
 
 def chances(strengths: Vector, robot: int) -> list[float]:
     """The shares that are expected of a robot against each one."""
     power = math.exp(strengths[robot])
-    return [power / (power + math.exp(it)) for it in strengths]
+    return [power / (power + math.exp(strength)) for strength in strengths]
 
 
 def expected(met: Vector, strengths: Vector, robot: int) -> float:
@@ -71,7 +71,7 @@ def curvature(met: Sequence[Vector], strengths: Vector) -> Matrix:
     for at, row in enumerate(met):
         bends = [it * chance * (1 - chance) for it, chance in zip(row, chances(strengths, at))]
         own = sum(bends)
-        bends = [one - it for it in bends]
+        bends = [one - bend for bend in bends]
         bends[at] = own + one
         found.append(bends)
     return found

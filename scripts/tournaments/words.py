@@ -12,12 +12,15 @@ from sites.addresses import page as address
 from tools.faults import Fault
 from tools.output import show
 from tools.programs import number
+from tools.rules import (CYCLES_DEFAULT, MOST_CYCLES, MOST_MATCHES, MOST_PROFILE, MOST_ROBOTS, MOST_SEED, PROFILE_DEFAULT,
+                         SEED_DEFAULT)
+from tools.words import PROFILE_HELP
 
 
-MATCHES_MAX, CYCLES_MAX, SEED_MAX, PROFILE_MAX = 1_000_000, 1_000_000_000, 2**64 - 1, 2
-
+# How many robots a match of a tournament may have.
+SIZES = range(2, MOST_ROBOTS + 1)
 # The settings of matches that weren't given: what each is then.
-DEFAULTS = {"matches": 100, "cycles": 500_000, "seed": 1, "profile": 1, "size": 2, "sample": 0, "those": ()}
+DEFAULTS = {"matches": 100, "cycles": CYCLES_DEFAULT, "seed": SEED_DEFAULT, "profile": PROFILE_DEFAULT, "size": 2, "sample": 0, "those": ()}
 WORDS = {"matches": "-m", "cycles": "-l", "seed": "-s", "profile": "-p", "size": "--size", "sample": "--sample", "those": "--those", "piece": "--piece"}
 
 
@@ -167,8 +170,8 @@ class Parser(argparse.ArgumentParser):
 
 def of_match(it: argparse._ActionsContainer, cycles: str = "cycles of a match", seed: str = "seed (default 1)") -> None:
     """The words on which a match depends beside its robots, with what is said of two of them."""
-    for name, word, limits, said in (("cycles", "CYCLES", (1, CYCLES_MAX), f"{cycles} (default {DEFAULTS['cycles']})"), ("seed", "SEED", (0, SEED_MAX), seed),
-                                     ("profile", "PROFILE", (1, PROFILE_MAX), "language profile, 1 or 2 (default 1)")):
+    for name, word, limits, said in (("cycles", "CYCLES", (1, MOST_CYCLES), f"{cycles} (default {DEFAULTS['cycles']})"), ("seed", "SEED", (0, MOST_SEED), seed),
+                                     ("profile", "PROFILE", (1, MOST_PROFILE), PROFILE_HELP)):
         it.add_argument(WORDS[name], dest=name, metavar=word, type=within(*limits), help=said)
 
 
@@ -178,7 +181,7 @@ def common(name: str, does: str) -> Parser:
     it.set_defaults(script=name)
     it.add_version()
     it.add_argument("-j", dest="jobs", metavar="JOBS", type=within(1, 1024), default=os.cpu_count() or 1, help="series at a time (default: the processors)")
-    it.add_argument("-m", dest="matches", metavar="MATCHES", type=within(1, MATCHES_MAX), help="matches of each group, rounded up to a multiple of its size (default 100)")
+    it.add_argument("-m", dest="matches", metavar="MATCHES", type=within(1, MOST_MATCHES), help="matches of each group, rounded up to a multiple of its size (default 100)")
     of_match(it)
     it.add_argument("--points", metavar="WIN,TIE", type=decimals(2), default=[Decimal(3), Decimal(1)], help="what a win and a tie count (default 3,1)")
     it.add_argument("--journal", metavar="FILE", help="keep what was played in this file, and go on from it")
@@ -191,11 +194,11 @@ def common(name: str, does: str) -> Parser:
 def tournament(name: str) -> Parser:
     """The words of `tournament`, under the name by which it was called."""
     it = common(name, "Plays every pair of robots (or every three, or four), and prints a table.")
-    it.add_argument("--size", metavar="2|3|4", type=within(2, 4), help="robots of a match (default 2)")
+    it.add_argument("--size", metavar="|".join(map(str, SIZES)), type=within(SIZES[0], SIZES[-1]), help="robots of a match (default 2)")
     it.add_argument("--by-size", metavar="A,B,C", type=decimals(3), help="play pairs, threes and fours, and add up their points a match with these weights")
     it.add_argument("--sample", metavar="N", type=within(1, 10_000_000), help="play only N groups, drawn by the seed")
     it.add_argument("--those", metavar="ROBOT", nargs="+", help="one side: only groups with robots of both sides play")
-    it.add_argument("--piece", metavar="MATCHES", type=within(1, MATCHES_MAX), help="most matches of one series (default: so that all processors are busy)")
+    it.add_argument("--piece", metavar="MATCHES", type=within(1, MOST_MATCHES), help="most matches of one series (default: so that all processors are busy)")
     it.add_argument("--plan", action="store_true", help="print the command lines of all series, one a line, and play nothing")
     it.add_argument("--merge", action="store_true", help="read what such command lines wrote from files, or from standard input")
     it.add_argument("--against", metavar="PLAN", help="with --merge: name the lines of the plan that are missing or twice")

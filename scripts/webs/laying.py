@@ -9,13 +9,16 @@ import hashlib
 import html
 import json
 import os
+import re
 import shutil
 import subprocess
 import zipfile
 from string import Template
 
+from catalog.rules import diagnostics
 from replays.modules import script_of, waiting_script
 from replays.pages import framed_script, put_together, style_of_page
+from tools.rules import MOST_CYCLES, MOST_FIRST, MOST_MATCHES
 from tools.samples import ladder
 
 from .deflating import deflated
@@ -47,6 +50,17 @@ def samples() -> list[dict[str, str | int]]:
     there = {name for name in os.listdir(os.path.join(TOP, "robots")) if name.endswith(".r")}
     assert {name for name, _ in robots} == there and len(robots) == len(there), robots
     return [{"name": name, "level": level, "source": text_of(TOP, "robots", name)} for name, level in robots]
+
+
+def unadvised() -> set[str]:
+    """The diagnostics that web/advice.js doesn't have, and what it has that is none."""
+    return {*re.findall(r'^    "(.+?)": "', text_of(WEB, "advice.js"), re.MULTILINE)} ^ {*diagnostics()}
+
+
+def index(manual: Page) -> str:
+    """The page itself, with its limits."""
+    return Template(text_of(WEB, "index.html")).substitute(
+        policy=policy(), language=panel(manual, WEB), matches=MOST_MATCHES, cycles=MOST_CYCLES, first=MOST_FIRST)
 
 
 def packed(data: bytes) -> str:
@@ -171,10 +185,11 @@ def lay_editor(folder: str) -> None:
 
 def lay(folder: str, module: str) -> None:
     """Puts the page's files into the folder, and beside it all of them in a zip, and the module."""
+    assert not unadvised(), unadvised()
     shutil.rmtree(folder, ignore_errors=True)
     lay_editor(os.path.join(folder, "codemirror"))
     manuals = [Page(text_of(TOP, "man", name)) for name in MANUALS]
-    put(folder, "index.html", Template(text_of(WEB, "index.html")).substitute(policy=policy(), language=panel(manuals[0], WEB)))
+    put(folder, "index.html", index(manuals[0]))
     put(folder, "embed.html", Template(text_of(WEB, "embed.html")).substitute(policy=policy()))
     put(folder, "manual.html", Template(text_of(WEB, "manual.html")).substitute(text=whole(manuals)))
     put(folder, "about.html", about(module))

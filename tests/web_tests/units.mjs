@@ -220,5 +220,5 @@ check("a fault behind a warning", [warningsOf(FAULTY), reasonOf(FAULTY)],
 check("warnings without a fault", [warningsOf({ending: 0, text: "3:3: warning: x\n"}), reasonOf({ending: 0, text: "3:3: warning: x\n"})],
     [[{line: 3, text: "x"}], {marked: [], said: []}]);
 check("nothing explained", [warningsOf({ending: 4, text: "3:3: warning: x\n"}), reasonOf({ending: 4, text: ""})], [[], {marked: [], said: []}]);
-check("no advice", adviceOf("nonsense"), "");
+check("advice", adviceOf("no main function"), "A robot begins in its function main, so write main() { .. }.");
 console.log(JSON.stringify(wrong));

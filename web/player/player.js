@@ -254,7 +254,7 @@ export class Player {
     #press(event) {
         const tag = event.target.tagName, isBlankOnButton = event.key === " " && tag === "BUTTON";
         if (event.ctrlKey || event.metaKey || event.altKey || tag === "SELECT" || isBlankOnButton) return;
-        if (/^[1-4]$/.test(event.key)) return this.#choose(Number(event.key));
+        if (/^[1-9]$/.test(event.key)) return this.#choose(Number(event.key));
         const name = this.#named(event);
         if (!name) return;
         event.preventDefault();

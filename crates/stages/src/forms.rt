@@ -10,7 +10,7 @@ use tools::{Fault, Known, Options, Wrong, number_of, profile};
 const MOST_CYCLES: u64 = 10_000;
 
 /// The options.
-pub const OPTIONS: [Known; 14] = [
+pub const OPTIONS: [Known; 15] = [
     Known::Flag("tokens", "its tokens"),
     Known::Flag("derivation", "the steps of its derivation"),
     Known::Flag("first", "FIRST and FOLLOW of the grammar, of no file"),
@@ -18,6 +18,7 @@ pub const OPTIONS: [Known; 14] = [
     Known::Flag("dot", "its tree as a graph, for Graphviz"),
     Known::Flag("svg", "its derivation tree and its tree, as a picture"),
     Known::Flag("code", "its code below its lines"),
+    Known::Flag("json", "with --code: its code with names, as JSON"),
     Known::Flag("operations", "its operations beside its code"),
     Known::Flag("flow", "its blocks of code, and where each leads"),
     Known::Flag("bounds", "what is known of it before a match"),
@@ -50,6 +51,8 @@ pub enum Form {
     Svg,
     /// Its code, below its lines.
     Code,
+    /// Its code with names, as an object of JSON.
+    CodeObject,
     /// Its three-address operations, beside its code.
     Operations,
     /// The control flow graph of each function.
@@ -162,9 +165,12 @@ fn file_of<'a>(options: &Options<'a>, replies: &mut Replies) -> Result<&'a str, 
     file.ok_or(Fault::Usage)
 }
 
-/// Returns the form that options ask for, which have to ask for exactly one thing: nothing if it is none of a source.
+/// Returns the form that options ask for, which have to ask for exactly one thing: nothing if it is none of a source. Only
+/// code is written as JSON.
 fn form_of(options: &Options<'_>) -> Result<Option<Form>, Fault> {
     match options.only(&FORMS)? {
+        Some(Some(Form::Code)) if options.has("json") => Ok(Some(Form::CodeObject)),
+        Some(_) if options.has("json") => Err(Fault::Wrong(Wrong::Alone("json", "code"))),
         Some(Some(Form::Run(_))) => {
             let cycles = number_of(options, "run", 1, MOST_CYCLES, 1)?;
             Ok(Some(Form::Run(cycles as u32)))

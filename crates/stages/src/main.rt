@@ -5,6 +5,7 @@
 
 mod chapters;
 mod charts;
+mod code_objects;
 mod code_rows;
 mod cuts;
 mod derivation_rows;
@@ -32,6 +33,7 @@ mod terminals;
 mod texts;
 mod token_rows;
 
+use crate::code_objects::add_code_object;
 use crate::code_rows::add_listing;
 use crate::cuts::add_listing_to_limit;
 use crate::derivation_rows::add_derivation_rows;
@@ -62,7 +64,7 @@ use tools::{
 const FRAME: ProgramFrame = ProgramFrame {
     name: "crobots-stages",
     about: "Shows what the compiler makes of a robot, stage by stage.",
-    usage: "(--tokens | --derivation | --tree | --dot | --svg | --code | --operations | --flow | --bounds | --html [--chapters LIST] | --run CYCLES [--replies LIST..]) [-pPROFILE] [-o FILE] FILE | --first [-o FILE]",
+    usage: "(--tokens | --derivation | --tree | --dot | --svg | --code [--json] | --operations | --flow | --bounds | --html [--chapters LIST] | --run CYCLES [--replies LIST..]) [-pPROFILE] [-o FILE] FILE | --first [-o FILE]",
     known: &[&OPTIONS, &PROFILE_OPTIONS, &OUTPUT_OPTIONS],
 };
 
@@ -137,6 +139,7 @@ fn add_form(
             add_picture_file(text, &derivation_tree(alloc, source)?, &tree)?;
         }
         Form::Code => add_listing(text, source, &robot)?,
+        Form::CodeObject => add_code_object(text, request.file, &robot)?,
         Form::Operations => add_operation_rows(text, &robot)?,
         Form::Flow => add_flow_rows(text, &robot)?,
         Form::Bounds => {
@@ -190,6 +193,7 @@ fn add_before_fault(
             add_listing_to_limit(text, source, request.profile)
         }
         Form::Code
+        | Form::CodeObject
         | Form::Tree
         | Form::Dot
         | Form::Svg

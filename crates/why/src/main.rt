@@ -4,6 +4,7 @@
 ghost use Rattle.std.specs.Prelude.{◌≡◌, Err};
 ghost use Rattle.grammar.specs.Compiled.{compiled};
 
+mod note_objects;
 mod recoveries;
 mod room_warnings;
 mod source_files;
@@ -18,26 +19,27 @@ use std::alloc::Global;
 use std::process::ExitCode;
 use tokens::{MemoryFeed, WINDOW_BYTES};
 use tools::{
-    Fault, Known, Options, Output, PROFILE_OPTIONS, Plain, ProgramFrame, TellsOfFile, Work, Wrong,
-    profile, source_of, tell_files,
+    Draft, Fault, Known, Options, Output, PROFILE_OPTIONS, Plain, ProgramFrame, TellsOfFile, Work,
+    Wrong, profile, source_of, tell_files,
 };
 
 /// The program's name, its line of wrong usage, and its options.
 const FRAME: ProgramFrame = ProgramFrame {
     name: "crobots-why",
     about: "Explains the first fault of each robot, or warns about code that compiles but is probably a mistake.",
-    usage: "[-pPROFILE] [--all] [--lint [--strict]] FILE..",
+    usage: "[-pPROFILE] [--all] [--lint [--strict]] [--json] FILE..",
     known: &[&PROFILE_OPTIONS, &WHY_OPTIONS],
 };
 
 /// The options of this program alone.
-const WHY_OPTIONS: [Known; 3] = [
+const WHY_OPTIONS: [Known; 4] = [
     Known::Flag("all", "explain faults of several functions"),
     Known::Flag("lint", "warn too, up to the first fault"),
     Known::Flag(
         "strict",
         "with --lint: end with status 1 if there is a warning",
     ),
+    Known::Flag("json", "one object a fault or warning, as JSON"),
 ];
 
 /// Explains the files that the command line names, and returns the status.
@@ -65,6 +67,7 @@ struct Wish {
     all: bool,
     lint: bool,
     strict: bool,
+    as_json: bool,
 }
 
 impl Wish {
@@ -80,6 +83,7 @@ impl Wish {
                 all: options.has("all"),
                 lint,
                 strict,
+                as_json: options.has("json"),
             }),
             Err(fault) => Err(fault),
         }
@@ -96,6 +100,7 @@ impl TellsOfFile for Wish {
             path: name.as_str(),
             source: bytes.as_slice(),
             profile: self.profile,
+            as_json: self.as_json,
         };
         match compile(
             file.profile,
@@ -158,7 +163,7 @@ fn tell_fault(
         tell_warnings(output, file, tokens, &warnings)?;
     }
     let note = explain(file.source, tokens, file.profile, fault);
-    tell(output, file.path, &note)
+    tell(output, file, &note)
 }
 
 /// Tells the warnings about a file.
@@ -169,16 +174,16 @@ fn tell_warnings(
     warnings: &Warnings,
 ) -> Result<(), Fault> {
     for warning in warnings.list() {
-        tell(output, file.path, &warning.note(tokens))?;
+        tell(output, file, &warning.note(tokens))?;
     }
     Ok(())
 }
 
-/// Tells a note on a file of this name.
-fn tell(output: &mut Output, path: &str, note: &Note) -> Result<(), Fault> {
+/// Tells a note on a file.
+fn tell(output: &mut Output, file: &SourceFile<'_>, note: &Note) -> Result<(), Fault> {
     let text = output.text();
-    text.push_str(path)?;
-    text.push_str(":")?;
-    text.push_str(note.as_str())?;
+    let mut draft = Draft::new(*text.allocator());
+    file.add_note(&mut draft, note.as_str(), None);
+    draft.move_behind(text)?;
     Ok(())
 }

@@ -6,7 +6,7 @@ use explanations::explain_left;
 use grammar::Diagnostic;
 use recovery::{Lines, MOST_BYTES, MOST_FAULTS, Rest};
 use std::alloc::{AllocError, Global};
-use tools::{Draft, Fault, Text};
+use tools::{Draft, Fault};
 
 /// Adds the explanations of the faults after the first one, which `compile` found, or that the source is too large. The
 /// only fault is that memory is refused.
@@ -17,8 +17,9 @@ pub fn add_later_faults(
     first: &Diagnostic,
 ) -> Result<(), Fault> {
     if file.source.len() > MOST_BYTES {
-        text.push_str(file.path)?;
-        text.push_str(": over 262144 bytes: no later fault is looked for\n")?;
+        let mut draft = Draft::new(alloc);
+        file.add_limit(&mut draft);
+        draft.move_behind(text)?;
         return Ok(());
     }
     let mut rest = Rest::of(alloc, file.source, file.profile)?;
@@ -48,21 +49,6 @@ fn add_fault(
     let tokens = locate(alloc, rest.bytes())?;
     let note = explain_left(file.source, tokens.as_slice(), file.profile, fault);
     let mut draft = Draft::new(alloc);
-    draft.add(file.path);
-    draft.add(":");
-    draft.add(note.as_str());
-    add_lines(&mut draft, lines);
+    file.add_note(&mut draft, note.as_str(), Some(lines));
     draft.move_behind(text)
-}
-
-/// Adds how a fault was found.
-fn add_lines(draft: &mut Draft, (first, last): Lines) {
-    draft.add("  found: by recovery, without line");
-    draft.add(if first == last { " " } else { "s " });
-    draft.number(u64::from(first));
-    if first != last {
-        draft.add(" to ");
-        draft.number(u64::from(last));
-    }
-    draft.add("\n");
 }

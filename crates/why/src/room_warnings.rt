@@ -2,7 +2,7 @@
 
 use crate::source_files::SourceFile;
 use facts::{Facts, add_room};
-use std::alloc::Global;
+use std::alloc::{AllocError, Global};
 use tools::{Draft, Fault, Text};
 
 /// Adds the warning about the robot of a file that compiles, if it may restart for want of room: a line as those of other
@@ -18,34 +18,40 @@ pub fn add_want_of_room(
     if facts.bound.has_room {
         return Ok(false);
     }
-    let mut room = Draft::new(alloc);
-    add_room(&mut room, &facts);
-    let mut line = Draft::new(alloc);
-    line.add(file.path);
-    add_place(&mut line, &facts);
-    let room = room.finish()?;
-    line.add(": warning: ");
-    let mut is_first = true;
-    for words in room.trim().split('\n') {
-        if !is_first {
-            line.add(", ");
-        }
-        line.add(words.trim());
-        is_first = false;
-    }
-    line.add("\n");
-    line.move_behind(text)?;
+    let note = want_of_room(alloc, &facts)?;
+    let mut draft = Draft::new(alloc);
+    file.add_note(&mut draft, note.as_str(), None);
+    draft.move_behind(text)?;
     Ok(true)
 }
 
+/// Returns the warning as a note has it. The only error is that memory is refused.
+fn want_of_room(alloc: Global, facts: &Facts) -> Result<String, AllocError> {
+    let mut room = Draft::new(alloc);
+    add_room(&mut room, facts);
+    let room = room.finish()?;
+    let mut note = Draft::new(alloc);
+    add_place(&mut note, facts);
+    note.add(": warning: ");
+    let mut is_first = true;
+    for words in room.trim().split('\n') {
+        if !is_first {
+            note.add(", ");
+        }
+        note.add(words.trim());
+        is_first = false;
+    }
+    note.add("\n");
+    note.finish()
+}
+
 /// Adds the line and the column of `main`.
-fn add_place(line: &mut Draft, facts: &Facts) {
+fn add_place(note: &mut Draft, facts: &Facts) {
     for part in &facts.functions {
         if part.name.has_bytes(b"main") {
-            line.add(":");
-            line.number(u64::from(part.line));
-            line.add(":");
-            line.number(u64::from(part.column));
+            note.number(u64::from(part.line));
+            note.add(":");
+            note.number(u64::from(part.column));
         }
     }
 }
