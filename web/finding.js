@@ -4,10 +4,13 @@ import {byId} from "./dom.js";
 // how many places are marked at once
 const MOST_MARKED = 1000;
 
+/** A text in small letters, each at its place: one whose small letter takes more room stays as it is. */
+const lowered = text => Array.from(text, letter => letter.toLowerCase().length === letter.length ? letter.toLowerCase() : letter).join("");
+
 /** Returns where a text stands in another one, whatever the case of its letters. */
 export function placesOf(wanted, text) {
     const places = [];
-    const [low, within] = [wanted.toLowerCase(), text.toLowerCase()];
+    const [low, within] = [lowered(wanted), lowered(text)];
     for (let at = low ? within.indexOf(low) : -1; at >= 0; at = within.indexOf(low, at + low.length)) {
         places.push(at);
     }

@@ -57,9 +57,10 @@ def option(item: str, text: str) -> Option | None:
 
 
 def sentence(text: str) -> str:
-    """The first sentence of a text of a manual page, as a reader sees it, without its end."""
-    plain = " ".join(seen(line) for line in text.splitlines())
-    return re.sub(r" ([.,:;])", r"\1", plain).partition(". ")[0].rstrip(".").replace("\\-", "-").replace("\\&", "")
+    """The first sentence of a text of a manual page, as a reader sees it, without its end, and without a section that it refers to."""
+    plain = re.sub(r" ([.,:;])", r"\1", " ".join(seen(line) for line in text.splitlines()))
+    first = re.split(r"(?<!\\&)\.(?: |$)", plain, maxsplit=1)[0]
+    return re.sub(r"[,:;] see$", "", first).replace("\\-", "-").replace("\\&", "")
 
 
 def seen(line: str) -> str:

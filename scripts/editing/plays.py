@@ -130,7 +130,10 @@ class Plays:
             self._show(play.output.decode(errors="replace").replace(play.file, os.path.basename(play.file)).strip(), None)
             return
         play.take()
-        self._next(play)
+        try:
+            self._next(play)
+        except Fault as why:
+            self._show(str(why), None)
 
     def _close(self, play: Play) -> int:
         """Waits for the program that wrote all; answers its status."""

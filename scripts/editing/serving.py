@@ -171,10 +171,12 @@ class Server:
     def opened(self, params: Fields) -> None:
         it = params.fields("textDocument")
         uri = it.text("uri")
+        waiting: list[Asked] = []
         if uri in self._documents:
             self._stop(self._documents[uri])
+            waiting = self._documents[uri].asked
         text = Text(it.text("text"), self._settings.encoding)
-        self._documents[uri] = Document(uri, text, it.number_or("version", 0), self._settings.profile)
+        self._documents[uri] = Document(uri, text, it.number_or("version", 0), self._settings.profile, asked=waiting)
         self._know(self._documents[uri])
 
     def changed(self, params: Fields) -> None:

@@ -5,6 +5,7 @@ from __future__ import annotations
 import http.client
 import importlib
 import os
+import random
 import re
 import subprocess
 import time
@@ -39,6 +40,15 @@ ADDRESSES: dict[tuple[str, str], tuple[int, int, int, int]] = {
 FIELDS = {"/robots": {"robot": "mine", "source": other(2)}, "/check": {"robot": "mine", "source": other(2)}, "/robots/mine/back": {"version": "1"}, "/organiser/invite": {"name": "New"},
           "/organiser/withdraw": {"name": "New"}, "/join": {"token": "x"}, "/sign-up": {"name": "Sue"}}
 WRITES = [path for method, path in ADDRESSES if method == "POST"]
+
+
+def forgotten_at(tried: list[tuple[str, float]], address: str) -> int:
+    """How many attempts there were when an address was forgotten last, as four others had tried since its own last attempt."""
+    forgotten, others = 0, set[str]()
+    for at, (by, _) in enumerate(tried, 1):
+        others = set() if by == address else {*others, by}
+        forgotten = at if len(others) >= 4 else forgotten
+    return forgotten
 
 
 class Authors(Base):
@@ -211,6 +221,25 @@ class Authors(Base):
                     it.count("one")
                 if (it.are_many("one"), it.are_many("another")) != (wanted, False):
                     yield f"after {second} seconds: {it.are_many('one')}, {it.are_many('another')}"
+
+    def any_attempts_of_many(self) -> Iterator[str]:
+        """Of drawn attempts by six addresses, of which four are kept, those that tried last: by a plain list of all attempts. So who tries
+        on isn't forgotten, however many others try once."""
+        draw, now = random.Random(83), [1000.0]
+        with mock.patch("ladder.attempts.time.monotonic", lambda: now[0]), mock.patch("ladder.attempts.SECONDS", 60.0), mock.patch("ladder.attempts.ADDRESSES", 4):
+            for _ in range(300):
+                most, tried = draw.randint(1, 4), list[tuple[str, float]]()
+                it = Attempts(most)
+                for _ in range(40):
+                    now[0] += draw.choice((0, 1, 1, 20, 61))
+                    one = draw.choice("aaabcdef")
+                    it.count(one)
+                    tried.append((one, now[0]))
+                    for address in "abcdef":
+                        many = sum(by == address and at > now[0] - 60 for by, at in tried[forgotten_at(tried, address):])
+                        if it.are_many(address) != (many >= most):
+                            yield f"{tried}, {address}: {it.are_many(address)}"
+                            return
 
     def an_old_session_is_none(self) -> Iterator[str]:
         """After thirty days a browser has to join again. A link has no such end."""

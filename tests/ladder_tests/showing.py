@@ -2,6 +2,7 @@
 
 from __future__ import annotations
 
+import itertools
 import os
 import re
 import tempfile
@@ -139,16 +140,19 @@ class Showing(Base):
             yield f"{tags}"
 
     def of_films_the_newest_are_kept(self) -> Iterator[str]:
-        folder, kept = self._at("films"), films.KEPT
-        films.KEPT = 3
-        try:
-            for at in range(5):
-                films.keep(f"{folder}/{at}.html", b"x")
-                os.utime(f"{folder}/{at}.html", (at, at))
-        finally:
-            films.KEPT = kept
-        if (found := sorted(os.listdir(folder))) != ["2.html", "3.html", "4.html"]:
-            yield f"{found}"
+        """In any order of their names, which are numbers of seatings and matches; what isn't a film stays."""
+        names = ["1-1", "1-10", "1-9", "10-1", "2-1"]
+        with mock.patch("ladder.films.KEPT", 3):
+            for number, order in enumerate(itertools.permutations(names)):
+                folder = self._at(f"films{number}")
+                for at, name in enumerate(order):
+                    films.keep(f"{folder}/{name}.html", b"x")
+                    os.utime(f"{folder}/{name}.html", (at, at))
+                    if not at:
+                        open(f"{folder}/0.txt", "wb").close()
+                wanted = sorted(["0.txt", *(f"{name}.html" for name in order[2:])])
+                if (found := sorted(os.listdir(folder))) != wanted:
+                    yield f"{order}: {found}"
 
     def sources_that_a_killed_server_left_are_removed(self) -> Iterator[str]:
         """Old ones, which no other server looks at, and nothing else."""

@@ -22,7 +22,7 @@ from packages import lacking
 from results.scores import Score
 from results.standings import Rating, Standing
 from sites import addresses, charts, colours, columns, commands, index, links, lookups, names, notables, places, robot_data, scales, shares, sources, sums
-from sites.facts import Battle, BySeat, Pair, Seat, Series, Settings, Stay
+from sites.facts import Battle, BySeat, Pair, Seat, Series, Settings, Stay, Table, Version
 from sites.gathering import Gathering, Losses
 from sites.markup import Markup, block, escaped, tag
 
@@ -63,6 +63,7 @@ def results() -> Results:
     yield from markup()
     yield from scores()
     yield from chosen()
+    yield from names_of_replays()
     yield from gathered()
     yield from command_lines()
     yield from battle_links()
@@ -70,6 +71,7 @@ def results() -> Results:
     yield from colour_steps()
     yield from columns_of_tables()
     yield from axes()
+    yield from trends()
     yield from days_of_changes()
     yield from addresses_of_pages()
     yield "sums of two matches", dict(sums.rows(made.SUMS.objects * 2)) == {
@@ -131,6 +133,33 @@ def chosen() -> Results:
     alone = [it.what for it in notables.notables(fought[:1], "a", "b")]
     yield "without an upset", alone == ["closest", "shortest", "longest"]
     yield "nothing is decided", notables.notables(fought[5:7], "a", "b") == ()
+
+
+def names_of_replays() -> Results:
+    """A page that plays a match has another name if anything is otherwise that it depends on, and the same one whatever else is otherwise:
+    so one that is there is never shown for another match."""
+    facts, fought = made.league(3), made.battle("a.r", "b.r", 0, 100, 7)
+    versions = [Version("1" * 64, None), Version("2" * 64, None)]
+    before = places.replay_page(facts, fought, versions)
+    settings = facts.settings
+    others = {
+        "program": (replace(facts, program=replace(facts.program, sha256="0" * 64)), fought, versions),
+        **{name: (replace(facts, settings=replace(settings, **{name: getattr(settings, name) + 1})), fought, versions) for name in ("cycles", "profile")},
+        **{name: (facts, replace(fought, **{name: getattr(fought, name) + 1}), versions) for name in ("number", "seed")},
+        "seats": (facts, replace(fought, seats=fought.seats[::-1]), versions), "versions": (facts, fought, versions[::-1]),
+        "a robot": (facts, replace(fought, seats=(Seat("c.r", 0), fought.seats[1])), versions),
+        "a source": (facts, fought, [versions[0], Version("3" * 64, None)]),
+        "a robot more": (facts, replace(fought, seats=(*fought.seats, Seat("c.r", 0))), [*versions, Version("3" * 64, None)])}
+    found = {what: places.replay_page(*it) for what, it in others.items()}
+    for what, name in found.items():
+        yield f"a replay's name with another {what}", name != before
+    yield "names of replays", len({*found.values()}) == len(found)
+    same = {
+        "title": (replace(facts, title="another"), fought, versions), "version": (replace(facts, program=replace(facts.program, version="9")), fought, versions),
+        **{name: (replace(facts, settings=replace(settings, **{name: getattr(settings, name) + 1})), fought, versions) for name in ("matches", "seed")},
+        "day": (facts, fought, [replace(it, day="2026-01-01") for it in versions])}
+    for what, it in same.items():
+        yield f"a replay's name whatever the {what} is", places.replay_page(*it) == before
 
 
 def gathered() -> Results:
@@ -294,6 +323,32 @@ def columns_of_tables() -> Results:
     first = index.index(lookup)
     said = [it.help.strip() for it in columns.STANDINGS if it.help]
     yield "what is said of columns", len(said) >= 3 and all(escaped(it) in first for it in said)
+
+
+def trends() -> Results:
+    """How far a robot rose or fell since the last table before of the same season, in the same division: of drawn tables, which a plain
+    look backwards compares."""
+    draw, wrong = random.Random(11), list[str]()
+    facts = made.league(4)
+    for _ in range(300):
+        earlier, season = [], draw.choice("ab")
+        for day in range(draw.randint(0, 5)):
+            there = draw.sample(facts.standings, draw.randint(0, 4))
+            places_ = {it.robot: replace(it, rank=rank, division=draw.randint(1, 2)) for rank, it in enumerate(there, 1)}
+            earlier.append(Table(f"2026-11-{day + 1:02}", places_, draw.choice("ab")))
+        lookup = lookups.Lookup(replace(facts, season=season, earlier=tuple(earlier)))
+        view = columns.View(lookup, before=lookup.before())
+        last = [it.places for it in earlier if it.season == season][-1:]
+        for row in facts.standings:
+            was = last[0].get(row.robot) if last else None
+            if was is None or was.division != row.division:
+                wanted = "new"
+            else:
+                by = was.rank - row.rank
+                wanted = "= same" if not by else f"▲ up {by}" if by > 0 else f"▼ down {-by}"
+            found = " ".join(re.sub("<[^>]*>", " ", columns.trend(view, row)).split())
+            wrong += [] if found == wanted else [f"{row.robot}: {found}, not {wanted}"]
+    yield f"trends {wrong[:3]}", not wrong
 
 
 # Which changes are drawn in a chart of the days from the 5th to the 20th: those after the first table, up to the day of the last one.

@@ -2,6 +2,7 @@
 
 from __future__ import annotations
 
+import random
 import shlex
 import subprocess
 from pathlib import Path
@@ -63,6 +64,33 @@ class Texts(Base):
         return differ(answers[1:], [["no breakpoints"], ["breakpoint 1: line 4"], ["breakpoint 2: scan if reply>0&&reply != 700"], [],
                                     ["breakpoint 3: hit"], ["breakpoint 2: scan if reply>0&&reply != 700", "breakpoint 3: hit"],
                                     ["1: no breakpoint has this number"], ["x: no breakpoint has this number"]])
+
+    def numbers_of_breakpoints(self) -> list[str]:
+        """Whatever is set and deleted, drawn: each new one has the number behind the last one that was ever set, and what is listed is what
+        was set and not deleted, in its order."""
+        draw, wrong = random.Random(42), []
+        for _ in range(20):
+            commands, wanted = list[str](), list[list[str]]()
+            there, last = dict[int, str](), 0
+            for _ in range(30):
+                what = draw.choice(("b", "b", "watch", "delete", "delete", "info"))
+                number = draw.randint(1, last + 1)
+                if what == "b":
+                    last, line = last + 1, draw.choice((4, 5, 6))
+                    there[last] = f"breakpoint {last}: line {line}"
+                    command, told = f"b {line}", [there[last]]
+                elif what == "watch":
+                    last += 1
+                    there[last] = f"watch {last}: seen"
+                    command, told = "watch seen", [there[last]]
+                elif what == "delete":
+                    command, told = f"delete {number}", [] if there.pop(number, None) else [f"{number}: no breakpoint has this number"]
+                else:
+                    command, told = "info breakpoints", [*there.values()] or ["no breakpoints"]
+                commands.append(command)
+                wanted.append(told)
+            wrong += differ(self._answers(commands, "-l20", "looker.r")[1:], wanted)
+        return wrong[:3]
 
     def the_source(self) -> list[str]:
         """Eleven lines at most, with a mark at the one where the robot is."""

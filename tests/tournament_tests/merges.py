@@ -10,10 +10,13 @@ import re
 import shutil
 import subprocess
 from collections import Counter
+from urllib.parse import quote
 
 from harness import skip
 from packages import lacking
-from tournaments import merging, records
+from tournaments import merging, plans, records
+from tournaments.robots import Robot
+from tournaments.settings import Settings
 
 from .base import COUNTER, FORMS, ROBOTS, TABLE, Base, read, write
 
@@ -56,6 +59,22 @@ class Merges(Base):
         longest = max(map(len, read(self._at("records")).splitlines(True)))
         right = ran.returncode == 0 and 2500 < longest <= 4096 and ran.stdout.count(",1000,0,1000,0,1.000,") == 3
         return [] if right else [f"{longest} {ran}"]
+
+    def the_longest_records_are_one_write(self) -> list[str]:
+        """Of drawn settings and names: with as many matches as a plan's series has, a record of the longest names and numbers, whose matches
+        all go on to the limit and in which all die, has at most 4,096 bytes; with one match more it has so many, or more."""
+        draw, wrong = random.Random(41), []
+        for _ in range(400):
+            sizes = tuple(sorted(draw.sample((2, 3, 4), draw.randint(1, 3))))
+            it = Settings(draw.choice((1, 6, 1_000_000)), draw.choice((1, 9, 10, 500_000, 10**9)), draw.choice((0, 2**64 - 1)), 1, "f" * 64, draw.randint(4, 30), sizes)
+            robots = [Robot("/".join(draw.choice(("a", "\u00e4 ", "x" * 40)) for _ in range(draw.randint(1, 5))), f"{at:064x}") for at in range(it.robots)]
+            most = plans.one_write(it, robots)
+            among = sorted(robots, key=lambda robot: -len(quote(robot.path)))[:sizes[-1]]
+            series = records.Series((*range(it.robots - len(among), it.robots),), 2**64 - 1, it.matches, it.matches)
+            result = f"{it.cycles}{':100' * len(among)}"
+            longest = [len(records.Record(it, series, (*among,), ",".join([result] * matches)).line()) for matches in (most, most + 1)]
+            wrong += [] if longest[0] <= 4096 <= longest[1] else [f"{it}: {longest}"]
+        return wrong[:5]
 
     def _pieces(self) -> None:
         """Plays a tournament of three robots in six pieces, out.1 to out.6 as a Slurm array would."""

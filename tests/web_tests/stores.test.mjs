@@ -9,7 +9,7 @@ import {pathToFileURL} from "node:url";
 
 const load = name => import(pathToFileURL(path.join(process.env.CROBOTS_WEB, `${name}.js`)));
 const {NEW_SOURCE, Store, lostBetween} = await load("store");
-const {Archive, exported, imported} = await load("versions");
+const {Archive, bytesOf, exported, imported} = await load("versions");
 const {Keeper, LocalShelf} = await load("shelves");
 const {diffOf} = await load("diffs");
 
@@ -335,6 +335,15 @@ async function written(kept = device("both")) {
     return page;
 }
 
+/** A version of a robot alone. */
+const version = (id, line, time, source) => ({id, line, time, why: "run", label: "", isLinked: false, isTouched: true, battle: {robots: [robot("a.r", source)], settings: SETTINGS}});
+
+/** A list in another order. */
+function shuffled(list, random) {
+    const left = [...list];
+    return list.map(() => left.splice(random.below(left.length), 1)[0]);
+}
+
 const has = (store, source) => store.archive.versions.some(({battle}) => sourcesOf(battle).includes(source));
 
 test("undo brings back what it names, and leaves newer work", async () => {
@@ -465,6 +474,39 @@ test("two tabs with a battle keep both", async () => {
     const {store} = await new Opened(kept, Date.now, 1e7).begin();
     assert.ok(has(store, "main() { /* the other tab */ }") && has(store, "main() { /* this tab */ }"));
     assert.equal(store.archive.heads.length, 2);
+});
+
+test("drafts become versions in whatever order they are read", () => {
+    const random = chance(76);
+    for (let time = 0; time < 300; time += 1) {
+        const versions = Array.from({length: random.below(4)}, (_, at) => version(`v${at}`, random.of(["x", "y"]), 10 * at + 5, random.of(["a", "b", "c"])));
+        const times = Array.from({length: 1 + random.below(5)}, (_, at) => 7 * at + random.below(7)).sort((a, b) => a - b);
+        const drafts = times.map((at, number) => ({place: `p${number}`, version: version(`p${number}`, random.of(["x", "y"]), at, random.of(["a", "b", "c"]))}));
+        // by hand: one after another by time, each is a version unless the newest of its line has the same text
+        const wanted = [...versions];
+        const newest = line => wanted.filter(it => it.line === line).sort((a, b) => a.time - b.time).at(-1);
+        const gone = [];
+        drafts.forEach(({place, version: it}) => newest(it.line)?.battle.robots[0].source === it.battle.robots[0].source ? gone.push(place) : wanted.push(it));
+        const told = it => `${it.line} ${it.time} ${it.battle.robots[0].source}`;
+        const undrafted = [];
+        const keeper = {put() {}, remove() {}, undraft({place}) { undrafted.push(place); }};
+        const store = new Store({keeper, known: [], newKey: () => `n${count += 1}`, now: () => 1e6, most: 1e7});
+        store.take({versions, drafts: shuffled(drafts, random)});
+        assert.deepEqual(store.archive.versions.map(told), wanted.sort((a, b) => a.time - b.time).map(told));
+        assert.deepEqual(undrafted.sort(), gone.sort());
+    }
+});
+
+test("what is dropped for drafts is older than each of them", () => {
+    const random = chance(77);
+    for (let time = 0; time < 200; time += 1) {
+        const drafts = Array.from({length: 2 + random.below(5)}, (_, at) => ({place: `p${at}`, version: version(`p${at}`, `l${at}`, 10 * at, `${at}`.repeat(300))}));
+        const keeper = {put() {}, remove() {}, undraft() {}};
+        const room = 1 + random.below(drafts.length);
+        const store = new Store({keeper, known: [], newKey: () => `n${count += 1}`, now: () => 1e6, most: room * bytesOf(drafts[0].version)});
+        store.take({versions: [], drafts: shuffled(drafts, random)});
+        assert.deepEqual(store.archive.versions.map(it => it.time), drafts.slice(-room).map(it => it.version.time));
+    }
 });
 
 test("an older version comes back as a new one", async () => {

@@ -54,6 +54,14 @@ check("hashes", Object.keys(HASHES).map(it => workedOut(new TextEncoder().encode
 const lengths = [1, 55, 56, 63, 64, 65, 119, 120, 1000].map(length => Uint8Array.from({length}, (_, at) => at * 7 & 255));
 check("hashes of lengths", lengths.map(workedOut), await Promise.all(lengths.map(hashOf)));
 const same = text => ({kind: " ", text});
+// all patterns of ten rows that differ or don't: what differs is shown with three rows around it, and dots for each run of the rest
+for (let pattern = 0; pattern < 1 << 10; pattern += 1) {
+    const differs = Array.from({length: 10}, (_, row) => (pattern >> row & 1) === 1);
+    const shows = differs.map((_, row) => differs.some((it, other) => it && Math.abs(other - row) <= 3));
+    const text = shows.map((it, row) => it ? String(row) : "_").join("").replace(/_+/g, "...");
+    const rows_ = differs.map((it, row) => ({kind: it ? "+" : " ", text: String(row)}));
+    check(`the rows that differ are ${pattern.toString(2)}`, shortened(rows_).map(({text: it}) => it).join(""), text);
+}
 check("a difference that is shortened", shortened([..."abcdefgh"].map(same).concat([{kind: "+", text: "x"}], [..."ijklmn"].map(same))).map(({text}) => text).join(""), "...fghxijk...");
 
 const robot = {name: "a.r", source: "main(){}"};
@@ -106,6 +114,9 @@ check("arcs", [drawn(it => it.arc(10, 10, 5, 0, Math.PI / 2)), drawn(it => it.ar
     ["M15 10A5 5 0 0 1 10 15", "M15 10A5 5 0 1 0 10 15", "M15 10A5 5 0 1 1 5 10A5 5 0 1 1 15 10z"]);
 
 check("places", [placesOf("ab", "abxABab"), placesOf("", "x"), placesOf("aa", "aaaa")], [[0, 3, 5], [], [0, 2]]);
+// the small letter of a dotted I is two, and a sigma has another one at the end of a word
+check("places behind letters of all kinds", [placesOf("b", "\u0130\u0130B\u00df\ud83d\ude00b"), placesOf("\u0130", "i\u0130"), placesOf("\u03a3", "\u03a3\u03b1\u03a3")],
+    [[2, 6], [1], [0, 2]]);
 
 const functions = new Map([["scan", {}], ["cannon", {}], ["cos", {}]]);
 const at = text => openCall(text, functions);
