@@ -11,6 +11,8 @@ from typing import Any, NamedTuple
 
 Row = dict[str, Any]
 PROGRAM = "crobots-know"
+# What it calls a text that it is given.
+INPUT = "standard input"
 
 
 class Token(NamedTuple):
@@ -46,6 +48,7 @@ class Known:
     functions: list[Row] = field(default_factory=list)
     loops: list[Row] = field(default_factory=list)
     cycles: list[Row] = field(default_factory=list)
+    needs: list[Row] = field(default_factory=list)
     words: list[Row] = field(default_factory=list)
     intrinsics: list[Row] = field(default_factory=list)
     room: Row | None = None
@@ -64,7 +67,7 @@ class Known:
             self.is_complete = True
         else:
             lists = {"fault": self.faults, "warning": self.faults, "function": self.functions, "loop": self.loops,
-                     "cycles": self.cycles, "word": self.words, "intrinsic": self.intrinsics}
+                     "cycles": self.cycles, "need": self.needs, "word": self.words, "intrinsic": self.intrinsics}
             lists[str(kind)].append(row)
 
     def has_fault(self) -> bool:

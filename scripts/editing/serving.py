@@ -9,9 +9,9 @@ from tools.faults import Fault
 from tools.programs import found, number
 
 from . import colours, completing, mending, telling
-from .documents import UTF_8, UTF_16, Text
+from .documents import UTF_8, UTF_16, Text, name_of
 from .fields import Fields, Wrong
-from .knowing import PROGRAM, Knower, Known, known_of
+from .knowing import INPUT, PROGRAM, Knower, Known, known_of
 from .loops import Loop, send
 from .manual import entries, page
 from .plays import COMMANDS, Plays, opponents
@@ -52,9 +52,10 @@ class Document:
     known: Known | None = None
     knower: Knower | None = None
     asked: list[Asked] = field(default_factory=list)
-    # what was published last, and of which text
-    told: list[Any] | None = None
+    # what was published last
     warnings: list[Any] = field(default_factory=list)
+    # why nothing is known of it
+    why: str = ""
 
 
 @dataclass
@@ -241,7 +242,7 @@ class Server:
         document.knower = None
         said = knower.end()
         if said:
-            self._lost(document, said)
+            self._lost(document, said.replace(INPUT, name_of(document.uri), 1))
             return
         self._said = ""
         document.known = knower.known
@@ -255,7 +256,9 @@ class Server:
         """Says once that nothing is known, and why; what waits for it fails."""
         if said != self._said:
             say(said)
-        self._said = said
+        self._said = document.why = said
+        document.warnings = []
+        publish(document, [])
         waiting, document.asked = document.asked, []
         for asked in waiting:
             send(failure(asked.number, FAILED, said))
@@ -270,7 +273,7 @@ class Server:
         elif document.knower:
             document.asked.append(asked)
         else:
-            send(failure(asked.number, FAILED, self._said))
+            send(failure(asked.number, FAILED, document.why))
 
     def _answer(self, asked: Asked, document: Document) -> None:
         try:

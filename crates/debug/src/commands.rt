@@ -28,6 +28,10 @@ pub enum Command<'a, 'm> {
     /// After a cycle, in the call with which this many frames are open, or in the innermost one for 0, the value of an
     /// expression.
     Value(u32, usize, &'a str),
+    /// The calls that are open after a cycle.
+    Calls(u32),
+    /// The robot's instructions.
+    Code,
     /// No more.
     Quit,
 }
@@ -83,6 +87,8 @@ impl<'a, 'm> Command<'a, 'm> {
                 let sought = sought(event, rest, noted, marks)?;
                 pass(noted, sought, span, Which::All, tail.unwrap_or(""))
             }
+            (["calls", cycle], None) => Ok(Command::Calls(cycle_of(cycle)?)),
+            (["code"], None) => Ok(Command::Code),
             (["quit"], None) => Ok(Command::Quit),
             (words, _) => Err(misread(words.first().copied().unwrap_or(";"))),
         }
@@ -135,6 +141,8 @@ fn misread(word: &str) -> Refusal<'_> {
         "last" => Refusal::Form("last CYCLE EVENT"),
         "all" => Refusal::Form("all CYCLE CYCLE EVENT"),
         "value" => Refusal::Form("value CYCLE [FRAMES]; EXPRESSION"),
+        "calls" => Refusal::Form("calls CYCLE"),
+        "code" => Refusal::Form("code"),
         "quit" => Refusal::Form("quit"),
         other => Refusal::Command(other),
     }

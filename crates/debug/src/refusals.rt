@@ -45,7 +45,7 @@ impl<'a> fmt::Display for Refusal<'a> {
             Refusal::NoText => write!(f, "the line is no text"),
             Refusal::Command(word) => write!(
                 f,
-                "{}: not at, next, last, all, value or quit",
+                "{}: not at, next, last, all, value, calls, code or quit",
                 Plain(word)
             ),
             Refusal::Event(word) => write!(

@@ -13,7 +13,7 @@ use crate::token_rows::end_of;
 use derivations::{Located, locate};
 use explanations::{explain_left, fault_token, warnings_before, warnings_of};
 use grammar::{Diagnostic, Profile};
-use recovery::{MOST_BYTES, MOST_FAULTS, Rest};
+use recovery::{MOST_FAULTS, Rest};
 use std::alloc::AllocError;
 use tools::{Draft, Object, Text};
 
@@ -162,9 +162,6 @@ pub fn add_later_faults(
     let mut rest = Rest::of(alloc, source, profile)?;
     let mut fault = *first;
     let mut place = place_of(subject.tokens, profile, &fault);
-    if source.len() > MOST_BYTES {
-        return LeftOut::of(alloc, source, Some(place));
-    }
     for number in 1..=MOST_FAULTS {
         if rest.leave_out(&fault)?.is_none() {
             return LeftOut::of(alloc, rest.bytes(), Some(place));

@@ -15,12 +15,13 @@ mod name_rows;
 mod notes_read;
 mod parts_left_out;
 mod places;
+mod repairs;
 mod rows;
 mod token_rows;
 mod walkable;
 
 use crate::fault_rows::{add_first_fault, add_later_faults, add_warnings};
-use crate::inputs::source_read;
+use crate::inputs::source_given;
 use crate::known_rows::{add_known, add_words};
 use crate::name_rows::add_names;
 use crate::parts_left_out::LeftOut;
@@ -33,8 +34,7 @@ use recovery::located_past_faults;
 use std::process::ExitCode;
 use tokens::{MemoryFeed, WINDOW_BYTES};
 use tools::{
-    Draft, Fault, Options, PROFILE_OPTIONS, ProgramFrame, Text, Work, Wrong, profile, source_of,
-    write_text,
+    Draft, Fault, Options, PROFILE_OPTIONS, ProgramFrame, Text, Work, Wrong, profile, write_text,
 };
 
 /// The program's name, its line of wrong usage, and its options.
@@ -57,7 +57,7 @@ impl Work for Know {
     /// Reads the source, and tells of it.
     fn work(&self, rt: &HostRuntime, options: &Options<'_>) -> Result<(), Fault> {
         match profile(options) {
-            Ok(profile) => match source_given(rt, options) {
+            Ok(profile) => match only_source(rt, options) {
                 Ok(source) => tell(rt, source.as_slice(), profile),
                 Err(fault) => Err(fault),
             },
@@ -66,12 +66,11 @@ impl Work for Know {
     }
 }
 
-/// Reads the only file that is named: `-` is standard input.
-fn source_given(rt: &HostRuntime, options: &Options<'_>) -> Result<Vec<u8>, Fault> {
+/// Reads the only file that is named.
+fn only_source(rt: &HostRuntime, options: &Options<'_>) -> Result<Vec<u8>, Fault> {
     match options.files() {
         [] => Err(Fault::Usage),
-        [word] if *word == "-" => source_read(rt, FRAME.name),
-        [word] => source_of(rt, FRAME.name, word),
+        [word] => source_given(rt, FRAME.name, word),
         _ => Err(Fault::Wrong(Wrong::Files(1))),
     }
 }
