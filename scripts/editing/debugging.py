@@ -16,10 +16,10 @@ from tools.programs import found
 from .fields import Fields, Wrong
 from .loops import Loop, send
 from .manual import entries, page
-from .matches import Match, Wanted, beside
+from .matches import Match, Wanted
 from .plays import GAME
 from .showing import LOCALS, OF_ROBOT, NoPlace, disassembled, frame_of, frames, parted, scopes, source, variables
-from .stops import NoCount, Stop, on_one_line
+from .stops import Stop, on_one_line
 
 Answer = Any
 HAPPENINGS = {"restart": "The robot restarts", "hurt": "The robot is hurt", "hit": "A missile of the robot hurts another one"}
@@ -87,7 +87,7 @@ class Adapter:
         self._after = []
         try:
             body = self._answer(command, request.fields_or("arguments"))
-        except (Wrong, Failed, Fault, Refused, NoCount, NoPlace, OSError) as why:
+        except (Wrong, Failed, Fault, Refused, NoPlace, OSError) as why:
             told = str(why).strip()
             self._send(reply | {"success": False, "message": told, "body": {"error": {"id": 1, "format": told, "showUser": True}}})
         else:
@@ -180,18 +180,14 @@ class Adapter:
 
     def _cycle(self, way: str, stop: Stop, robot: int) -> int | None:
         """The first cycle on a way in which something stops a robot. A log point doesn't."""
-        if stop.message:
-            return None
-        if not stop.count:
-            return self._of().find(way, [stop.wanted(robot)]).get(stop.wanted(robot))
-        return beside([hit.cycle for hit in stop.counted(self._of().hits(stop.wanted(robot)))], self._of().cycle, way)
+        return None if stop.message else self._of().find(way, [stop.wanted(robot)]).get(stop.wanted(robot))
 
     def _tell_messages(self, way: str, begun: int, last: int) -> None:
         """Says what log points say behind a cycle and up to another one, on the way forwards."""
         if way != FORWARDS:
             return
         told = [(hit.cycle, robot, stop.told(hit)) for stop, robot in self._stops_of_robots() if stop.message
-                for hit in stop.counted(self._of().hits(stop.wanted(robot), stop.shown())) if begun < hit.cycle <= last]
+                for hit in self._of().hits(stop.wanted(robot), stop.shown()) if begun < hit.cycle <= last]
         for _, _, text in sorted(told, key=lambda it: it[:2]):
             self._say(text)
 
@@ -291,11 +287,10 @@ class Adapter:
     def _add(self, stops: list[Stop], stop: Stop) -> dict[str, Answer]:
         """Adds a stop, if what it asks for is right; answers what the client is told of it."""
         try:
-            stop.check()
             for robot in stop.robots:
                 self._of().check(stop.wanted(robot))
                 self._check_message(stop, robot)
-        except (NoCount, Refused) as why:
+        except Refused as why:
             return {"id": stop.number, "verified": False, "message": str(why)}
         stops.append(stop)
         return {"id": stop.number, "verified": True}

@@ -7,7 +7,6 @@ from __future__ import annotations
 
 import contextlib
 import os
-from bisect import bisect_left, bisect_right
 from dataclasses import dataclass
 from typing import Iterable, Sequence
 
@@ -22,15 +21,16 @@ from .words import DEBUGGER
 
 @dataclass(frozen=True)
 class Wanted:
-    """An event of a robot, and what has to hold then."""
+    """An event of a robot, what has to hold then, and which of these hits count."""
 
     robot: int
     event: str
     condition: str = ""
+    count: str = ""
 
     def asked(self) -> str:
         """The event as a command has it."""
-        return f"{self.event}; where {self.condition}" if self.condition else self.event
+        return self.event + (f"; where {self.condition}" if self.condition else "") + (f"; count {self.count}" if self.count else "")
 
 
 @dataclass(frozen=True)
@@ -144,15 +144,6 @@ class Match:
             rows = self._rows(wanted.robot, f"all 0 {LAST_CYCLE} {wanted.asked()}{parts}")
             self._hits[key] = [Hit(int(cycle), (*values,)) for kind, *rest in rows if kind == "found" for cycle, *values in [rest]]
         return self._hits[key]
-
-
-def beside(cycles: Sequence[int], here: int, way: str) -> int | None:
-    """The first of some cycles on a way."""
-    if way == FORWARDS:
-        number = bisect_right(cycles, here)
-        return cycles[number] if number < len(cycles) else None
-    number = bisect_left(cycles, here)
-    return cycles[number - 1] if number else None
 
 
 def is_between(here: int, begun: int, cycle: int | None, way: str) -> bool:

@@ -1,5 +1,6 @@
 //! Commands: what a line asks for.
 
+use crate::counts::Count;
 use crate::expressions::Expressions;
 use crate::passes::{Pass, Which};
 use crate::refusals::Refusal;
@@ -115,12 +116,16 @@ fn pass<'a, 'm>(
         to,
         which,
         condition: None,
+        count: None,
+        hits: 0,
         shown: Vec::new(alloc),
     };
     for part in parts.split(';') {
         let part = part.trim();
         if let Some(words) = part.strip_prefix("where ") {
             pass.condition = Some(Expressions::read(alloc, noted, words, marks)?);
+        } else if let Some(words) = part.strip_prefix("count ") {
+            pass.count = Some(Count::read(words.trim())?);
         } else if let Some(words) = part.strip_prefix("show ")
             && which == Which::All
         {

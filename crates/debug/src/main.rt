@@ -3,6 +3,7 @@
 
 mod codes;
 mod commands;
+mod counts;
 mod expressions;
 mod marks;
 mod open_calls;

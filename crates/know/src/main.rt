@@ -11,6 +11,7 @@ mod fault_rows;
 mod fixes;
 mod inputs;
 mod known_rows;
+mod laws;
 mod name_rows;
 mod notes_read;
 mod parts_left_out;
