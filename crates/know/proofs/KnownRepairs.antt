@@ -21,7 +21,8 @@ mended = file_of_main (codes "a" ∷ codes "b" ∷ [])
     (ExpressionStatement (Assign store_op.Set (var.Local 0) (constant 1)) (ExpressionStatement (local 1) Done))
 
 pub repairs : KnownRepairs
-unfolding compiled tokens located_tokens punctuator_of keyword_of most_nested intrinsic_named intrinsic_name first_profile
+unfolding compiled tokens located_tokens punctuator_of keyword_of most_nested intrinsic_named intrinsic_name
+    first_profile
 repairs = record {
   broken_before_b = refl;
   behind_b = record { is = refl; stays = refl };

@@ -137,15 +137,16 @@ fn suggestions<'a>(
         index,
         hint,
     } = *trouble;
+    let (semicolon, bracket) = marks_that_fit(tokens, index);
     [
         hexadecimal(tokens, index, hint),
         comparing(tokens, index),
-        missing(tokens, index, Punctuator::Semicolon, ";"),
-        missing(tokens, index, Punctuator::CloseRound, ")"),
-        missing(tokens, index, Punctuator::CloseRound, "))"),
-        missing(tokens, index, Punctuator::CloseRound, ")))"),
-        missing(tokens, index, Punctuator::CloseRound, "))))"),
-        missing(tokens, index, Punctuator::CloseRound, ");"),
+        missing(tokens, index, semicolon, ";"),
+        missing(tokens, index, bracket, ")"),
+        missing(tokens, index, bracket, "))"),
+        missing(tokens, index, bracket, ")))"),
+        missing(tokens, index, bracket, "))))"),
+        missing(tokens, index, bracket, ");"),
         superfluous(source, tokens, index, hint),
     ]
 }
@@ -181,24 +182,29 @@ fn comparing<'a>(tokens: &[Located], index: usize) -> Option<Suggestion<'a>> {
     replacing(tokens, index, words)
 }
 
-/// Suggests a punctuator right behind the token before the one of an index, if it fits there.
+/// Reports whether a `;` and whether a `)` fits in the place of the token of an index.
+fn marks_that_fit(tokens: &[Located], index: usize) -> (bool, bool) {
+    let (mut semicolon, mut bracket) = (false, false);
+    for located in &fitting(tokens, index) {
+        semicolon |= located.token == Token::Punctuator(Punctuator::Semicolon);
+        bracket |= located.token == Token::Punctuator(Punctuator::CloseRound);
+    }
+    (semicolon, bracket)
+}
+
+/// Suggests words right behind the token before the one of an index, if they fit there.
 fn missing<'a>(
     tokens: &[Located],
     index: usize,
-    mark: Punctuator,
+    fits: bool,
     words: &'a str,
 ) -> Option<Suggestion<'a>> {
     let before = tokens.get(index.checked_sub(1)?)?;
-    for located in &fitting(tokens, index) {
-        if located.token == Token::Punctuator(mark) {
-            return Some(Suggestion {
-                start: before.end,
-                end: before.end,
-                words,
-            });
-        }
-    }
-    None
+    fits.then_some(Suggestion {
+        start: before.end,
+        end: before.end,
+        words,
+    })
 }
 
 /// Suggests to leave out a brace or a semicolon that a hint says is one too many.

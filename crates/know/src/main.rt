@@ -8,6 +8,7 @@ ghost use Rattle.grammar.specs.Compiled.{compiled};
 mod codes;
 mod crumbs;
 mod fault_rows;
+mod fault_tokens;
 mod fixes;
 mod inputs;
 mod known_rows;
@@ -21,7 +22,8 @@ mod rows;
 mod token_rows;
 mod walkable;
 
-use crate::fault_rows::{add_first_fault, add_later_faults, add_warnings};
+use crate::fault_rows::{add_first, add_first_fault, add_later_faults, add_warnings};
+use crate::fault_tokens::fault_index;
 use crate::inputs::source_given;
 use crate::known_rows::{add_known, add_words};
 use crate::name_rows::add_names;
@@ -76,7 +78,7 @@ fn only_source(rt: &HostRuntime, options: &Options<'_>) -> Result<Vec<u8>, Fault
     }
 }
 
-/// Writes all rows on a source: the first fault before anything else is looked for.
+/// Writes all rows on a source: the first fault, and where it is, before anything else is looked for.
 fn tell(rt: &HostRuntime, source: &[u8], profile: Profile) -> Result<(), Fault> {
     let tokens = locate(rt.alloc(), source)?;
     let subject = Subject {
@@ -110,10 +112,18 @@ fn tell_faulty(rt: &HostRuntime, subject: &Subject<'_>, fault: &Diagnostic) -> R
     requires { compiled subject.now.profile subject.now.source.now ≡ Err fault.now }
 {
     let mut text = Draft::new(rt.alloc());
-    add_first_fault(&mut text, subject, fault)?;
+    let Subject {
+        alloc,
+        source,
+        tokens,
+        profile,
+    } = *subject;
+    let index = fault_index(alloc, source, tokens, profile, fault)?;
+    add_first(&mut text, subject, fault, index);
     write(rt, &mut text)?;
+    add_first_fault(&mut text, subject, fault, index)?;
     add_warnings(&mut text, subject, Some(*fault))?;
-    let left_out = add_later_faults(&mut text, subject, fault)?;
+    let left_out = add_later_faults(&mut text, subject, fault, index)?;
     write(rt, &mut text)?;
     tell_names(rt, subject, &left_out)?;
     add_complete(&mut text);
