@@ -7,8 +7,9 @@ import os
 import queue
 import subprocess
 import threading
+from concurrent.futures import ThreadPoolExecutor
 from pathlib import Path
-from typing import Any, Callable
+from typing import Any, Callable, Iterable
 
 TOP = Path(__file__).resolve().parent.parent
 # Nothing takes so long but a hang.
@@ -19,6 +20,12 @@ Message = dict[str, Any]
 def framed(message: Any) -> bytes:
     body = json.dumps(message).encode()
     return f"Content-Length: {len(body)}\r\n\r\n".encode() + body
+
+
+def side_by_side(trial: Callable[[int], Iterable[str]], count: int) -> list[str]:
+    """What is wrong in trials of these numbers: as many of them at once as there are processors."""
+    with ThreadPoolExecutor(os.cpu_count()) as pool:
+        return [line for lines in pool.map(trial, range(count)) for line in lines]
 
 
 class Gone(Exception):

@@ -7,25 +7,21 @@ import subprocess
 from dataclasses import dataclass, field
 from typing import Any, Callable, Iterable
 
-from stepping.moments import Call, Moment
+from stepping.moments import Moment
 from stepping.pipes import Refused
 from stepping.sessions import BACKWARDS, FORWARDS, LAST_CYCLE, any_line, line_of_call, outside
 from tools.faults import Fault
 from tools.programs import found
 
 from .fields import Fields, Wrong
-from .listings import Listing
 from .loops import Loop, send
 from .manual import entries, page
-from .matches import Match, Wanted, beside
+from .matches import Match, Wanted
 from .plays import GAME
-from .stops import NoCount, Stop, on_one_line
+from .showing import LOCALS, OF_ROBOT, NoPlace, disassembled, frame_of, frames, parted, scopes, source, variables
+from .stops import Stop, on_one_line
 
 Answer = Any
-# Where references to variables begin: a robot, a frame, and a scope.
-OF_ROBOT, OF_FRAME = 100_000, 10
-LOCALS, EXTERNALS, STACK, ROBOT = range(1, 5)
-SCOPES = {LOCALS: "Function", EXTERNALS: "Externals", STACK: "Stack", ROBOT: "Robot"}
 HAPPENINGS = {"restart": "The robot restarts", "hurt": "The robot is hurt", "hit": "A missile of the robot hurts another one"}
 LINES, DATA, EXCEPTIONS = "breakpoint", "data breakpoint", "exception"
 
@@ -55,7 +51,6 @@ class Adapter:
         self._next_stop = 1
         self._launch = Launch()
         self._match: Match | None = None
-        self._listings: dict[str, Listing] = {}
         self._stops: dict[str, list[Stop]] = {}
         self._after: list[Callable[[], None]] = []
 
@@ -92,7 +87,7 @@ class Adapter:
         self._after = []
         try:
             body = self._answer(command, request.fields_or("arguments"))
-        except (Wrong, Failed, Fault, Refused, NoCount, OSError) as why:
+        except (Wrong, Failed, Fault, Refused, NoPlace, OSError) as why:
             told = str(why).strip()
             self._send(reply | {"success": False, "message": told, "body": {"error": {"id": 1, "format": told, "showUser": True}}})
         else:
@@ -124,8 +119,6 @@ class Adapter:
         self._match = Match(self._launch.options, self._launch.files)
         if self._launch.watched not in self._match.robots():
             raise Failed(f"watch {self._launch.watched}: there are {len(self._match.robots())} robots")
-        for file in self._match.files:
-            self._listings.setdefault(os.path.realpath(file), Listing(file, self._launch.profile))
         self._after.append(lambda: self._event("initialized", {}))
         return None
 
@@ -187,18 +180,14 @@ class Adapter:
 
     def _cycle(self, way: str, stop: Stop, robot: int) -> int | None:
         """The first cycle on a way in which something stops a robot. A log point doesn't."""
-        if stop.message:
-            return None
-        if not stop.count:
-            return self._of().find(way, [stop.wanted(robot)]).get(stop.wanted(robot))
-        return beside([hit.cycle for hit in stop.counted(self._of().hits(stop.wanted(robot)))], self._of().cycle, way)
+        return None if stop.message else self._of().find(way, [stop.wanted(robot)]).get(stop.wanted(robot))
 
     def _tell_messages(self, way: str, begun: int, last: int) -> None:
         """Says what log points say behind a cycle and up to another one, on the way forwards."""
         if way != FORWARDS:
             return
         told = [(hit.cycle, robot, stop.told(hit)) for stop, robot in self._stops_of_robots() if stop.message
-                for hit in stop.counted(self._of().hits(stop.wanted(robot), stop.shown())) if begun < hit.cycle <= last]
+                for hit in self._of().hits(stop.wanted(robot), stop.shown()) if begun < hit.cycle <= last]
         for _, _, text in sorted(told, key=lambda it: it[:2]):
             self._say(text)
 
@@ -260,20 +249,28 @@ class Adapter:
     # What stops.
 
     def set_breakpoints(self, given: Fields) -> Answer:
-        """Sets those of a file: each at the first line from its own on that has an instruction."""
+        """Sets those of a file: each at the first line from its own on at which one makes sense."""
         path = given.fields("source").text("path")
         robots = self._robots_of(path)
-        listing = self._listings.get(os.path.realpath(path))
-        told: list[Answer] = []
         stops: list[Stop] = []
-        for asked in given.all("breakpoints"):
-            line = listing.line_from(asked.number("line")) if listing else None
-            if line is None or not robots:
-                told.append({"id": self._new_number(), "verified": False, "line": asked.number("line"), "message": "no instruction is here"})
-                continue
-            told.append(self._add(stops, self._stop(f"line {line}", robots, LINES, asked)) | moved(asked.number("line"), line))
+        told = [self._set_breakpoint(stops, robots, asked) for asked in given.all("breakpoints")]
         self._stops[os.path.realpath(path)] = stops
         return {"breakpoints": told}
+
+    def _set_breakpoint(self, stops: list[Stop], robots: tuple[int, ...], asked: Fields) -> Answer:
+        wanted = asked.number("line")
+        line = self._of().listing(robots[0]).line_from(wanted) if robots else None
+        if line is None:
+            why = "no robot comes to a line from here on" if robots else "no robot of the match is this file"
+            return {"id": self._new_number(), "verified": False, "line": wanted, "message": why}
+        return self._add(stops, self._stop(f"line {line}", robots, LINES, asked)) | moved(wanted, line)
+
+    def locations(self, given: Fields) -> Answer:
+        """The lines of a range at which a breakpoint makes sense."""
+        robots = self._robots_of(given.fields("source").text("path"))
+        first = given.number("line")
+        lines = self._of().listing(robots[0]).lines(first, given.number_or("endLine", first)) if robots else []
+        return {"breakpoints": [{"line": line} for line in lines]}
 
     def _robots_of(self, path: str) -> tuple[int, ...]:
         match = self._of()
@@ -290,11 +287,10 @@ class Adapter:
     def _add(self, stops: list[Stop], stop: Stop) -> dict[str, Answer]:
         """Adds a stop, if what it asks for is right; answers what the client is told of it."""
         try:
-            stop.check()
             for robot in stop.robots:
                 self._of().check(stop.wanted(robot))
                 self._check_message(stop, robot)
-        except (NoCount, Refused) as why:
+        except Refused as why:
             return {"id": stop.number, "verified": False, "message": str(why)}
         stops.append(stop)
         return {"id": stop.number, "verified": True}
@@ -351,35 +347,25 @@ class Adapter:
         match = self._of()
         return {"threads": [{"id": robot, "name": f"{robot} {match.name(robot)}"} for robot in match.robots()]}
 
-    def _source(self, robot: int) -> Answer:
-        path = os.path.abspath(self._of().files[robot - 1])
-        return {"name": os.path.basename(path), "path": path}
-
     def sources(self, _: Fields) -> Answer:
-        files = {it["path"]: it for it in map(self._source, self._of().robots())}
+        match = self._of()
+        files = {it["path"]: it for it in (source(match, robot) for robot in match.robots())}
         return {"sources": [*files.values()]}
 
     def stack_trace(self, given: Fields) -> Answer:
-        robot = self._robot(given.number("threadId"))
-        moment, address = self._of().moment(robot), self._of().address(robot)
-        frames = [self._frame(robot, number, call) for number, call in enumerate(moment.calls)]
-        if frames:
-            frames[0] |= {"column": max(moment.column, 1), "line": moment.line, "instructionPointerReference": str(address)}
-        first, count = given.number_or("startFrame", 0), given.number_or("levels", 0) or len(frames)
-        return {"stackFrames": frames[first : first + count], "totalFrames": len(frames)}
-
-    def _frame(self, robot: int, number: int, call: Call) -> Answer:
-        return {"id": robot * OF_ROBOT + number * OF_FRAME, "name": call.function, "line": call.line, "column": 1, "source": self._source(robot)}
+        found_ = frames(self._of(), self._robot(given.number("threadId")))
+        first, count = given.number_or("startFrame", 0), given.number_or("levels", 0) or len(found_)
+        return {"stackFrames": found_[first : first + count], "totalFrames": len(found_)}
 
     def scopes(self, given: Fields) -> Answer:
         frame = given.number("frameId")
-        return {"scopes": [{"name": name, "variablesReference": frame + scope, "expensive": False} for scope, name in SCOPES.items()]}
+        self._robot(parted(frame)[0])
+        return {"scopes": scopes(frame)}
 
     def variables(self, given: Fields) -> Answer:
-        robot, frame, scope = parted(given.number("variablesReference"))
-        moment = self._of().moment(self._robot(robot))
-        return {"variables": [{"name": name, "value": value, "variablesReference": 0} | evaluable(scope, name)
-                              for name, value in shown(moment, robot, frame, scope)]}
+        reference = given.number("variablesReference")
+        self._robot(parted(reference)[0])
+        return {"variables": variables(self._of(), reference)}
 
     def evaluate(self, given: Fields) -> Answer:
         """The value of an expression in a frame, or of a variable of another one, as FUNCTION.NAME."""
@@ -387,63 +373,18 @@ class Adapter:
         moment = self._of().moment(self._robot(robot))
         expression = on_one_line(given.text("expression"))
         value = moment.value(expression) if "." in expression else None
-        if value is not None:
-            return {"result": str(value), "variablesReference": 0}
-        if frame >= len(moment.calls):
-            raise Failed("there is no such frame")
-        return {"result": self._of().value(robot, moment.calls[frame].frames, expression), "variablesReference": 0}
+        if value is None:
+            return {"result": self._of().value(robot, frame_of(moment, frame).frames, expression), "variablesReference": 0}
+        return {"result": str(value), "variablesReference": 0}
 
     def disassemble(self, given: Fields) -> Answer:
-        """Instructions around an address. All robots' addresses begin at 0; those of the watched one are shown."""
-        address = int(given.text("memoryReference")) + given.number_or("offset", 0) + given.number_or("instructionOffset", 0)
-        listing = self._listings[os.path.realpath(self._of().files[self._launch.watched - 1])]
-        return {"instructions": [instruction(listing, it, self._source(self._launch.watched))
-                                 for it in range(address, address + given.number("instructionCount"))]}
-
-
-def instruction(listing: Listing, address: int, source: Answer) -> Answer:
-    """An instruction as the protocol has it; where there is none, one that says so."""
-    it = listing.at(address)
-    if not it:
-        return {"address": str(address), "instruction": "no instruction", "presentationHint": "invalid"}
-    return {"address": str(address), "instruction": it.text, "line": it.line, "location": source}
+        """Instructions around an address."""
+        offset = given.number_or("offset", 0) + given.number_or("instructionOffset", 0)
+        return {"instructions": disassembled(self._of(), given.text("memoryReference"), offset, given.number("instructionCount"))}
 
 
 def moved(asked: int, line: int) -> Answer:
     return {"line": line} | ({"message": f"moved to line {line}, the next one with an instruction"} if line != asked else {})
-
-
-def evaluable(scope: int, name: str) -> Answer:
-    return {"evaluateName": name} if scope in (LOCALS, EXTERNALS) else {}
-
-
-def parted(reference: int) -> tuple[int, int, int]:
-    """The robot, the frame and the scope of a reference."""
-    return reference // OF_ROBOT, reference % OF_ROBOT // OF_FRAME, reference % OF_FRAME
-
-
-def shown(moment: Moment, robot: int, frame: int, scope: int) -> list[tuple[str, str]]:
-    """The names and values of a scope."""
-    if scope == EXTERNALS:
-        return [(name, str(value)) for name, value in moment.externals.items()]
-    if scope == STACK:
-        return [(str(number), str(word)) for number, word in enumerate(moment.stack)]
-    if scope == ROBOT:
-        return field_of(moment, robot)
-    own = moment.calls[frame].variables if frame < len(moment.calls) else {}
-    return [(name, str(value)) for name, value in own.items()]
-
-
-def field_of(moment: Moment, robot: int) -> list[tuple[str, str]]:
-    """Where a robot is in the field, and what it asked last."""
-    it = next((it for it in moment.robots if it.number == robot), None)
-    told = [("cycle", str(moment.cycle)), ("instruction", moment.instruction)]
-    if it:
-        told += [("x", f"{it.x / 10:g}"), ("y", f"{it.y / 10:g}"), ("heading", str(it.heading)), ("speed", str(it.speed)),
-                 ("damage", f"{it.damage}%"), ("state", "alive" if it.is_alive else "dead")]
-    if moment.asked:
-        told.append(("asked", f"{moment.asked.call} = {moment.asked.reply} in cycle {moment.asked.cycle}"))
-    return told
 
 
 def filters() -> list[dict[str, Any]]:
@@ -467,7 +408,7 @@ def read_launch(given: Fields) -> Launch:
 
 CAPABILITIES = {f"supports{name}": True for name in (
     "ConfigurationDoneRequest", "ConditionalBreakpoints", "HitConditionalBreakpoints", "LogPoints", "StepBack", "DataBreakpoints",
-    "EvaluateForHovers", "DisassembleRequest", "SteppingGranularity", "LoadedSourcesRequest", "TerminateRequest")}
+    "EvaluateForHovers", "BreakpointLocationsRequest", "DisassembleRequest", "SteppingGranularity", "LoadedSourcesRequest", "TerminateRequest")}
 Act = Callable[[Adapter, Fields], Answer]
 BEFORE_LAUNCH: dict[str, Act] = {
     "initialize": Adapter.initialize, "launch": Adapter.launch, "disconnect": Adapter.disconnected, "terminate": Adapter.disconnected,
@@ -475,7 +416,8 @@ BEFORE_LAUNCH: dict[str, Act] = {
 REQUESTS: dict[str, Act] = {
     "configurationDone": Adapter.configured, "threads": Adapter.threads, "stackTrace": Adapter.stack_trace, "scopes": Adapter.scopes,
     "variables": Adapter.variables, "evaluate": Adapter.evaluate, "disassemble": Adapter.disassemble, "loadedSources": Adapter.sources,
-    "setBreakpoints": Adapter.set_breakpoints, "setExceptionBreakpoints": Adapter.set_exceptions, "setDataBreakpoints": Adapter.set_data,
+    "setBreakpoints": Adapter.set_breakpoints, "breakpointLocations": Adapter.locations,
+    "setExceptionBreakpoints": Adapter.set_exceptions, "setDataBreakpoints": Adapter.set_data,
     "dataBreakpointInfo": Adapter.data_info, "continue": Adapter.continue_, "reverseContinue": Adapter.reverse, "next": Adapter.next,
     "stepIn": Adapter.step_in, "stepOut": Adapter.step_out, "stepBack": Adapter.step_back, "pause": Adapter.pause,
 }

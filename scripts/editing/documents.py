@@ -2,7 +2,9 @@
 
 from __future__ import annotations
 
+import os
 import re
+import urllib.parse
 from bisect import bisect_right
 from functools import cached_property
 
@@ -112,3 +114,8 @@ class Text:
     def has(self, offset: int, words: bytes) -> bool:
         """Whether these bytes stand at an offset."""
         return self.content[offset : offset + len(words)] == words
+
+
+def name_of(uri: str) -> str:
+    """The name of the file of a URI."""
+    return os.path.basename(urllib.parse.unquote(urllib.parse.urlsplit(uri).path)).replace("\0", "")

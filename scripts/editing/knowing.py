@@ -11,6 +11,12 @@ from typing import Any, NamedTuple
 
 Row = dict[str, Any]
 PROGRAM = "crobots-know"
+# How a row begins, and how those do that are read at once.
+ROW = b'{"row": "'
+FAULTS = (ROW + b'first"', ROW + b'fault"', ROW + b'warning"')
+COMPLETE = ROW + b'complete"}'
+# What it calls a text that it is given.
+INPUT = "standard input"
 
 
 class Token(NamedTuple):
@@ -36,39 +42,69 @@ class Name(NamedTuple):
         return self.kind, self.function, self.name
 
 
+class NoRow(ValueError):
+    """A line that is none of the program's rows."""
+
+    def __init__(self) -> None:
+        super().__init__(f"{PROGRAM} wrote what is no row")
+
+
 @dataclass
 class Known:
-    """All that is known of a text. It grows as rows come."""
+    """All that is known of a text. It grows as rows come: faults and warnings are read at once, and all else when it is asked for, since
+    most texts change before that. The first fault comes twice: first without its hint."""
 
+    first: Row | None = None
     faults: list[Row] = field(default_factory=list)
     tokens: list[Token] = field(default_factory=list)
     names: list[Name] = field(default_factory=list)
     functions: list[Row] = field(default_factory=list)
     loops: list[Row] = field(default_factory=list)
     cycles: list[Row] = field(default_factory=list)
+    needs: list[Row] = field(default_factory=list)
     words: list[Row] = field(default_factory=list)
     intrinsics: list[Row] = field(default_factory=list)
     room: Row | None = None
     is_complete: bool = False
+    unread: list[bytes] = field(default_factory=list)
 
-    def take(self, row: Row) -> None:
-        """Takes a row."""
-        kind = row.get("row")
+    def take(self, line: bytes) -> None:
+        """Takes the line of a row."""
+        if line == COMPLETE:
+            self.is_complete = True
+        elif line.startswith(FAULTS):
+            self._read([line])
+        elif line.startswith(ROW):
+            self.unread.append(line)
+        else:
+            raise NoRow
+
+    def read(self) -> None:
+        """Reads the rows that nobody has asked for so far."""
+        lines, self.unread = self.unread, []
+        self._read(lines)
+
+    def _read(self, lines: list[bytes]) -> None:
+        try:
+            for line in lines:
+                self._take_row(json.loads(line))
+        except (ValueError, KeyError, TypeError):
+            raise NoRow from None
+
+    def _take_row(self, row: Row) -> None:
+        kind = row["row"]
         if kind == "name":
             self.names.append(Name(row["name"], row["is"], row["role"], row["function"], row["start"], row["end"]))
         elif kind == "tokens":
             self.tokens = [Token(*it) for it in row["tokens"]]
         elif kind == "room":
             self.room = row
-        elif kind == "complete":
-            self.is_complete = True
+        elif kind == "first":
+            self.first = row
         else:
             lists = {"fault": self.faults, "warning": self.faults, "function": self.functions, "loop": self.loops,
-                     "cycles": self.cycles, "word": self.words, "intrinsic": self.intrinsics}
-            lists[str(kind)].append(row)
-
-    def has_fault(self) -> bool:
-        return any(it["row"] == "fault" for it in self.faults)
+                     "cycles": self.cycles, "need": self.needs, "word": self.words, "intrinsic": self.intrinsics}
+            lists[kind].append(row)
 
     @cached_property
     def by_key(self) -> dict[tuple[str, int | None, str], list[Name]]:
@@ -135,8 +171,8 @@ class Knower:
         *lines, self._rest = (self._rest + piece).split(b"\n")
         try:
             for line in lines:
-                self.known.take(json.loads(line))
-        except (ValueError, KeyError, TypeError):
+                self.known.take(line)
+        except NoRow:
             self._wrong = True
         return bool(piece) and not self._wrong
 
@@ -151,7 +187,7 @@ class Knower:
         said = os.pread(self._said, 1000, 0).decode(errors="replace").strip()
         os.close(self._said)
         if self._wrong:
-            return f"{PROGRAM} wrote what is no row"
+            return str(NoRow())
         return "" if is_right else said or f"{PROGRAM} ended {f'by signal {-status}' if status < 0 else f'with status {status}'}"
 
 
@@ -172,4 +208,5 @@ def known_of(path: str, source: bytes, profile: int) -> Known:
         pass
     if said := knower.end():
         raise OSError(said)
+    knower.known.read()
     return knower.known

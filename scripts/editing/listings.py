@@ -1,57 +1,49 @@
-"""The code of a robot, with the lines that it comes from: as `crobots-stages --code` lists it."""
+"""The code of a robot, as the rows of `crobots-debug` say it: where each instruction comes from, and which lines are entered."""
 
 from __future__ import annotations
 
-import re
-import subprocess
 from bisect import bisect_left
 from dataclasses import dataclass
 
-from tools.faults import Fault
-from tools.programs import found
+from stepping.moments import Row
 
-STAGES = "crobots-stages"
-
-LINE = re.compile(r" *(\d+) \|(?: |$)")
-CODE = re.compile(r" {5,}(\d+) (\S.*)$")
+# How an instruction stands to its line if a breakpoint there makes sense. Others only jump on, or no robot comes to them.
+ENTERS = "enters"
 
 
 @dataclass(frozen=True)
 class Instruction:
-    """An instruction: its address, its text, and the line that it comes from."""
+    """An instruction: its address, where it comes from, how it stands to its line, its function, and its text."""
 
     address: int
-    text: str
     line: int
+    column: int
+    how: str
+    function: str
+    text: str
 
 
 class Listing:
-    """The instructions of a file, by their addresses."""
+    """The instructions of a robot, by their addresses."""
 
-    def __init__(self, path: str, profile: int) -> None:
-        ran = subprocess.run([found(STAGES), f"-p{profile}", "--code", path], stdin=subprocess.DEVNULL, capture_output=True,
-                             text=True, errors="replace", check=False)
-        if ran.returncode:
-            raise Fault(ran.stderr.strip())
-        self.instructions = sorted(read(ran.stdout), key=lambda it: it.address)
-        # the last one belongs to no function
-        self._lines = sorted({it.line for it in self.instructions[:-1]})
+    def __init__(self, rows: list[Row]) -> None:
+        self.instructions = [instruction_of(fields) for _, *fields in rows]
+        self._lines = sorted({it.line for it in self.instructions if it.how == ENTERS})
 
     def line_from(self, line: int) -> int | None:
-        """The first line from one on that has an instruction."""
+        """The first line from one on at which a breakpoint makes sense."""
         number = bisect_left(self._lines, line)
         return self._lines[number] if number < len(self._lines) else None
+
+    def lines(self, first: int, last: int) -> list[int]:
+        """The lines from one to another at which a breakpoint makes sense."""
+        return self._lines[bisect_left(self._lines, first) : bisect_left(self._lines, last + 1)]
 
     def at(self, address: int) -> Instruction | None:
         return self.instructions[address] if 0 <= address < len(self.instructions) else None
 
 
-def read(text: str) -> list[Instruction]:
-    """The instructions of a listing: each below its line."""
-    found_, line = [], 0
-    for row in text.splitlines():
-        if code := CODE.fullmatch(row):
-            found_.append(Instruction(int(code[1]), code[2].rstrip(), line))
-        elif head := LINE.match(row):
-            line = int(head[1])
-    return found_
+def instruction_of(fields: Row) -> Instruction:
+    """The instruction of a row."""
+    address, line, column, how, function, text, name = fields
+    return Instruction(int(address), int(line), int(column), how, function, f"{text} {name}".rstrip())

@@ -7,29 +7,39 @@ from __future__ import annotations
 
 import contextlib
 import os
-from bisect import bisect_left, bisect_right
 from dataclasses import dataclass
 from typing import Iterable, Sequence
 
-from stepping.moments import Moment, Row, moment_of
+from stepping.moments import Moment, Question, Row, moment_of
 from stepping.pipes import PROGRAM, Debugger
 from stepping.sessions import BACKWARDS, FORWARDS, LAST_CYCLE
 from tools.programs import found
 
+from .listings import Listing
 from .words import DEBUGGER
 
 
 @dataclass(frozen=True)
 class Wanted:
-    """An event of a robot, and what has to hold then."""
+    """An event of a robot, what has to hold then, and which of these hits count."""
 
     robot: int
     event: str
     condition: str = ""
+    count: str = ""
 
     def asked(self) -> str:
         """The event as a command has it."""
-        return f"{self.event}; where {self.condition}" if self.condition else self.event
+        return self.event + (f"; where {self.condition}" if self.condition else "") + (f"; count {self.count}" if self.count else "")
+
+
+@dataclass(frozen=True)
+class Spot:
+    """Where a robot is in an open call: the address, its line and its column."""
+
+    address: int
+    line: int
+    column: int
 
 
 @dataclass(frozen=True)
@@ -46,7 +56,9 @@ class Match:
     def __init__(self, options: list[str], files: list[str]) -> None:
         self.files = files if len(files) > 1 else files * 2
         self.cycle = 0
-        self._moments: dict[int, tuple[Moment, int]] = {}
+        self._moments: dict[int, Moment] = {}
+        self._spots: dict[int, list[Spot]] = {}
+        self._listings: dict[str, Listing] = {}
         self._kept: dict[tuple[str, Wanted], tuple[int, int | None]] = {}
         self._hits: dict[tuple[Wanted, tuple[str, ...]], list[Hit]] = {}
         with contextlib.ExitStack() as opened:
@@ -67,17 +79,28 @@ class Match:
 
     def moment(self, robot: int) -> Moment:
         """Where a robot is."""
-        return self._at(robot)[0]
-
-    def address(self, robot: int) -> int:
-        """The address of its next instruction."""
-        return self._at(robot)[1]
-
-    def _at(self, robot: int) -> tuple[Moment, int]:
         if robot not in self._moments:
-            rows = self._rows(robot, f"at {self.cycle}")
-            self._moments[robot] = moment_of(rows), address_of(rows)
+            self._moments[robot] = moment_of(self._rows(robot, f"at {self.cycle}"))
         return self._moments[robot]
+
+    def spots(self, robot: int) -> list[Spot]:
+        """Where it is in each open call, the innermost first."""
+        if robot not in self._spots:
+            self._spots[robot] = [Spot(int(address), int(line), int(column))
+                                  for _, _, address, line, column, _ in self._rows(robot, f"calls {self.cycle}")]
+        return self._spots[robot]
+
+    def listing(self, robot: int) -> Listing:
+        """The code of a robot: that of its file."""
+        file = self.files[robot - 1]
+        if file not in self._listings:
+            self._listings[file] = Listing(self._rows(robot, "code"))
+        return self._listings[file]
+
+    def last(self, robot: int, function: str) -> Question | None:
+        """The last time that a robot asked an intrinsic function."""
+        row = self._rows(robot, f"last {self.cycle + 1} ask {function}")[0]
+        return moment_of(self._rows(robot, f"at {row[1]}")).asked if row[0] == "found" else None
 
     def _rows(self, robot: int, command: str) -> list[Row]:
         return self._debugger.right(f"robot {robot} {command}")
@@ -90,6 +113,7 @@ class Match:
         """Goes to another cycle: one behind the end is the last one."""
         self.cycle = max(cycle, 0)
         self._moments.clear()
+        self._spots.clear()
         self.cycle = self.moment(1).cycle
 
     def check(self, wanted: Wanted) -> None:
@@ -122,21 +146,8 @@ class Match:
         return self._hits[key]
 
 
-def beside(cycles: Sequence[int], here: int, way: str) -> int | None:
-    """The first of some cycles on a way."""
-    if way == FORWARDS:
-        number = bisect_right(cycles, here)
-        return cycles[number] if number < len(cycles) else None
-    number = bisect_left(cycles, here)
-    return cycles[number - 1] if number else None
-
-
 def is_between(here: int, begun: int, cycle: int | None, way: str) -> bool:
     """Whether what comes first on a way from one cycle comes first from here, too."""
     if way == BACKWARDS:
         return (0 if cycle is None else cycle) < here <= begun or (cycle is None and here <= begun)
     return begun <= here < (LAST_CYCLE + 1 if cycle is None else cycle)
-
-
-def address_of(rows: list[Row]) -> int:
-    return next((int(row[1]) for row in rows if row[0] == "at"), 0)

@@ -11,7 +11,7 @@ from .knowing import Known, Name, Row
 
 ERROR, WARNING = 1, 2
 SOURCE = "crobots"
-PAGES = {"fault": "language.md#diagnostics", "warning": "mistakes.md"}
+PAGES = {ERROR: "language.md#diagnostics", WARNING: "mistakes.md"}
 Diagnostic = dict[str, Any]
 
 
@@ -21,10 +21,10 @@ class Refusal(Exception):
 
 def diagnostic(text: Text, row: Row, pages: str) -> Diagnostic:
     """A fault or a warning as the protocol has it; its message ends with the hint."""
-    severity = ERROR if row["row"] == "fault" else WARNING
+    severity = WARNING if row["row"] == "warning" else ERROR
     lines = [row["message"], *(f"{name}: {row[name]}" for name in ("met", "fits", "hint") if row.get(name))]
     return {"range": text.range(row["start"], row["end"]), "severity": severity, "code": row["code"], "source": SOURCE,
-            "codeDescription": {"href": f"{pages}/{PAGES[row['row']]}"}, "message": "\n".join(lines)}
+            "codeDescription": {"href": f"{pages}/{PAGES[severity]}"}, "message": "\n".join(lines)}
 
 
 def actions(text: Text, uri: str, known: Known, first: int, last: int, pages: str) -> list[dict[str, Any]]:

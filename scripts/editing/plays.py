@@ -7,7 +7,6 @@ import pathlib
 import re
 import subprocess
 import tempfile
-import urllib.parse
 from dataclasses import dataclass, field
 from typing import Callable
 
@@ -15,6 +14,7 @@ from tools.faults import Fault
 from tools.programs import found
 from tools.samples import ladder
 
+from .documents import name_of
 from .loops import Loop
 
 PLAY, REPLAY = "crobots.play", "crobots.replay"
@@ -97,7 +97,7 @@ class Plays:
     def begin(self, command: str, uri: str, source: bytes, profile: int, against: list[str], is_opened: bool) -> None:
         """Begins a command: the text is put into a file of a folder that goes with the server."""
         folder = tempfile.TemporaryDirectory(prefix="crobots-")
-        name = os.path.basename(urllib.parse.unquote(urllib.parse.urlsplit(uri).path)).replace("\0", "")
+        name = name_of(uri)
         file = os.path.join(folder.name, name if name.endswith(".r") else "robot.r")
         pathlib.Path(file).write_bytes(source)
         play = Play(command, folder, file, profile, against, is_opened)

@@ -9,9 +9,9 @@ from tools.faults import Fault
 from tools.programs import found, number
 
 from . import colours, completing, mending, telling
-from .documents import UTF_8, UTF_16, Text
+from .documents import UTF_8, UTF_16, Text, name_of
 from .fields import Fields, Wrong
-from .knowing import PROGRAM, Knower, Known, known_of
+from .knowing import INPUT, PROGRAM, Knower, Known, NoRow, known_of
 from .loops import Loop, send
 from .manual import entries, page
 from .plays import COMMANDS, Plays, opponents
@@ -52,9 +52,10 @@ class Document:
     known: Known | None = None
     knower: Knower | None = None
     asked: list[Asked] = field(default_factory=list)
-    # what was published last, and of which text
-    told: list[Any] | None = None
+    # what was published last
     warnings: list[Any] = field(default_factory=list)
+    # why nothing is known of it
+    why: str = ""
 
 
 @dataclass
@@ -82,6 +83,7 @@ class Server:
     def __init__(self) -> None:
         self._path = found(PROGRAM)
         self._manual = entries(page())
+        self._pages = pages()
         self._settings = Settings()
         self._documents: dict[str, Document] = {}
         self._is_ready = self._is_asked_to_end = False
@@ -233,22 +235,23 @@ class Server:
 
     def _read(self, document: Document, knower: Knower) -> None:
         """Takes rows: the first fault is published at once, beside the warnings of before, and all when they are complete."""
-        had_fault = knower.known.has_fault()
+        known = knower.known
+        was_said = known.first is not None
         goes_on = knower.read()
-        if knower.known.has_fault() and not had_fault and not knower.known.is_complete:
-            publish(document, [self._diagnostic(document, knower.known.faults[0]), *document.warnings])
+        if known.first and not was_said and not known.is_complete:
+            publish(document, [self._diagnostic(document, known.first), *document.warnings])
         if goes_on:
             return
         self._loop.forget(knower)
         document.knower = None
         said = knower.end()
         if said:
-            self._lost(document, said)
+            self._lost(document, said.replace(INPUT, name_of(document.uri), 1))
             return
         self._said = ""
-        document.known = knower.known
-        document.warnings = [self._diagnostic(document, it) for it in knower.known.faults if it["row"] == "warning"]
-        publish(document, [self._diagnostic(document, it) for it in knower.known.faults])
+        document.known = known
+        document.warnings = [self._diagnostic(document, it) for it in known.faults if it["row"] == "warning"]
+        publish(document, [self._diagnostic(document, it) for it in known.faults])
         waiting, document.asked = document.asked, []
         for asked in waiting:
             self._answer(asked, document)
@@ -257,13 +260,15 @@ class Server:
         """Says once that nothing is known, and why; what waits for it fails."""
         if said != self._said:
             say(said)
-        self._said = said
+        self._said = document.why = said
+        document.warnings = []
+        publish(document, [])
         waiting, document.asked = document.asked, []
         for asked in waiting:
             send(failure(asked.number, FAILED, said))
 
     def _diagnostic(self, document: Document, row: dict[str, Any]) -> Answer:
-        return mending.diagnostic(document.text, row, pages())
+        return mending.diagnostic(document.text, row, self._pages)
 
     def _ask(self, asked: Asked, document: Document) -> None:
         """Answers a request, or keeps it until the text is known."""
@@ -272,12 +277,12 @@ class Server:
         elif document.knower:
             document.asked.append(asked)
         else:
-            send(failure(asked.number, FAILED, self._said))
+            send(failure(asked.number, FAILED, document.why))
 
     def _answer(self, asked: Asked, document: Document) -> None:
         try:
             answer = asked.ask(document, asked.params)
-        except (Wrong, Failed, mending.Refusal) as why:
+        except (Wrong, Failed, NoRow, mending.Refusal) as why:
             code = WRONG_PARAMS if isinstance(why, Wrong) else FAILED
             send(failure(asked.number, code, str(why)))
         else:
@@ -324,7 +329,7 @@ class Server:
 
     def actions(self, document: Document, params: Fields) -> Answer:
         text, known = whole(document)
-        return mending.actions(text, document.uri, known, *mending.span_of(text, params.fields("range")), pages())
+        return mending.actions(text, document.uri, known, *mending.span_of(text, params.fields("range")), self._pages)
 
     def prepare(self, document: Document, params: Fields) -> Answer:
         text, known, offset = placed(document, params)
@@ -339,7 +344,7 @@ class Server:
         try:
             mending.check_name(known_of(self._path, new.encode("utf-8", "surrogatepass"), document.profile), new)
             after = known_of(self._path, mending.renamed(text, uses, new), document.profile)
-        except OSError as why:
+        except (OSError, NoRow) as why:
             raise Failed(str(why)) from why
         if new != old.name:
             mending.check_meaning(known, after, uses, new)
@@ -375,7 +380,9 @@ def named(known: Known, offset: int) -> Any:
 
 
 def whole(document: Document) -> tuple[Text, Known]:
+    """A document's text, and all that is known of it."""
     assert document.known
+    document.known.read()
     return document.text, document.known
 
 

@@ -7,12 +7,7 @@ from dataclasses import dataclass, field
 
 from .matches import Hit, Wanted
 
-COUNT = re.compile(r"(==|>=|<=|>|<|%|) *(\d{1,9})")
 HOLE = re.compile(r"\{([^{}]*)\}")
-
-
-class NoCount(Exception):
-    """A hit condition that is none."""
 
 
 @dataclass
@@ -29,13 +24,8 @@ class Stop:
     message: str = ""
     wrong: dict[str, str] = field(default_factory=dict)
 
-    def check(self) -> None:
-        """Stops if the count is none."""
-        if self.count and not COUNT.fullmatch(self.count):
-            raise NoCount(f"{self.count}: not as 3, >= 3 or % 3")
-
     def wanted(self, robot: int) -> Wanted:
-        return Wanted(robot, self.event, self.condition)
+        return Wanted(robot, self.event, self.condition, self.count)
 
     def holes(self) -> list[str]:
         """The expressions of the message."""
@@ -44,19 +34,6 @@ class Stop:
     def shown(self) -> list[str]:
         """Those that have values."""
         return [it for it in self.holes() if it not in self.wrong]
-
-    def counted(self, hits: list[Hit]) -> list[Hit]:
-        """Those of all hits in a match that count."""
-        return [hit for number, hit in enumerate(hits, 1) if self._is_counted(number)]
-
-    def _is_counted(self, number: int) -> bool:
-        found = COUNT.fullmatch(self.count)
-        if not found:
-            return True
-        operator, wanted = found[1], int(found[2])
-        answers = {"": number == wanted, "==": number == wanted, ">=": number >= wanted, "<=": number <= wanted, ">": number > wanted,
-                   "<": number < wanted, "%": bool(wanted) and number % wanted == 0}
-        return answers[operator]
 
     def told(self, hit: Hit) -> str:
         """What a log point says: expressions in curly brackets by their values."""

@@ -45,13 +45,28 @@ def of_function(text: Text, known: Known, name: Name, manual: dict[str, Entry]) 
     if not function:
         return f"`{name.name}`: no function of this name is defined"
     head = f"`{name.name}({', '.join(parameters_of(known, name.name, manual) or [])})`"
-    count = len(known.locals(function))
-    told = [f"defined on line {text.position(function['start'])['line'] + 1}", f"{count} variable{'' if count == 1 else 's'}"]
+    told = [f"defined on line {text.position(function['start'])['line'] + 1}", counted(len(known.locals(function)), "variable")]
     if cycles := cycles_at(text, known, "call", function["start"]):
         told.append(f"a call takes {cycles}")
     if name.name == "main" and known.room:
-        told.append(f"the robot needs {known.room['message']}")
+        told.append(f"room of the robot: {known.room['message']}")
+    else:
+        told += room(text, known, function["start"])
     return f"{head}\n\n" + "; ".join(told)
+
+
+def room(text: Text, known: Known, offset: int) -> list[str]:
+    """The room that a call of the function at an offset needs, in words; nothing if it isn't known."""
+    row = next((it for it in known.needs if offset_of(text, it) == offset), None)
+    if not row:
+        return []
+    if row["words"] is None:
+        return ["no room is enough for one, since it can come back"]
+    return [f"one needs {counted(row['words'], 'word')} and {counted(row['frames'], 'frame')}"]
+
+
+def counted(count: int, what: str) -> str:
+    return f"{count} {what}{'' if count == 1 else 's'}"
 
 
 def function_of(known: Known, name: Name) -> str:

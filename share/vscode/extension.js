@@ -57,6 +57,7 @@ class Server {
 const position = (it) => new vscode.Position(it.line, it.character);
 const range = (it) => new vscode.Range(position(it.start), position(it.end));
 const plain = (it) => ({ line: it.line, character: it.character });
+const plainRange = (it) => ({ start: plain(it.start), end: plain(it.end) });
 const spot = (document, at) => ({ textDocument: { uri: document.uri.toString() }, position: plain(at) });
 const whole = (document) => ({ textDocument: { uri: document.uri.toString() } });
 const markdown = (it) => new vscode.MarkdownString(it.value);
@@ -102,8 +103,14 @@ function action(it) {
   return made;
 }
 
-/** What the editor asks, and how its questions are those of the protocol. */
-function providers(server) {
+function hint(it) {
+  const made = new vscode.InlayHint(position(it.position), it.label);
+  made.paddingLeft = it.paddingLeft;
+  return made;
+}
+
+/** What the editor asks, and how its questions are those of the protocol. The kinds of tokens are those that the server says. */
+function providers(server, { legend }) {
   const ask = (method, params, made) => server.ask(`textDocument/${method}`, params).then((it) => (it ? made(it) : undefined));
   const all = (made) => (list) => list.map(made);
   const l = vscode.languages;
@@ -124,7 +131,11 @@ function providers(server) {
     l.registerFoldingRangeProvider(SELECTOR, { provideFoldingRanges: (d) =>
       ask('foldingRange', whole(d), all((it) => new vscode.FoldingRange(it.startLine, it.endLine))) }),
     l.registerCodeActionsProvider(SELECTOR, { provideCodeActions: (d, where) =>
-      ask('codeAction', { ...whole(d), range: { start: plain(where.start), end: plain(where.end) }, context: { diagnostics: [] } }, all(action)) }),
+      ask('codeAction', { ...whole(d), range: plainRange(where), context: { diagnostics: [] } }, all(action)) }),
+    l.registerDocumentSemanticTokensProvider(SELECTOR, { provideDocumentSemanticTokens: (d) =>
+      ask('semanticTokens/full', whole(d), (it) => new vscode.SemanticTokens(new Uint32Array(it.data))) },
+    new vscode.SemanticTokensLegend(legend.tokenTypes, legend.tokenModifiers)),
+    l.registerInlayHintsProvider(SELECTOR, { provideInlayHints: (d, where) => ask('inlayHint', { ...whole(d), range: plainRange(where) }, all(hint)) }),
   ];
 }
 
@@ -135,24 +146,27 @@ function activate(context) {
     if (method === 'window/showMessage') vscode.window.showInformationMessage(params.message);
     if (method === 'window/showDocument') vscode.env.openExternal(vscode.Uri.parse(params.uri));
   });
-  const settings = vscode.workspace.getConfiguration('crobots');
+  const settings = () => {
+    const given = vscode.workspace.getConfiguration('crobots');
+    return { profile: given.get('profile', 1), inlayHints: given.get('inlayHints', false) };
+  };
   const capabilities = { textDocument: { completion: { completionItem: { snippetSupport: true } } }, window: { showDocument: { support: true } } };
   const ready = server.ask('initialize', { processId: process.pid, rootUri: null, capabilities,
-    initializationOptions: { profile: settings.get('profile', 1) } });
+    initializationOptions: settings() });
   const isRobot = (document) => document.languageId === 'crobots';
   const open = (document) => isRobot(document) && server.notify('textDocument/didOpen', { textDocument:
     { uri: document.uri.toString(), languageId: 'crobots', version: document.version, text: document.getText() } });
   const change = ({ document, contentChanges }) => isRobot(document) && server.notify('textDocument/didChange', { textDocument:
-    { uri: document.uri.toString(), version: document.version }, contentChanges: contentChanges.map((it) => ({ range:
-      { start: plain(it.range.start), end: plain(it.range.end) }, text: it.text })) });
+    { uri: document.uri.toString(), version: document.version }, contentChanges: contentChanges.map((it) => ({ range: plainRange(it.range), text: it.text })) });
   const close = (document) => isRobot(document) && server.notify('textDocument/didClose', whole(document));
   const command = (name) => vscode.commands.registerCommand(name, () =>
     server.ask('workspace/executeCommand', { command: name, arguments: [vscode.window.activeTextEditor.document.uri.toString()] }));
-  return ready.then(() => {
+  return ready.then((answer) => {
     vscode.workspace.textDocuments.forEach(open);
-    context.subscriptions.push(found, ...providers(server), command('crobots.play'), command('crobots.replay'),
+    context.subscriptions.push(found, ...providers(server, answer.capabilities.semanticTokensProvider), command('crobots.play'), command('crobots.replay'),
       vscode.workspace.onDidOpenTextDocument(open), vscode.workspace.onDidChangeTextDocument(change),
-      vscode.workspace.onDidCloseTextDocument(close), { dispose: () => server.child.stdin.end() },
+      vscode.workspace.onDidCloseTextDocument(close), vscode.workspace.onDidChangeConfiguration(() =>
+        server.notify('workspace/didChangeConfiguration', { settings: settings() })), { dispose: () => server.child.stdin.end() },
       vscode.debug.registerDebugAdapterDescriptorFactory('crobots', { createDebugAdapterDescriptor: () =>
         new vscode.DebugAdapterExecutable('crobots-dap', []) }));
   });

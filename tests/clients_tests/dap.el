@@ -34,6 +34,7 @@
 (stop-after 'next (lambda () (dap-next (dap--cur-session))))
 (stop-after 'again (lambda () (dap-next (dap--cur-session))))
 (stop-after 'back (lambda () (crobots-step-back)))
+(stop-after 'reverse (lambda () (crobots-reverse-continue)))
 (with-temp-file place (insert (json-encode found)))
 (set-buffer-modified-p nil)
 (kill-emacs 0)

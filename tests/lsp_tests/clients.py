@@ -91,6 +91,11 @@ class Units:
         starts = [it for it in self.starts() if it <= number]
         return at(len(starts) - 1, number - starts[-1])
 
+    def place(self, position: Message) -> int:
+        """The unit at a position of the text."""
+        found: int = self.starts()[position["line"]] + position["character"]
+        return found
+
     def replace(self, first: int, last: int, text: str) -> None:
         self.units[first:last] = Units(text).units
 

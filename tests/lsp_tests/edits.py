@@ -6,6 +6,7 @@ import os
 import random
 import re
 import subprocess
+import tempfile
 from pathlib import Path
 from typing import Any
 
@@ -79,6 +80,39 @@ def got(diagnostics: list[Any]) -> list[Any]:
     return sorted(((it["range"]["start"], it["severity"], it["message"].split("\n")[0]) for it in diagnostics), key=key)
 
 
+def first_fault(why: str, folder: str, content: bytes) -> tuple[int, str] | None:
+    """The first fault of a text as `crobots-why` says it: how many bytes stand from its token on, and what it is."""
+    path = os.path.join(folder, "mended.r")
+    Path(path).write_bytes(content)
+    ran = subprocess.run([why, path], capture_output=True, check=False)
+    found = LINE.fullmatch(ran.stdout.decode(errors="replace").partition("\n")[0].removeprefix(path))
+    return (len(content) - offset(content, int(found[1]), int(found[2])), found[4]) if found else None
+
+
+def gets_further(before: tuple[int, str] | None, after: tuple[int, str] | None) -> bool:
+    """Whether a text with a fix compiles, or each of its tokens fits, or its first fault stands nearer to the end."""
+    if after is None or before is None:
+        return after is None
+    lacks = [what in ("function not defined", "no main function") for _, what in (before, after)]
+    return after[0] < before[0] and lacks[0] <= lacks[1] or lacks == [False, True]
+
+
+def fixes_in_vain(editor: Editor, uri: str, why: str, folder: str, text: Units) -> list[str]:
+    """The fixes of the first fault, or of warnings about a text without one, with which it gets no further."""
+    end = text.position(len(text.units))
+    params = {"textDocument": {"uri": uri}, "range": {"start": {"line": 0, "character": 0}, "end": end}, "context": {"diagnostics": []}}
+    content, wrong = text.text().encode("utf-8", "surrogatepass"), []
+    for action in editor.ask("textDocument/codeAction", params)["result"][:1]:
+        edit, mended = action["edit"]["changes"][uri][0], Units(text.text())
+        mended.replace(*(text.place(edit["range"][name]) for name in ("start", "end")), edit["newText"])
+        before, after = (first_fault(why, folder, it) for it in (content, mended.text().encode("utf-8", "surrogatepass")))
+        if before and action["diagnostics"][0]["severity"] == 1 and not action["diagnostics"][0]["message"].startswith(before[1]):
+            # of a later fault, in what is left when the part with the first one is left out
+            continue
+        wrong += [] if gets_further(before, after) else [f"{action['title']}: {before}, and then {after}, of {text.text()!r}"[:3000]]
+    return wrong
+
+
 def key(it: Any) -> tuple[int, int, int, str]:
     position, severity, message = it
     return position["line"], position["character"], severity, message
@@ -96,6 +130,7 @@ def outside(diagnostics: list[Any], text: Units) -> list[Any]:
 def tried(editor: Editor, why: str, folder: str, seed: int, count: int) -> list[str]:
     """What is wrong with a number of edits of random sources: each source has up to ten."""
     draw, wrong, version = random.Random(seed), [], 0
+    folder = tempfile.mkdtemp(dir=folder)
     uri, text = "file:///gone.r", Units("")
     for number in range(count):
         version += 1
@@ -108,6 +143,7 @@ def tried(editor: Editor, why: str, folder: str, seed: int, count: int) -> list[
         expected, found = wanted(why, folder, text), got(diagnostics)
         if expected != found or outside(diagnostics, text):
             wrong.append(f"seed {seed}, edit {number}: {found}, not {expected}, of {text.text()!r}"[:3000])
+        wrong += fixes_in_vain(editor, uri, why, folder, text)
         if number % 10 == 9:
             editor.tell("textDocument/didClose", {"textDocument": {"uri": uri}})
     return wrong

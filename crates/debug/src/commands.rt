@@ -1,5 +1,6 @@
 //! Commands: what a line asks for.
 
+use crate::counts::Count;
 use crate::expressions::Expressions;
 use crate::passes::{Pass, Which};
 use crate::refusals::Refusal;
@@ -28,6 +29,10 @@ pub enum Command<'a, 'm> {
     /// After a cycle, in the call with which this many frames are open, or in the innermost one for 0, the value of an
     /// expression.
     Value(u32, usize, &'a str),
+    /// The calls that are open after a cycle.
+    Calls(u32),
+    /// The robot's instructions.
+    Code,
     /// No more.
     Quit,
 }
@@ -83,6 +88,8 @@ impl<'a, 'm> Command<'a, 'm> {
                 let sought = sought(event, rest, noted, marks)?;
                 pass(noted, sought, span, Which::All, tail.unwrap_or(""))
             }
+            (["calls", cycle], None) => Ok(Command::Calls(cycle_of(cycle)?)),
+            (["code"], None) => Ok(Command::Code),
             (["quit"], None) => Ok(Command::Quit),
             (words, _) => Err(misread(words.first().copied().unwrap_or(";"))),
         }
@@ -109,12 +116,16 @@ fn pass<'a, 'm>(
         to,
         which,
         condition: None,
+        count: None,
+        hits: 0,
         shown: Vec::new(alloc),
     };
     for part in parts.split(';') {
         let part = part.trim();
         if let Some(words) = part.strip_prefix("where ") {
             pass.condition = Some(Expressions::read(alloc, noted, words, marks)?);
+        } else if let Some(words) = part.strip_prefix("count ") {
+            pass.count = Some(Count::read(words.trim())?);
         } else if let Some(words) = part.strip_prefix("show ")
             && which == Which::All
         {
@@ -135,6 +146,8 @@ fn misread(word: &str) -> Refusal<'_> {
         "last" => Refusal::Form("last CYCLE EVENT"),
         "all" => Refusal::Form("all CYCLE CYCLE EVENT"),
         "value" => Refusal::Form("value CYCLE [FRAMES]; EXPRESSION"),
+        "calls" => Refusal::Form("calls CYCLE"),
+        "code" => Refusal::Form("code"),
         "quit" => Refusal::Form("quit"),
         other => Refusal::Command(other),
     }

@@ -1,9 +1,12 @@
 //! Answers questions about one match: where a robot is after a cycle, and in which cycle something happens to it.
 #![tactic(auto)]
 
+mod codes;
 mod commands;
+mod counts;
 mod expressions;
 mod marks;
+mod open_calls;
 mod passes;
 mod refusals;
 mod sessions;

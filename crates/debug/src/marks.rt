@@ -40,7 +40,7 @@ pub fn mark_function(
 
 /// Reports whether the line of an instruction is entered at it: it is the line's first one, or a call or a jump leads to
 /// it from another line, or back within the line.
-fn is_entry(noted: &NotedProgram<'_>, address: usize) -> bool {
+pub fn is_entry(noted: &NotedProgram<'_>, address: usize) -> bool {
     let before = address.saturating_sub(1);
     address == 0
         || noted.note.line(before) != noted.note.line(address)

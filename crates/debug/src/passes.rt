@@ -2,6 +2,7 @@
 
 ghost use Rattle.std.specs.Prelude.{◌<◌, ◌≤◌, length};
 
+use crate::counts::Count;
 use crate::expressions::Expressions;
 use crate::sessions::Session;
 use arena::MOST_ROBOTS;
@@ -34,6 +35,10 @@ pub struct Pass<'m> {
     pub which: Which,
     /// What has to hold after the cycle, if something has to.
     pub condition: Option<Expressions>,
+    /// Which of them count, if not all do: they are numbered from the first cycle of the match on.
+    pub count: Option<Count>,
+    /// How many there were so far.
+    pub hits: u32,
     /// What is told beside a cycle.
     pub shown: Vec<Expressions>,
 }
@@ -62,9 +67,10 @@ impl<'m> Pass<'m> {
             }
             let is_now = happens(&mut game, pilots, session.robot, &self.sought);
             let cycle = game.ending().cycles;
-            if is_now && cycle > self.after && session.robot < pilots.len() {
+            let is_asked_for = cycle > self.after || self.count.is_some();
+            if is_now && is_asked_for && session.robot < pilots.len() {
                 let machine = pilots[session.robot].machine();
-                if self.holds(session, machine)? {
+                if self.holds(session, machine)? && self.counts() && cycle > self.after {
                     row = self.row(session, machine, cycle, row)?;
                     if self.which == Which::First {
                         break;
@@ -78,6 +84,15 @@ impl<'m> Pass<'m> {
         text.add(row.finish()?.as_str());
         text.add("\n");
         Ok(())
+    }
+
+    /// Takes a hit more. Reports whether it counts.
+    fn counts(&mut self) -> bool {
+        self.hits = self.hits.saturating_add(1);
+        match self.count {
+            Some(count) => count.holds(self.hits),
+            None => true,
+        }
     }
 
     /// Reports whether the condition holds.

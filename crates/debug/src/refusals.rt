@@ -31,6 +31,8 @@ pub enum Refusal<'a> {
     Expression(&'a str),
     /// The expression calls or sets something.
     Acts(&'a str),
+    /// This says no number of a hit.
+    Count(&'a str),
     /// This part of a command, behind a `;`, is none that fits there.
     Part(&'a str),
     /// No call is open with this many frames.
@@ -45,7 +47,7 @@ impl<'a> fmt::Display for Refusal<'a> {
             Refusal::NoText => write!(f, "the line is no text"),
             Refusal::Command(word) => write!(
                 f,
-                "{}: not at, next, last, all, value or quit",
+                "{}: not at, next, last, all, value, calls, code or quit",
                 Plain(word)
             ),
             Refusal::Event(word) => write!(
@@ -74,9 +76,10 @@ impl<'a> fmt::Display for Refusal<'a> {
                     Plain(words)
                 )
             }
+            Refusal::Count(words) => write!(f, "{}: not as 3, >= 3 or % 3", Plain(words)),
             Refusal::Part(words) => write!(
                 f,
-                "{}: not where EXPRESSION, or after all show EXPRESSION",
+                "{}: not where EXPRESSION, count NUMBER, or after all show EXPRESSION",
                 Plain(words)
             ),
             Refusal::Call(frames) => write!(f, "{frames}: no call is open with so many frames"),

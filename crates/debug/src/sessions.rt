@@ -2,7 +2,9 @@
 
 ghost use Rattle.std.specs.Prelude.{◌<◌, ◌≤◌, length};
 
+use crate::codes::add_code;
 use crate::commands::{Command, number_of};
+use crate::open_calls::add_calls;
 use crate::refusals::Refusal;
 use crate::values::add_value;
 use arena::MOST_ROBOTS;
@@ -125,6 +127,8 @@ fn add_answer<'a>(
             add_found(text, found);
         }
         Command::Pass(mut pass) => pass.play(text, &session, pilots)?,
+        Command::Calls(cycle) => add_calls(text, &session, pilots, cycle)?,
+        Command::Code => add_code(text, &noted)?,
         Command::Value(cycle, frames, words) => {
             add_value(text, &session, pilots, cycle, frames, words)?;
         }

@@ -3,10 +3,12 @@
 ghost use Rattle.std.specs.Prelude.{◌<◌, ◌≤◌, length};
 
 use crate::expressions::Expression;
+use crate::open_calls::open_calls;
 use crate::refusals::Refusal;
 use crate::sessions::Session;
 use arena::MOST_ROBOTS;
 use code::Machine;
+use std::alloc::{AllocError, Global};
 use tools::Draft;
 use watching::{Pilot, moment_at};
 
@@ -33,7 +35,7 @@ pub fn add_value<'a>(
     let (seed, number, limit) = (wish.seed(), wish.first(), wish.limit());
     let _ = moment_at(pilots, robot, cycle, seed, number, limit);
     let machine = pilots[robot].machine();
-    let Some((address, home)) = call_of(machine, frames) else {
+    let Some((address, home)) = call_of(text.alloc(), machine, frames)? else {
         return Err(Refusal::Call(frames));
     };
     let function = noted.function(address);
@@ -44,21 +46,15 @@ pub fn add_value<'a>(
 }
 
 /// Returns the address at which the call is with which this many frames are open, and where its variables begin.
-fn call_of(machine: &Machine, frames: usize) -> Option<(usize, usize)> {
-    let mut address = machine.address();
-    if frames == 0 {
-        return Some((address, usize::from(machine.home())));
-    }
-    let mut depth = machine.frames().len();
-    for frame in machine.frames().iter().rev() {
-        // the first frame is main's, and each other call that has begun has an address to return to
-        if depth == 1 || frame.back > 0 {
-            if depth == frames {
-                return Some((address, usize::from(frame.base)));
-            }
-            address = usize::from(frame.back).saturating_sub(1);
+fn call_of(
+    alloc: Global,
+    machine: &Machine,
+    frames: usize,
+) -> Result<Option<(usize, usize)>, AllocError> {
+    for call in &open_calls(alloc, machine)? {
+        if frames == 0 || call.frames == frames {
+            return Ok(Some((call.address, call.home)));
         }
-        depth = depth.saturating_sub(1);
     }
-    None
+    Ok(None)
 }

@@ -1,2 +1,4 @@
 pub mod Names
 pub mod Repairs
+pub mod KnownRepairs
+pub mod Laws

@@ -4,6 +4,7 @@ ghost use Rattle.std.specs.Prelude.{◌≡◌, Err};
 ghost use Rattle.grammar.specs.Compiled.{compiled};
 
 use crate::codes::{add_fault_code, add_warning_code};
+use crate::fault_tokens::fault_index;
 use crate::fixes::{Fix, Trouble, fix_of_fault, fix_of_warning};
 use crate::notes_read::{FITS, HINT, MET, first_words, said};
 use crate::parts_left_out::LeftOut;
@@ -11,9 +12,9 @@ use crate::places::token_of_note;
 use crate::rows::{Subject, add_position, add_range, begin_row};
 use crate::token_rows::end_of;
 use derivations::{Located, locate};
-use explanations::{explain_left, fault_token, warnings_before, warnings_of};
-use grammar::{Diagnostic, Profile};
-use recovery::{MOST_BYTES, MOST_FAULTS, Rest};
+use explanations::{explain_left, warnings_before, warnings_of};
+use grammar::Diagnostic;
+use recovery::{MOST_FAULTS, Rest};
 use std::alloc::AllocError;
 use tools::{Draft, Object, Text};
 
@@ -91,24 +92,44 @@ fn add_fix(row: &mut Object<'_>, fix: &Option<Fix>) {
     object.end();
 }
 
-/// Adds the row of the first fault of a source.
+/// Adds the row of the first fault of a source, at the token of an index, without its hint.
+pub fn add_first(text: &mut Draft, subject: &Subject<'_>, fault: &Diagnostic, index: usize) {
+    let mut row = begin_row(text, "first");
+    add_fault_code(row.field("code"), fault.code);
+    let met = subject.tokens.get(index).copied().unwrap_or_default();
+    add_place(&mut row, subject.source, &met);
+    row.words("message", fault.code.text());
+    row.end();
+    text.add("\n");
+}
+
+/// Adds the row of the first fault of a source, at the token of an index.
 pub fn add_first_fault(
     text: &mut Draft,
     subject: &Subject<'_>,
     fault: &Diagnostic,
+    index: usize,
 ) -> Result<(), AllocError>
     requires { compiled subject.now.profile subject.now.source.now ≡ Err fault.now }
 {
-    add_fault(text, subject, subject.source, subject.tokens, fault)
+    add_fault(
+        text,
+        subject,
+        subject.source,
+        subject.tokens,
+        fault,
+        index,
+    )
 }
 
-/// Adds the row of the first fault of what is left of a source, which has these bytes and tokens.
+/// Adds the row of the first fault of what is left of a source, which has these bytes and tokens, at the token of an index.
 fn add_fault(
     text: &mut Draft,
     subject: &Subject<'_>,
     left: &[u8],
     tokens: &[Located],
     fault: &Diagnostic,
+    index: usize,
 ) -> Result<(), AllocError> {
     let Subject {
         alloc,
@@ -118,7 +139,6 @@ fn add_fault(
     } = *subject;
     let note = explain_left(source, tokens, profile, fault);
     let hint = said(note.as_str(), HINT);
-    let index = fault_token(tokens, profile, fault);
     let trouble = Trouble {
         tokens,
         index,
@@ -147,11 +167,13 @@ fn add_said(row: &mut Object<'_>, name: &str, words: Option<&str>) {
     }
 }
 
-/// Adds the rows of the faults after the first one, and returns what is left out for them and for the last one.
+/// Adds the rows of the faults after the first one, which is at the token of an index, and returns what is left out for them
+/// and for the last one.
 pub fn add_later_faults(
     text: &mut Draft,
     subject: &Subject<'_>,
     first: &Diagnostic,
+    index: usize,
 ) -> Result<LeftOut, AllocError> {
     let Subject {
         alloc,
@@ -161,10 +183,7 @@ pub fn add_later_faults(
     } = *subject;
     let mut rest = Rest::of(alloc, source, profile)?;
     let mut fault = *first;
-    let mut place = place_of(subject.tokens, profile, &fault);
-    if source.len() > MOST_BYTES {
-        return LeftOut::of(alloc, source, Some(place));
-    }
+    let mut place = place_of(subject.tokens, index);
     for number in 1..=MOST_FAULTS {
         if rest.leave_out(&fault)?.is_none() {
             return LeftOut::of(alloc, rest.bytes(), Some(place));
@@ -173,18 +192,20 @@ pub fn add_later_faults(
             return LeftOut::of(alloc, rest.bytes(), None);
         };
         let tokens = locate(alloc, rest.bytes())?;
+        let tokens = tokens.as_slice();
+        let index = fault_index(alloc, rest.bytes(), tokens, profile, &next)?;
         if number < MOST_FAULTS {
-            add_fault(text, subject, rest.bytes(), tokens.as_slice(), &next)?;
+            add_fault(text, subject, rest.bytes(), tokens, &next, index)?;
         }
         fault = next;
-        place = place_of(tokens.as_slice(), profile, &fault);
+        place = place_of(tokens, index);
     }
     LeftOut::of(alloc, rest.bytes(), Some(place))
 }
 
-/// Returns how many bytes are before the token of a fault.
-fn place_of(tokens: &[Located], profile: Profile, fault: &Diagnostic) -> usize {
-    match tokens.get(fault_token(tokens, profile, fault)) {
+/// Returns how many bytes are before the token of an index.
+fn place_of(tokens: &[Located], index: usize) -> usize {
+    match tokens.get(index) {
         Some(located) => located.start,
         None => 0,
     }

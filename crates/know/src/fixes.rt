@@ -1,17 +1,16 @@
 //! Fixes: changes of a source that a hint or a warning suggests, and that were tried.
 
-ghost use Rattle.std.specs.Prelude.{◌≡◌, ◌≤◌, IfOk, IfSome, true};
-ghost use Rattle.derivations.specs.Compiling.{Compiles};
-ghost use Rattle.know.specs.Repairs.{HasNoFaultBefore, Repairs, StillCompiles, edited};
+ghost use Rattle.std.specs.Prelude.{IfOk, IfSome};
+ghost use Rattle.know.specs.Repairs.{Repairs, StillCompiles};
 
 use crate::notes_read::{behind, quoted};
+use crate::repairs::{Faulty, compiles, edited, gets_further};
 use crate::rows::Subject;
-use derivations::{Located, compile, fitting, locate};
-use explanations::fault_token;
-use grammar::{Diagnostic, ParseFault, Profile};
+use derivations::{Located, fitting};
+use grammar::{Diagnostic, Profile};
 use std::alloc::{AllocError, Global};
 use std::str;
-use tokens::{MemoryFeed, Punctuator, Token, WINDOW_BYTES};
+use tokens::{Punctuator, Token};
 use tools::{Draft, Text};
 
 /// A change of a source: bytes that go, and what comes in their place.
@@ -50,79 +49,61 @@ pub struct Trouble<'a> {
     pub hint: &'a str,
 }
 
-/// Returns the first suggestion by which a source hasn't a fault any more where its first one is, nor before, if there is
-/// such a one. The only error is that memory is refused.
+/// Returns the first suggestion with which a source gets further than to its first fault, if there is such a one. The only
+/// error is that memory is refused.
 pub fn fix_of_fault<'a>(
     alloc: Global,
     source: &'a [u8],
     profile: Profile,
-    fault: &Diagnostic,
+    fault: &'a Diagnostic,
     trouble: &Trouble<'a>,
 ) -> Result<Option<Fix>, AllocError>
     ensures { IfOk result (λ found. IfSome found (Repairs profile source.now fault.now)) }
 {
+    let faulty = Faulty {
+        source,
+        profile,
+        fault,
+        left: source.len().saturating_sub(end_of(trouble)),
+    };
     for back in 0..MOST_BACK {
-        let suggestion = respelled(trouble, back);
-        if let Some(fix) = tried(alloc, source, profile, fault, trouble, suggestion)? {
+        if let Some(fix) = tried(alloc, &faulty, respelled(trouble, back))? {
             return Ok(Some(fix));
         }
     }
     for suggestion in &suggestions(source, trouble) {
-        if let Some(fix) = tried(alloc, source, profile, fault, trouble, *suggestion)? {
+        if let Some(fix) = tried(alloc, &faulty, *suggestion)? {
             return Ok(Some(fix));
         }
     }
     Ok(None)
 }
 
-/// Returns a suggestion as a fix if with it the source compiles, or its first fault is behind the token of this one.
+/// Returns a suggestion as a fix if with it the source gets further.
 fn tried(
     alloc: Global,
-    source: &[u8],
-    profile: Profile,
-    fault: &Diagnostic,
-    trouble: &Trouble<'_>,
+    faulty: &Faulty<'_>,
     suggestion: Option<Suggestion<'_>>,
 ) -> Result<Option<Fix>, AllocError>
-    ensures { IfOk result (λ found. IfSome found (Repairs profile source.now fault.now)) }
+    ensures { IfOk result (λ found.
+        IfSome found (Repairs faulty.now.profile faulty.now.source.now faulty.now.fault.now)) }
 {
     let Some(suggestion) = suggestion else {
         return Ok(None);
     };
     let fix = made(alloc, &suggestion)?;
-    let edited = edited(alloc, source, &fix)?;
-    let bytes = edited.as_slice();
-    let left = source
-        .len()
-        .saturating_sub(place_of(trouble.tokens, trouble.index));
-    if is_repaired(profile, bytes, fault) && left_behind(alloc, profile, bytes)? < left {
+    let edited = edited(alloc, faulty.source, &fix)?;
+    if gets_further(alloc, faulty, edited.as_slice())? {
         Ok(Some(fix))
     } else {
         Ok(None)
     }
 }
 
-/// Returns how many bytes stand from the token of a source's first fault on: none if it compiles.
-fn left_behind(alloc: Global, profile: Profile, source: &[u8]) -> Result<usize, AllocError> {
-    match compile(profile, &mut MemoryFeed::new(source, WINDOW_BYTES)) {
-        Ok(_) => Ok(0),
-        Err(ParseFault::Source(fault)) => {
-            let tokens = locate(alloc, source)?;
-            let index = fault_token(tokens.as_slice(), profile, &fault);
-            Ok(
-                source
-                    .len()
-                    .saturating_sub(place_of(tokens.as_slice(), index)),
-            )
-        }
-        Err(ParseFault::Device | ParseFault::Memory) => Ok(source.len()),
-    }
-}
-
-/// Returns how many bytes are before the token of an index.
-fn place_of(tokens: &[Located], index: usize) -> usize {
-    match tokens.get(index) {
-        Some(located) => located.start,
+/// Returns how many bytes there are up to the last one of the token of a fault.
+fn end_of(trouble: &Trouble<'_>) -> usize {
+    match trouble.tokens.get(trouble.index) {
+        Some(located) => located.end,
         None => 0,
     }
 }
@@ -156,15 +137,16 @@ fn suggestions<'a>(
         index,
         hint,
     } = *trouble;
+    let (semicolon, bracket) = marks_that_fit(tokens, index);
     [
         hexadecimal(tokens, index, hint),
         comparing(tokens, index),
-        missing(tokens, index, Punctuator::Semicolon, ";"),
-        missing(tokens, index, Punctuator::CloseRound, ")"),
-        missing(tokens, index, Punctuator::CloseRound, "))"),
-        missing(tokens, index, Punctuator::CloseRound, ")))"),
-        missing(tokens, index, Punctuator::CloseRound, "))))"),
-        missing(tokens, index, Punctuator::CloseRound, ");"),
+        missing(tokens, index, semicolon, ";"),
+        missing(tokens, index, bracket, ")"),
+        missing(tokens, index, bracket, "))"),
+        missing(tokens, index, bracket, ")))"),
+        missing(tokens, index, bracket, "))))"),
+        missing(tokens, index, bracket, ");"),
         superfluous(source, tokens, index, hint),
     ]
 }
@@ -200,24 +182,29 @@ fn comparing<'a>(tokens: &[Located], index: usize) -> Option<Suggestion<'a>> {
     replacing(tokens, index, words)
 }
 
-/// Suggests a punctuator right behind the token before the one of an index, if it fits there.
+/// Reports whether a `;` and whether a `)` fits in the place of the token of an index.
+fn marks_that_fit(tokens: &[Located], index: usize) -> (bool, bool) {
+    let (mut semicolon, mut bracket) = (false, false);
+    for located in &fitting(tokens, index) {
+        semicolon |= located.token == Token::Punctuator(Punctuator::Semicolon);
+        bracket |= located.token == Token::Punctuator(Punctuator::CloseRound);
+    }
+    (semicolon, bracket)
+}
+
+/// Suggests words right behind the token before the one of an index, if they fit there.
 fn missing<'a>(
     tokens: &[Located],
     index: usize,
-    mark: Punctuator,
+    fits: bool,
     words: &'a str,
 ) -> Option<Suggestion<'a>> {
     let before = tokens.get(index.checked_sub(1)?)?;
-    for located in &fitting(tokens, index) {
-        if located.token == Token::Punctuator(mark) {
-            return Some(Suggestion {
-                start: before.end,
-                end: before.end,
-                words,
-            });
-        }
-    }
-    None
+    fits.then_some(Suggestion {
+        start: before.end,
+        end: before.end,
+        words,
+    })
 }
 
 /// Suggests to leave out a brace or a semicolon that a hint says is one too many.
@@ -245,34 +232,6 @@ fn made(alloc: Global, suggestion: &Suggestion<'_>) -> Result<Fix, AllocError> {
         end: suggestion.end,
         text: text.finish()?,
     })
-}
-
-/// Returns a source with a fix.
-fn edited(alloc: Global, source: &[u8], fix: &Fix) -> Result<Vec<u8>, AllocError>
-    ensures { IfOk result (λ bytes. bytes.items ≡ edited source.now fix.now) }
-{
-    let mut bytes = Vec::from_slice(alloc, source.get(..fix.start).unwrap_or(source))?;
-    bytes.extend_from_slice(fix.text.as_bytes())?;
-    bytes.extend_from_slice(source.get(fix.end..).unwrap_or(&[]))?;
-    Ok(bytes)
-}
-
-/// Reports whether a source compiles, or has its first fault on no earlier line than another fault.
-fn is_repaired(profile: Profile, source: &[u8], fault: &Diagnostic) -> bool
-    ensures { result ≡ true → HasNoFaultBefore profile source.now fault.now }
-{
-    match compile(profile, &mut MemoryFeed::new(source, WINDOW_BYTES)) {
-        Ok(_) => true,
-        Err(ParseFault::Source(other)) => is_no_earlier(&other, fault),
-        Err(ParseFault::Device | ParseFault::Memory) => false,
-    }
-}
-
-/// Reports whether a fault is on no earlier line than another one.
-fn is_no_earlier(other: &Diagnostic, fault: &Diagnostic) -> bool
-    ensures { result ≡ true → fault.now.line ≤ other.now.line }
-{
-    fault.line <= other.line
 }
 
 /// Returns the change that a warning about the token of an index suggests, if there is one and the source compiles with it.
@@ -365,14 +324,4 @@ fn arguments(tokens: &[Located], name: usize) -> Option<(usize, usize, usize)> {
         }
     }
     None
-}
-
-/// Reports whether a source compiles.
-fn compiles(profile: Profile, source: &[u8]) -> bool
-    ensures { result ≡ true → Compiles profile source.now }
-{
-    match compile(profile, &mut MemoryFeed::new(source, WINDOW_BYTES)) {
-        Ok(_) => true,
-        Err(ParseFault::Source(_) | ParseFault::Device | ParseFault::Memory) => false,
-    }
 }

@@ -6,8 +6,12 @@ use cycles::Span;
 use derivations::locate;
 use facts::{Facts, Part, add_room};
 use grammar::{Intrinsic, ParseFault};
+use parser::parse;
+use room::{Room, need};
 use std::alloc::{AllocError, Global};
+use tokens::{MemoryFeed, WINDOW_BYTES};
 use tools::{Draft, Fault, Object, Text};
+use trees::TreeMaker;
 
 /// The words of the language that have a use.
 const WORDS: &str = "if else while return int long auto register";
@@ -33,8 +37,9 @@ pub fn add_words(text: &mut Draft, alloc: Global) -> Result<(), AllocError> {
     Ok(())
 }
 
-/// Adds what is known of the robot of a source that compiles: a row on its room, one for each function and for each loop,
-/// and a warning if it may restart for want of room. The only fault is that memory is refused.
+/// Adds what is known of the robot of a source that compiles: a row on its room, one for what a call of each function and a
+/// turn of each loop takes, one for the room that a call needs, and a warning if the robot may restart for want of room.
+/// The only fault is that memory is refused.
 pub fn add_known(text: &mut Draft, subject: &Subject<'_>) -> Result<(), Fault> {
     let facts = match Facts::of(subject.alloc, subject.source, subject.profile) {
         Ok(facts) => facts,
@@ -55,7 +60,36 @@ pub fn add_known(text: &mut Draft, subject: &Subject<'_>) -> Result<(), Fault> {
     for part in &facts.loops {
         add_part(text, part, "turn");
     }
+    add_needs(text, subject, &facts)
+}
+
+/// Adds a row for each function on the room that a call of it needs. The only fault is that memory is refused.
+fn add_needs(text: &mut Draft, subject: &Subject<'_>, facts: &Facts) -> Result<(), Fault> {
+    let Subject {
+        alloc,
+        source,
+        profile,
+        ..
+    } = *subject;
+    let mut maker = TreeMaker::new(alloc, profile);
+    if parse(&mut MemoryFeed::new(source, WINDOW_BYTES), &mut maker).is_err() {
+        return Err(Fault::Memory);
+    }
+    for part in &facts.functions {
+        let mut row = begin_row(text, "need");
+        row.words("name", text_of(&part.name));
+        add_position(&mut row, part.line, part.column);
+        add_room_fields(&mut row, need(&maker, part.number, profile));
+        row.end();
+        text.add("\n");
+    }
     Ok(())
+}
+
+/// Adds words and frames, which are null if no room is enough.
+fn add_room_fields(row: &mut Object<'_>, need: Option<Room>) {
+    row.number_or_null("words", need.map(|room| u64::from(room.words)));
+    row.number_or_null("frames", need.map(|room| u64::from(room.frames)));
 }
 
 /// Returns lines as one, with commas between them.
@@ -92,9 +126,7 @@ fn add_want_of_room(text: &mut Draft, subject: &Subject<'_>, facts: &Facts, word
 /// Adds the row on the room that a robot needs.
 fn add_room_row(text: &mut Draft, facts: &Facts, words: &str) {
     let mut row = begin_row(text, "room");
-    let need = facts.bound.need;
-    row.number_or_null("words", need.map(|room| u64::from(room.words)));
-    row.number_or_null("frames", need.map(|room| u64::from(room.frames)));
+    add_room_fields(&mut row, facts.bound.need);
     row.truth("has_room", facts.bound.has_room);
     row.words("message", words);
     row.end();

@@ -8,19 +8,23 @@ ghost use Rattle.grammar.specs.Compiled.{compiled};
 mod codes;
 mod crumbs;
 mod fault_rows;
+mod fault_tokens;
 mod fixes;
 mod inputs;
 mod known_rows;
+mod laws;
 mod name_rows;
 mod notes_read;
 mod parts_left_out;
 mod places;
+mod repairs;
 mod rows;
 mod token_rows;
 mod walkable;
 
-use crate::fault_rows::{add_first_fault, add_later_faults, add_warnings};
-use crate::inputs::source_read;
+use crate::fault_rows::{add_first, add_first_fault, add_later_faults, add_warnings};
+use crate::fault_tokens::fault_index;
+use crate::inputs::source_given;
 use crate::known_rows::{add_known, add_words};
 use crate::name_rows::add_names;
 use crate::parts_left_out::LeftOut;
@@ -33,8 +37,7 @@ use recovery::located_past_faults;
 use std::process::ExitCode;
 use tokens::{MemoryFeed, WINDOW_BYTES};
 use tools::{
-    Draft, Fault, Options, PROFILE_OPTIONS, ProgramFrame, Text, Work, Wrong, profile, source_of,
-    write_text,
+    Draft, Fault, Options, PROFILE_OPTIONS, ProgramFrame, Text, Work, Wrong, profile, write_text,
 };
 
 /// The program's name, its line of wrong usage, and its options.
@@ -57,7 +60,7 @@ impl Work for Know {
     /// Reads the source, and tells of it.
     fn work(&self, rt: &HostRuntime, options: &Options<'_>) -> Result<(), Fault> {
         match profile(options) {
-            Ok(profile) => match source_given(rt, options) {
+            Ok(profile) => match only_source(rt, options) {
                 Ok(source) => tell(rt, source.as_slice(), profile),
                 Err(fault) => Err(fault),
             },
@@ -66,17 +69,16 @@ impl Work for Know {
     }
 }
 
-/// Reads the only file that is named: `-` is standard input.
-fn source_given(rt: &HostRuntime, options: &Options<'_>) -> Result<Vec<u8>, Fault> {
+/// Reads the only file that is named.
+fn only_source(rt: &HostRuntime, options: &Options<'_>) -> Result<Vec<u8>, Fault> {
     match options.files() {
         [] => Err(Fault::Usage),
-        [word] if *word == "-" => source_read(rt, FRAME.name),
-        [word] => source_of(rt, FRAME.name, word),
+        [word] => source_given(rt, FRAME.name, word),
         _ => Err(Fault::Wrong(Wrong::Files(1))),
     }
 }
 
-/// Writes all rows on a source: the first fault before anything else is looked for.
+/// Writes all rows on a source: the first fault, and where it is, before anything else is looked for.
 fn tell(rt: &HostRuntime, source: &[u8], profile: Profile) -> Result<(), Fault> {
     let tokens = locate(rt.alloc(), source)?;
     let subject = Subject {
@@ -110,10 +112,18 @@ fn tell_faulty(rt: &HostRuntime, subject: &Subject<'_>, fault: &Diagnostic) -> R
     requires { compiled subject.now.profile subject.now.source.now ≡ Err fault.now }
 {
     let mut text = Draft::new(rt.alloc());
-    add_first_fault(&mut text, subject, fault)?;
+    let Subject {
+        alloc,
+        source,
+        tokens,
+        profile,
+    } = *subject;
+    let index = fault_index(alloc, source, tokens, profile, fault)?;
+    add_first(&mut text, subject, fault, index);
     write(rt, &mut text)?;
+    add_first_fault(&mut text, subject, fault, index)?;
     add_warnings(&mut text, subject, Some(*fault))?;
-    let left_out = add_later_faults(&mut text, subject, fault)?;
+    let left_out = add_later_faults(&mut text, subject, fault, index)?;
     write(rt, &mut text)?;
     tell_names(rt, subject, &left_out)?;
     add_complete(&mut text);
