@@ -125,6 +125,59 @@ def followed(random_: random.Random) -> tuple[str, str | None]:
     return f"{declared}{functions}main() {{\n  while (1) {{\n    {body}\n  }}\n}}\n", words
 
 
+def branched(random_: random.Random) -> tuple[str, list[str]]:
+    """A robot of branches and loops without braces, whose lines begin anywhere; and the places of the statements that look as if they were
+    a part of one and are none: each begins a line in the column of the body on a line before it, which is further to the right than its head."""
+    lines, misread = ["main() {", "  while (1) {"], list[str]()
+    for _ in range(random_.randrange(1, 6)):
+        head, body, behind = (random_.randrange(2, 7) for _ in range(3))
+        behind = random_.choice((body, behind))
+        lines.append(" " * head + random_.choice(("if (damage() > 50)", "while (damage() > 50)")))
+        is_below = random_.random() < 0.8
+        lines += [" " * body + "cannon(9, 50);"] if is_below else [f"{lines.pop()} cannon(9, 50);"]
+        if "if" in lines[-1 - is_below] and random_.random() < 0.4:
+            # no statement begins with it; and its own statement is in braces, so nothing looks like a part of that
+            lines.append(" " * behind + "else { cannon(9, 60); }")
+            continue
+        if random_.random() < 0.2:
+            lines[-1] += " cannon(9, 70);"
+            continue
+        lines.append(" " * behind + random_.choice(("cannon(9, 80);", "{ cannon(9, 80); }", ";")))
+        misread += [f"{len(lines)}:{behind + 1}"] if is_below and head < body == behind else []
+    # what follows the last one begins no statement
+    last = random_.randrange(2, 7)
+    lines += [f"    if (damage() > 50)\n{' ' * last}cannon(9, 50);", f"{' ' * last}}}", "}"]
+    return "\n".join(lines) + "\n", misread
+
+
+def swept(random_: random.Random) -> tuple[str, bool]:
+    """A robot whose looks go on by a step, and whether there are whole degrees between two looks that neither sees."""
+    resolution, step = random_.randrange(11), random_.randrange(1, 26)
+    on = random_.choice((f"d += {step};", f"d = d + {step};", f"d = (d + {step}) % 360;", f"d -= {step};"))
+    seen = {degree for look in (0, step) for degree in range(look - resolution, look + resolution + 1)}
+    return f"main() {{\n  int d;\n  while (1) {{\n    cannon(d, scan(d, {resolution}));\n    {on}\n  }}\n}}\n", not seen >= {*range(step)}
+
+
+# Sources with a comment that is no comment as it was meant, whose place is marked, and what is said of the line on which it begins.
+COMMENTS = [
+    ("f() { @/* now\n}\nmain() { } /* end */ }\n", "a comment that isn't closed on line {} has it"),
+    ("main() {\n  @/* a /* b */ c */ drive(0, 50);\n}\n", "comments don't nest: the one that begins on line {} ends at its first `*/`"),
+    ("main() {\n  while (1) {\n  @/* go\n    drive(0, 50);\n    /* back */\n    cannon(0, 50);\n  }\n}\n",
+     "the comment that begins on line {} goes on up to the end of another one: its `*/` is missing"),
+]
+
+
+def commented(random_: random.Random) -> tuple[str, str]:
+    """A source with comments of some lines, and behind them one that isn't meant so; and what is said of that."""
+    def others() -> str:
+        return "".join(f"/*{random_.choice(' *x')}{random_.choice(('', 'on', chr(10) * 2))}{random_.choice('x* ')}*/{random_.choice((' ', chr(10)))}"
+                       for _ in range(random_.randrange(4)))
+    source, words = random_.choice(COMMENTS)
+    before, behind = source.split("@")
+    before = others() + before + others()
+    return before + behind, words.format(before.count("\n") + 1)
+
+
 def columns(text: str) -> int:
     """How many columns a text takes, by the widths of Unicode."""
     return sum(2 if unicodedata.east_asian_width(character) in "WF" else 1 for character in text)
