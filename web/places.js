@@ -17,6 +17,7 @@ export class Places {
         }
         // what stays in sight while one steps stands below the bar
         new ResizeObserver(() => document.documentElement.style.setProperty("--bar", `${byId("bar").offsetHeight}px`)).observe(byId("bar"));
+        WIDE.addEventListener("change", () => this.go(this.shown));
         this.go("write");
     }
 
@@ -30,6 +31,8 @@ export class Places {
         this.shown = name;
         byId("main").dataset.place = name;
         NAMES.forEach(it => byId(`to-${it}`).setAttribute("aria-pressed", String(it === name)));
+        // the focus would go into a film that isn't shown
+        document.querySelectorAll(".place").forEach(it => { /** @type {HTMLElement} */ (it).inert = !this.isWide && !it.classList.contains(name); });
         window.dispatchEvent(new Event("resize"));
     }
 }

@@ -86,7 +86,7 @@ def way(it: Window, name: str) -> Iterator[str]:
     if not it.driver.value("document.getElementById('workbench').offsetWidth"):
         # a narrow window shows the report in place of the editor
         it.follow("#to-write")
-    for source, wanted, is_good in ((BAD, f"{name}.r:2: reserved word", False), (IDLE, f"taken: {name}, version 1", True)):
+    for source, wanted, is_good in ((BAD, f"{name}.r:2:1: reserved word", False), (IDLE, f"taken: {name}, version 1", True)):
         write(it, name, source)
         it.follow("#send")
         it.until(f"document.getElementById('sent').textContent.includes({json.dumps(wanted)})")
