@@ -78,6 +78,21 @@ class Marks:
                 wrong += [] if (str(why), why.status) == (said, 2) else [f"{text!r}: {why}"]
         return wrong
 
+    def ends_of_a_range(self) -> list[str]:
+        """A number may be both ends and all between, by a mark and by its place, and nothing beyond."""
+        wrong = []
+        for low, high in ((0, 1), (0, 3), (2, 5), (9, 11), (2**31 - 3, 2**31 - 1)):
+            for value in range(max(low - 2, 0), min(high + 3, 2**31)):
+                for mark, given in ((f" /* tune {low}..{high} */", []), ("", [(Place(1, 8), Range(low, high))])):
+                    source = f"main(){{{value}{mark};}}".encode()
+                    try:
+                        got = f"{[*map(listed, numbers(source, read(source), 'r', given))]}"
+                    except Fault as why:
+                        got = str(why)
+                    wanted = f"{[('1:8', value, low, high, None, '1:8')]}" if low <= value <= high else f"r:1:8: {value} isn't from {low} to {high}"
+                    wrong += [] if got == wanted else [f"{source!r}: {got}"]
+        return wrong
+
     def numbers_by_their_place(self) -> list[str]:
         """Such a one may have a mark, which then doesn't count."""
         source = b"main(){1 /* tune 0..9 name a */; 22;}"
