@@ -50,8 +50,12 @@ class Client:
             if name.lower() == b"content-length":
                 while self.child.stdout.readline().strip():
                     pass
-                self._came.put(json.loads(self.child.stdout.read(int(length))))
+                self.arrived(json.loads(self.child.stdout.read(int(length))))
         self._came.put(None)
+
+    def arrived(self, message: Message) -> None:
+        """Keeps a message that has come."""
+        self._came.put(message)
 
     def write(self, content: bytes) -> None:
         assert self.child.stdin
