@@ -12,7 +12,7 @@ from typing import Iterable, Sequence
 
 from stepping.moments import Moment, Question, Row, moment_of
 from stepping.pipes import PROGRAM, Debugger
-from stepping.sessions import BACKWARDS, FORWARDS, LAST_CYCLE
+from stepping.sessions import BACKWARDS, LAST_CYCLE
 from tools.programs import found
 
 from .listings import Listing
