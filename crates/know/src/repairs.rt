@@ -27,9 +27,29 @@ pub fn gets_further(alloc: Global, faulty: &Faulty<'_>, other: &[u8]) -> Result<
 {
     match compile(faulty.profile, &mut MemoryFeed::new(other, WINDOW_BYTES)) {
         Ok(_) => Ok(true),
-        Err(ParseFault::Source(next)) if fits_now(faulty.fault, &next) => Ok(true),
-        Err(ParseFault::Source(next)) => is_nearer(alloc, faulty, other, &next),
+        Err(ParseFault::Source(next)) => {
+            let is_further = is_further(alloc, faulty, other, &next)?;
+            Ok(is_further)
+        }
         Err(ParseFault::Device | ParseFault::Memory) => Ok(false),
+    }
+}
+
+/// Reports whether another source, whose first fault is the next one, gets further than one with a fault.
+fn is_further(
+    alloc: Global,
+    faulty: &Faulty<'_>,
+    other: &[u8],
+    next: &Diagnostic,
+) -> Result<bool, AllocError>
+    ensures { IfOk result (λ is. is ≡ true → compiled faulty.now.profile other.now ≡ Err next.now
+        → GetsFurther faulty.now.profile faulty.now.source.now faulty.now.fault.now other.now) }
+{
+    if fits_now(faulty.fault, next) {
+        Ok(true)
+    } else {
+        let is_nearer = is_nearer(alloc, faulty, other, next)?;
+        Ok(is_nearer)
     }
 }
 
@@ -39,6 +59,13 @@ fn fits_now(fault: &Diagnostic, next: &Diagnostic) -> bool
     ensures does_not { result ≡ true → lacks_function fault.now.code ≡ false }
 {
     lacks_function(next.code) && !lacks_function(fault.code)
+}
+
+/// Reports whether each token fits with the next fault, if each does with this one.
+fn still_fits(fault: &Diagnostic, next: &Diagnostic) -> bool
+    ensures { result ≡ true → lacks_function fault.now.code ≡ true → lacks_function next.now.code ≡ true }
+{
+    !lacks_function(fault.code) || lacks_function(next.code)
 }
 
 /// Reports whether a fault is of a source each of whose tokens fits: nothing defines a function.
@@ -58,12 +85,10 @@ fn is_nearer(
     ensures { IfOk result (λ is. is ≡ true → compiled faulty.now.profile other.now ≡ Err next.now
         → IsNearer faulty.now.profile faulty.now.source.now faulty.now.fault.now other.now) }
 {
-    if lacks_function(faulty.fault.code) && !lacks_function(next.code) {
-        return Ok(false);
-    }
     let broken = broken(alloc, other, faulty.left)?;
-    if is_moved(faulty.profile, broken.as_slice(), next) {
-        stands_before(alloc, faulty)
+    if still_fits(faulty.fault, next) && is_moved(faulty.profile, broken.as_slice(), next) {
+        let stands_before = stands_before(alloc, faulty)?;
+        Ok(stands_before)
     } else {
         Ok(false)
     }
@@ -106,9 +131,23 @@ fn is_first(profile: Profile, source: &[u8], fault: &Diagnostic) -> bool
     ensures { result ≡ true → compiled profile source.now ≡ Err fault.now }
 {
     match compile(profile, &mut MemoryFeed::new(source, WINDOW_BYTES)) {
-        Err(ParseFault::Source(first)) => first == *fault,
+        Err(ParseFault::Source(first)) => is_same(&first, fault),
         Ok(_) | Err(ParseFault::Device | ParseFault::Memory) => false,
     }
+}
+
+/// Reports whether two faults are the same.
+fn is_same(fault: &Diagnostic, other: &Diagnostic) -> bool
+    ensures { result ≡ true → fault.now ≡ other.now }
+{
+    fault.line == other.line && is_same_code(fault.code, other.code)
+}
+
+/// Reports whether two codes are the same.
+fn is_same_code(code: Code, other: Code) -> bool
+    ensures { result ≡ true → code ≡ other }
+{
+    code == other
 }
 
 /// Returns a source with the end of a line before its last bytes, which are so many.
