@@ -66,9 +66,9 @@ const FRAME: ProgramFrame = ProgramFrame {
     known: &[&OPTIONS, &PROFILE_OPTIONS, &OUTPUT_OPTIONS],
 };
 
-/// The largest source of which a stage is shown, in bytes. A robot's whole code comes from a small part of that, and what
-/// is shown of a source can take over two hundred times its bytes in memory.
-const MOST_SHOWN_BYTES: usize = 262_144;
+/// The largest source of which a stage is shown, in bytes. A robot's whole code comes from a part of that, and what is
+/// shown of a source can take over a thousand times its bytes in memory.
+const MOST_SHOWN_BYTES: usize = 40_960;
 
 /// Shows what the command line asks for, and returns the status.
 fn main(rt: HostRuntime) -> ExitCode {
