@@ -66,7 +66,8 @@ def rendered(site: Site, store: Store, it: Live) -> Markup:
     shown, by = names(store), authors_shown(store)
     rows = [row_of(site, row, shown, by) for row in it.rows]
     missing = f"{it.missing} matches of this round are missing" if it.missing else "no match is missing"
-    return joined(sentence(f"Season {it.season}: {it.played} matches were played, {missing}.", kind="lead"),
+    season = f"Season {it.season}: " if it.season else ""
+    return joined(sentence(f"{season}{it.played} matches were played, {missing}.", kind="lead"),
                   table("Table", COLUMNS, rows, names=1, style="standings") if rows else sentence("No robot plays yet."))
 
 
