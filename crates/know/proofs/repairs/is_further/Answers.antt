@@ -1,13 +1,13 @@
-use Rattle.std.proofs.Common.{◌≡◌, inl, inr, rules}
+use Rattle.std.proofs.Common.{◌≡◌, inl, inr, refl}
 use Rattle.know.proofs.repairs.is_further.Goals as goal
 
 pub returns-then-fits_now : goal.returns-then-fits_now
 returns-then-fits_now c = λ _ is. inr (inl (record {
   next = c.args.next.now;
   is = is;
-  lacks = c.if-fits_now.ensures.lacks;
-  does_not = c.if-fits_now.ensures.does_not;
+  lacks = c.if-fits_now.ensures.lacks refl;
+  does_not = c.if-fits_now.ensures.does_not refl;
 }))
 
-pub returns-else-fits_now : goal.returns-else-fits_now
-returns-else-fits_now c = λ nearer is. inr (inr (c.in_ok-is_nearer.ensures nearer is))
+pub returns-in_ok-is_nearer : goal.returns-in_ok-is_nearer
+returns-in_ok-is_nearer c = λ nearer is. inr (inr (c.in_ok-is_nearer.ensures nearer is))
