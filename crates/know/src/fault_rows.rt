@@ -112,14 +112,7 @@ pub fn add_first_fault(
 ) -> Result<(), AllocError>
     requires { compiled subject.now.profile subject.now.source.now ≡ Err fault.now }
 {
-    add_fault(
-        text,
-        subject,
-        subject.source,
-        subject.tokens,
-        fault,
-        index,
-    )
+    add_fault(text, subject, subject.source, subject.tokens, fault, index)
 }
 
 /// Adds the row of the first fault of what is left of a source, which has these bytes and tokens, at the token of an index.

@@ -26,7 +26,10 @@ pub fn source_given(rt: &HostRuntime, program: &str, word: &str) -> Result<Vec<u
     } else {
         name_of(word)
     };
-    let _ = eprintln!(rt; "{}: over {MOST_TOLD_BYTES} bytes: nothing is told", Plain(name));
+    let _ = eprintln!(rt;
+        "{}: over {MOST_TOLD_BYTES} bytes: nothing is told",
+        Plain(name)
+    );
     Err(Fault::Source)
 }
 

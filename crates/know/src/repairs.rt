@@ -25,10 +25,7 @@ pub fn gets_further(alloc: Global, faulty: &Faulty<'_>, other: &[u8]) -> Result<
     ensures { IfOk result (λ does. does ≡ true
         → GetsFurther faulty.now.profile faulty.now.source.now faulty.now.fault.now other.now) }
 {
-    match compile(
-        faulty.profile,
-        &mut MemoryFeed::new(other, WINDOW_BYTES),
-    ) {
+    match compile(faulty.profile, &mut MemoryFeed::new(other, WINDOW_BYTES)) {
         Ok(_) => Ok(true),
         Err(ParseFault::Source(next)) => {
             let is_further = is_further(alloc, faulty, other, &next)?;
