@@ -106,7 +106,8 @@ def fixes_in_vain(editor: Editor, uri: str, why: str, folder: str, text: Units) 
         edit, mended = action["edit"]["changes"][uri][0], Units(text.text())
         mended.replace(*(text.place(edit["range"][name]) for name in ("start", "end")), edit["newText"])
         before, after = (first_fault(why, folder, it) for it in (content, mended.text().encode("utf-8", "surrogatepass")))
-        if before and action["diagnostics"][0]["severity"] == 1 and not action["diagnostics"][0]["message"].startswith(before[1]):
+        told = action["diagnostics"][0]
+        if before and told["severity"] == 1 and told["range"]["start"] != text.position(text.of_bytes(len(content) - before[0])):
             # of a later fault, in what is left when the part with the first one is left out
             continue
         wrong += [] if gets_further(before, after) else [f"{action['title']}: {before}, and then {after}, of {text.text()!r}"[:3000]]
