@@ -18,7 +18,10 @@ pub fn add_code(text: &mut Draft, noted: &NotedProgram<'_>) -> Result<(), AllocE
         } else {
             "never"
         };
-        write!(text, "code\t{address}\t{line}\t{column}\t{how}\t{function}\t");
+        write!(
+            text,
+            "code\t{address}\t{line}\t{column}\t{how}\t{function}\t"
+        );
         add_instruction(text, noted, address)?;
         writeln!(text, "\t{}", name_in(noted, address));
     }

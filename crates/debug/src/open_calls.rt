@@ -64,11 +64,16 @@ pub fn add_calls(
     let _ = moment_at(pilots, robot, cycle, seed, number, limit);
     for call in &open_calls(text.alloc(), pilots[robot].machine())? {
         let OpenCall {
-            frames, address, ..
+            frames,
+            address,
+            ..
         } = *call;
         let (line, function) = noted.position(address);
         let column = column_of(&noted, address);
-        writeln!(text, "call\t{frames}\t{address}\t{line}\t{column}\t{function}");
+        writeln!(
+            text,
+            "call\t{frames}\t{address}\t{line}\t{column}\t{function}"
+        );
     }
     text.add("\n");
     Ok(())
