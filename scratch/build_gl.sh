@@ -1,0 +1,3 @@
+cd /work/h/parser/crates/grammar_laws
+G=/work/gate/crates
+/opt/rattle/bin/rattle build --crate-name grammar_laws src/lib.rt --extern std=/opt/rattle/rlibs/std.rlib -L dependency=/opt/rattle/rlibs --extern arith=$G/arith/out/rlib/arith.rlib --extern tokens=$G/tokens/out/rlib/tokens.rlib --extern grammar=$G/grammar/out/rlib/grammar.rlib -L dependency=$G/arith/out/rlib -L dependency=$G/tokens/out/rlib -L dependency=$G/grammar/out/rlib --antt-project /opt/rattle/rattle/logic/antt-project.json --logic-built /opt/rattle/logic_built --links grammar_laws= --jobs 1 --statements -o /tmp/parser/rlib/grammar_laws.rlib --empty-contracts

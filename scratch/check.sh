@@ -1,0 +1,3 @@
+cd /work/h/parser/crates/parser
+G=/work/gate/crates
+/opt/rattle/bin/rattle check --crate-name parser src/lib.rt --extern std=/opt/rattle/rlibs/std.rlib --extern arrayvec=/opt/rattle/rlibs/arrayvec.rlib -L dependency=/opt/rattle/rlibs --extern arith=$G/arith/out/rlib/arith.rlib --extern tokens=$G/tokens/out/rlib/tokens.rlib --extern grammar=$G/grammar/out/rlib/grammar.rlib --extern grammar_laws=/tmp/parser/rlib/grammar_laws.rlib -L dependency=$G/arith/out/rlib -L dependency=$G/tokens/out/rlib -L dependency=$G/grammar/out/rlib -L dependency=/tmp/parser/rlib --antt-project /opt/rattle/rattle/logic/antt-project.json --logic-built /opt/rattle/logic_built --links parser= --jobs 1 --incremental /tmp/parser/inc "$@"

@@ -1,0 +1,103 @@
+//! Sources and functions: the steps of each production, in its order.
+
+ghost use Rattle.tokens.specs.declared.located_tokens.Keyword.TheVariants as keyword;
+ghost use Rattle.parser.specs.Advancing.{IsNextKeyword};
+ghost use Rattle.parser.specs.Automata.{Falls, IsAt, Moves, with_frame};
+
+use crate::automaton::Automaton;
+use crate::frames::{Frame, Front};
+use crate::function_headers::{external_declaration, function_header};
+use crate::name_lists::{declarations, type_words};
+use crate::roles::Declared;
+use crate::token_predicates::is_punctuator;
+use grammar::{Action, Build, BuildFault, Code, ParseFault};
+use tokens::{Feed, Keyword, Punctuator, Token};
+
+impl<F: Feed, B: Build> Automaton<'_, '_, '_, F, B> {
+    // source → end, type types head source, and name ( params ) pdecls block source
+
+    /// `source → • end`, `• type types head source` and `• name ( params ) pdecls block source`
+    #[inline(always)]
+    pub fn source(&mut self) -> Result<Front, ParseFault>
+        requires at { IsAt B.stands Front.Source self.old }
+        ensures moves { Moves result B.denied B.stands Front.Source self.old self.new }
+        ensures falls { Falls result Front.Source self.old self.new }
+    {
+        match self.tokens.peek().token {
+            Token::End => Ok(Front::End),
+            Token::Name(_) => Ok(Front::Definition),
+            Token::Keyword(Keyword::Type) => self.typed_part(),
+            _ => Err(self.tokens.unexpected_token()),
+        }
+    }
+
+    /// `source → • type types head source`
+    #[inline(always)]
+    fn typed_part(&mut self) -> Result<Front, ParseFault>
+        requires at { IsAt B.stands Front.Source self.old }
+        requires starts { IsNextKeyword keyword.Type self.old.tokens }
+        ensures moves { Moves result B.denied B.stands Front.Source self.old self.new }
+        ensures falls { Falls result Front.Source self.old self.new }
+    {
+        self.tokens.expect_type()?;
+        type_words(&mut self.tokens)?;
+        Ok(Front::Head)
+    }
+
+    // head → name ( params ) pdecls block, and name more ;
+
+    /// `head → • name ( params ) pdecls block` and `head → • name more ;`
+    #[inline(always)]
+    pub fn head(&mut self) -> Result<Front, ParseFault>
+        requires at { IsAt B.stands Front.Head self.old }
+        ensures moves { Moves result B.denied B.stands Front.Head self.old self.new }
+        ensures falls { Falls result Front.Head self.old self.new }
+    {
+        match self.tokens.peek().token {
+            Token::Name(_) if is_punctuator(self.tokens.after(), Punctuator::OpenRound) => {
+                Ok(Front::Definition)
+            }
+            Token::Name(_) => {
+                external_declaration(&mut self.tokens)?;
+                Ok(Front::Source)
+            }
+            _ => Err(self.tokens.unexpected_token()),
+        }
+    }
+
+    // name ( params ) pdecls block
+    // block → { decls stmts }
+
+    /// `• name ( params ) pdecls block`, up to the statements of the block
+    pub fn definition(&mut self) -> Result<Front, ParseFault>
+        requires at { IsAt B.stands Front.Definition self.old }
+        ensures moves { Moves result B.denied B.stands Front.Definition self.old self.new }
+        ensures falls { Falls result Front.Definition self.old self.new }
+    {
+        let number = function_header(&mut self.tokens)?;
+        if !is_punctuator(&self.tokens.peek().token, Punctuator::OpenCurly) {
+            return Err(self.tokens.unexpected_token());
+        }
+        self.builder
+            .act(Action::BeginFunction(number, self.tokens.parameter_count()))?;
+        self.tokens.advance()?;
+        declarations(&mut self.tokens, Declared::Locals)?;
+        self.depth += 1;
+        self.frames.push(Frame::Function);
+        Ok(Front::Enclosing)
+    }
+
+    /// `block → { decls • stmts }`, of a function
+    #[inline(always)]
+    pub fn function(&mut self) -> Result<Front, ParseFault>
+        requires at { IsAt B.stands Front.Enclosing (with_frame Frame.Function self.old) }
+        ensures moves { Moves result B.denied B.stands Front.Enclosing (with_frame Frame.Function self.old) self.new }
+        ensures falls { Falls result Front.Enclosing (with_frame Frame.Function self.old) self.new }
+    {
+        if !is_punctuator(&self.tokens.peek().token, Punctuator::CloseCurly) {
+            self.frames.push(Frame::Function);
+            return Ok(Front::Statement);
+        }
+        self.end_function()
+    }
+}
