@@ -1,9 +1,9 @@
 import os
-BASE='/work/h/parser/crates/parser/proofs/statement_steps/Automaton/'
+BASE='/work/h/parser/crates/parser/proofs/automaton/Automaton/'
 HEAD={}
 def write(name, imports, body):
     d=BASE+name; os.makedirs(d,exist_ok=True)
-    s=imports.strip('\n')+f"\nuse Rattle.parser.proofs.statement_steps.Automaton.{name}.Goals as goal\n\n"+body.strip('\n')+'\n'
+    s=imports.strip('\n')+f"\nuse Rattle.parser.proofs.automaton.Automaton.{name}.Goals as goal\n\n"+body.strip('\n')+'\n'
     open(d+'/Answers.antt','w').write(s)
 COMMON='''use Rattle.std.proofs.Common.{◌≡◌, ◌+◌, ◌∙◌, [], ◌∷◌, refl, ap, true, false, arith}
 use Rattle.tokens.specs.declared.located_tokens.Punctuator.TheVariants as punctuator
@@ -72,7 +72,7 @@ returns-in_err-expect-clause-moves g c =
 pub act-requires : goal.act-requires
 act-requires g c =
     let h = c.requires.at.is in
-    record {{ follows = may h.told (made Empty tt (c.in_ok-expect.ensures.passes _ _ _ _ h.path)) }}
+    record {{ follows = may h.acts h.told (made Empty tt (c.in_ok-expect.ensures.passes _ _ _ _ h.path)) }}
 
 pub returns-in_err-act-clause-moves : goal.returns-in_err-act-clause-moves
 returns-in_err-act-clause-moves g c =
@@ -102,7 +102,7 @@ pub act-requires : goal.act-requires
 act-requires g c =
     let h = c.requires.at.is in
     record {
-      follows = may h.told (made Empty tt (word_past keyword.Else c.requires.starts c.in_ok-advance.ensures.consumes
+      follows = may h.acts h.told (made Empty tt (word_past keyword.Else c.requires.starts c.in_ok-advance.ensures.consumes
           c.in_ok-advance.ensures.kept (else_path c.requires.starts h.path)));
     }
 
@@ -128,7 +128,7 @@ def end(name, rule):
     write(name,COMMON,f'''
 pub act-requires : goal.act-requires
 act-requires g c =
-    let h = c.requires.at.is in record {{ follows = may h.told (made {rule} tt h.path) }}
+    let h = c.requires.at.is in record {{ follows = may h.acts h.told (made {rule} tt h.path) }}
 
 pub returns-in_err-act-clause-moves : goal.returns-in_err-act-clause-moves
 returns-in_err-act-clause-moves g c =
@@ -147,7 +147,7 @@ pub act-requires : goal.act-requires
 act-requires g c =
     let h = c.requires.at.is in
     let other : is_keyword keyword.Else (token_of c.args.self.now.tokens) ≡ false = cc in
-    record { follows = may h.told (made Decide tt (no_else_path other h.path)) }
+    record { follows = may h.acts h.told (made Decide tt (no_else_path other h.path)) }
 
 pub returns-in_err-act-clause-moves : goal.returns-in_err-act-clause-moves
 returns-in_err-act-clause-moves g c =
@@ -172,7 +172,7 @@ pub act-requires : goal.act-requires
 act-requires g c =
     let h = c.requires.at.is in
     record {
-      follows = may h.told (while_path c.requires.starts (rw h.depth c.in_ok-check_nesting.ensures.ok) h.path);
+      follows = may h.acts h.told (while_path c.requires.starts (rw h.depth c.in_ok-check_nesting.ensures.ok) h.path);
     }
 
 pub returns-in_err-act-clause-moves : goal.returns-in_err-act-clause-moves
@@ -219,7 +219,7 @@ act-requires g c =
     let h = c.requires.at.is in
     let is : is_punctuator punctuator.Semicolon (token_of c.advance.new.self) ≡ true = cc in
     record {
-      follows = may h.told (made Zero tt (zero_path is (word_past keyword.Return c.requires.starts
+      follows = may h.acts h.told (made Zero tt (zero_path is (word_past keyword.Return c.requires.starts
           c.in_ok-advance.ensures.consumes c.in_ok-advance.ensures.kept (return_path c.requires.starts h.path))));
     }
 
@@ -324,7 +324,7 @@ returns-in_err-expect-clause-moves g c =
 pub act-requires : goal.act-requires
 act-requires g c =
     let h = c.requires.at.is in
-    record {{ follows = may h.told (made {rule} tt (c.in_ok-expect.ensures.passes _ _ _ _ h.path)) }}
+    record {{ follows = may h.acts h.told (made {rule} tt (c.in_ok-expect.ensures.passes _ _ _ _ h.path)) }}
 
 pub returns-in_err-act-clause-moves : goal.returns-in_err-act-clause-moves
 returns-in_err-act-clause-moves g c =
