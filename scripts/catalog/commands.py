@@ -94,6 +94,8 @@ GAME = PROGRAMS[0]
 EXAMPLES = (Example("outline"), Example("folding"), Example("duel"))
 # The crate of the program whose host instructions bench/run counts.
 COUNTED = "drills"
+# The crate of the program that writes the rules of the game, of which files are made.
+RULES = "rules"
 
 
 def packages() -> list[str]:
