@@ -28,7 +28,7 @@ SECONDS = 120
 MOST_BYTES = 400_000
 CALLS = 1000
 # Of a larger source crobots-stages shows nothing.
-MOST_SHOWN = 262_144
+MOST_SHOWN = 40_960
 EXPORTS = ["__heap_base", "explain", "film", "film_windows", "find", "memory", "moment", "order_bytes", "places", "robot_bytes", "run",
            "sheet_bytes", "target_bytes", "turns"]
 TOKEN = re.compile(rb"[A-Za-z_]\w*|\d+|<<=|>>=|\+\+|--|&&|\|\||[-+*/%&|^<>=!]=|<<|>>|[^\s\x1a]")
