@@ -17,8 +17,10 @@ IMPL = re.compile(r"impl\b(?:<.*?>)? (?:(?:\w+::)*(\w+)(?:<.*>)? for )?(\w+)")
 NAME = re.compile(r"\bfn (\w+)")
 # a goal that the prover finds no proof of, and an error in a proof; none that only says that a name or another proof is gone
 GOAL = re.compile(r"note: (src/\S+?):(\d+):(\d+): (it is not proved .*)")
-GONE = "has no field|is not in scope|has no `|was not admitted|was rejected"
+GONE = r"has no field|is not in scope|has no `|was not admitted|was rejected|\(nearest: "
 ERROR = re.compile(rf"(?:\./)?(proofs/\S+)/\w+\.antt:\d+:\d+: error: (?!.*(?:{GONE}))(.*)")
+# What a goal says that comes last in a body, though its place is the function's head.
+RETURNS = "what the function ensures holds when it returns"
 # Why an edit is refused of which the prover names no goal.
 NO_GOAL = "the crate is not proved with it"
 
@@ -140,23 +142,28 @@ def refused(edits: list[Edit], said: str) -> dict[str, str]:
     found: dict[str, str] = {}
     for edit in edits:
         for it in sorted(edit.functions, key=lambda it: it.proof):
-            own = [goal.text for goal in goals if goal.path == it.path and goal.line in it.lines]
+            own = [goal for goal in goals if goal.path == it.path and goal.line in it.lines]
             if own or it.proof in errors:
-                found.setdefault(edit.name, f"{it.proof}: {own[0] if own else errors[it.proof]}")
+                found.setdefault(edit.name, f"{it.proof}: {own[0].text if own else errors[it.proof]}")
     return found
 
 
 def not_proved(said: str) -> tuple[list[Goal], dict[str, str]]:
-    """What a check said isn't proved: the goals in their order, and by its proof each error in one. Nothing if all is proved."""
+    """What a check said isn't proved: the goals in the order of the code, and by its proof each error in one. Nothing if all is proved."""
     lines = said.split("\n")
     if not any(line.startswith("logic=not-proved") for line in lines):
         return [], {}
-    goals = sorted(Goal(it[1], int(it[2]), int(it[3]), it[4]) for line in lines if (it := GOAL.match(line)))
+    goals = sorted((Goal(it[1], int(it[2]), int(it[3]), it[4]) for line in lines if (it := GOAL.match(line))), key=place)
     errors: dict[str, str] = {}
     for line in lines:
         if it := ERROR.match(line):
             errors.setdefault("/".join(it[1].split("/")[-2:]), it[2])
     return goals, errors
+
+
+def place(goal: Goal) -> tuple[bool, Goal]:
+    """Where a goal stands among others: those of calls and loops first, and then those of what is returned."""
+    return RETURNS in goal.text, goal
 
 
 def why_refused(edit: Path, texts: dict[str, str], said: str) -> str:

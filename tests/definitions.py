@@ -74,11 +74,13 @@ def profiles() -> Iterator[Row]:
 
 
 def of_field() -> Row:
-    """The numbers of the field that other crates are told. A robot has a file, so there are as many."""
+    """The numbers of the field. A robot has a file, so there are as many."""
     known, robots = field(), numbers("settings", "SettingsLimits")["most_files"]
     return {"row": "field", "most_robots": robots, "last_place": known["last_place"], "last_metre": known["last_place"] // 10,
             "update_cycles": known["update_cycles"], "deadly": known["deadly"], "wall_damage": known["wall_damage"],
-            "knock_damage": known["knock_damage"], "most_range": known["most_range"], "last_ring": known["last_ring"]}
+            "knock_damage": known["knock_damage"], "most_range": known["most_range"]} | {name: known[name] for name in (
+                "last_ring", "last_ring_damage", "middle_ring", "middle_ring_damage", "inner_ring", "inner_ring_damage", "most_speed",
+                "turning_speed", "acceleration", "near", "most_resolution", "missile_speed", "most_missiles", "most_random_limit")}
 
 
 def diagnostics() -> Iterator[Row]:

@@ -6,15 +6,18 @@ line each, and nothing if all is right. A case is a name, and what is wrong, as 
 
 from __future__ import annotations
 
+import functools
 import importlib.machinery
 import importlib.util
 import os
+import resource
 import signal
+import subprocess
 import sys
 import tempfile
 import time
 from types import ModuleType
-from typing import Callable, Collection, Iterable, Sequence
+from typing import Any, Callable, Collection, Iterable, Sequence
 
 HERE = os.path.dirname(os.path.abspath(__file__))
 sys.dont_write_bytecode = True
@@ -92,6 +95,37 @@ def skip(what: str, why: str) -> None:
 def names(tests: object) -> list[str]:
     """The names of the tests of an object."""
     return sorted(name for name in vars(type(tests)) if not name.startswith("_"))
+
+
+class Folder:
+    """A folder of files, in which tests run programs: they stand on it."""
+
+    def __init__(self, folder: str) -> None:
+        self._folder = folder
+
+    def _lay(self, name: str, text: str | bytes) -> None:
+        """Writes a file."""
+        path = os.path.join(self._folder, name)
+        os.makedirs(os.path.dirname(path), exist_ok=True)
+        with open(path, "wb") as file:
+            file.write(text if isinstance(text, bytes) else text.encode("latin-1"))
+
+    def _run(self, program: str, *words: str, **how: Any) -> subprocess.CompletedProcess:
+        """What a program does with these words."""
+        given: dict[str, Any] = {"capture_output": True, "encoding": "utf-8", "timeout": 100} | how
+        return subprocess.run([program, *words], cwd=self._folder, check=False, **given)
+
+    def _short_of_memory(self, name: str, sizes: range, *words: str, writes_early: bool = False) -> list[str]:
+        """What is wrong with a program that has so many kilobytes of memory: with too few the status is 5, with its line and no text, unless
+        it writes before it is done, and no other status of the program's."""
+        seen = set()
+        for kilobytes in sizes:
+            ran = self._run(*words, preexec_fn=functools.partial(resource.setrlimit, resource.RLIMIT_DATA, (kilobytes * 1024,) * 2))
+            got = (ran.stdout if not writes_early else "", ran.stderr, ran.returncode)
+            if ran.returncode in range(1, 6) and got != ("", f"{name}: out of memory\n", 5):
+                return [f"{words}, {kilobytes} kilobytes: {got}"]
+            seen.add(ran.returncode)
+        return [] if {0, 5} <= seen else [f"{words}: statuses were {sorted(seen)}, and not 0 and 5"]
 
 
 def run_parts(usage: str, words: list[str], parts: Sequence[Callable[[str, str], object]]) -> int:

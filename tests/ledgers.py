@@ -32,6 +32,8 @@ from catalog import crates  # noqa: E402
 MOST_EDITS, MOST_EDITS_OF_A_CRATE = 120, 12
 TRIED = "further-edits.tried"
 GOAL = "refused: "
+# The most letters of a reason: what follows them are the terms of a goal.
+MOST_REASON = 240
 
 
 @dataclass(frozen=True)
@@ -132,7 +134,12 @@ def goal(edit: Path) -> str:
 def write_goal(edit: Path, why: str) -> None:
     """Writes down why an edit was refused."""
     text = change(edit)
-    edit.write_text(f"{text}{'' if text.endswith(chr(10)) else chr(10)}{GOAL}{why}\n", encoding="utf-8")
+    edit.write_text(f"{text}{'' if text.endswith(chr(10)) else chr(10)}{GOAL}{short(why)}\n", encoding="utf-8")
+
+
+def short(why: str) -> str:
+    """A reason, or its beginning up to a blank."""
+    return why if len(why) <= MOST_REASON else f"{why[:MOST_REASON + 1].rpartition(' ')[0] or why[:MOST_REASON]} ..."
 
 
 def pairs(edit: Path) -> tuple[tuple[str, str, str], ...]:

@@ -1,8 +1,8 @@
 // The curve of a sweep: the change in points over the values, with the band of its intervals; today's value is at 0.
-import {withSign} from "./intervals.js";
+import {difference} from "./intervals.js";
 
 const WIDTH = 640, HEIGHT = 300;
-const LEFT = 52, RIGHT = 16, TOP = 12, BOTTOM = 44;
+const LEFT = 76, RIGHT = 16, TOP = 12, BOTTOM = 54;
 const TICKS = 6;
 const SPACE = "http://www.w3.org/2000/svg";
 
@@ -24,12 +24,12 @@ function ticksOf(low, high) {
 }
 
 const scaleOf = (low, high, from, to) => value => from + (value - low) / (high - low) * (to - from);
-const signed = value => withSign(value, 2);
 
 /** What is drawn of a row: its dot with what a pointer says of it. */
 function dotOf({value, change, verdict}, x, y) {
     const kind = {better: "better", worse: "worse", "today's": "today"}[verdict] ?? "value";
-    const words = `${value}: ${signed(change.value)} (${signed(change.low)} to ${signed(change.high)}), ${verdict}`;
+    const [middle, low, high] = [change.value, change.low, change.high].map(difference);
+    const words = `${value}: ${middle} (${low} to ${high}), ${verdict}`;
     return drawn("circle", {cx: x, cy: y, r: kind === "today" ? 5 : 4, class: kind}, drawn("title", {}, words));
 }
 
@@ -41,11 +41,20 @@ function axes(up, along, ends) {
     const [heights, widths] = ends.map(([low, high]) => ticksOf(low, high));
     const lines = heights.flatMap(tick => [
         drawn("line", {x1: LEFT, x2: WIDTH - RIGHT, y1: up(tick), y2: up(tick), class: Math.abs(tick) < 1e-9 ? "zero" : "grid"}),
-        drawn("text", {x: LEFT - 6, y: up(tick) + 4, "text-anchor": "end"}, signed(tick)),
+        drawn("text", {x: LEFT - 6, y: up(tick) + 4, "text-anchor": "end"}, difference(tick)),
     ]);
     const feet = widths.filter(Number.isInteger).map(tick =>
         drawn("text", {x: along(tick), y: HEIGHT - BOTTOM + 18, "text-anchor": "middle"}, `${tick}`));
     return [...lines, ...feet];
+}
+
+/** What the numbers beside and below the curve are. */
+function titles({name, value}) {
+    const [x, y] = [14, (TOP + HEIGHT - BOTTOM) / 2];
+    return [
+        drawn("text", {x: (LEFT + WIDTH - RIGHT) / 2, y: HEIGHT - 8, "text-anchor": "middle"}, `value of ${name}`),
+        drawn("text", {x, y, "text-anchor": "middle", transform: `rotate(-90 ${x} ${y})`}, `points a match, more than with ${value}`),
+    ];
 }
 
 /** Draws the rows of a sweep of a number. */
@@ -66,5 +75,6 @@ export function curveOf(rows, number) {
         drawn("polygon", {points: [...top, ...bottom.reverse()].join(" "), class: "band"}),
         drawn("polyline", {points: way.join(" "), class: "way"}),
         ...rows.map(row => dotOf(row, along(row.value), up(row.change.value))),
-        drawn("text", {x, y: HEIGHT - 8, "text-anchor": "middle", class: "now"}, `today's ${number.value}`));
+        drawn("text", {x, y: HEIGHT - BOTTOM + 32, "text-anchor": "middle", class: "now"}, `today's ${number.value}`),
+        ...titles(number));
 }

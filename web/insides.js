@@ -84,14 +84,18 @@ export class Inside {
         }
     }
 
-    /** An open panel stands in the other column than the film, where there are two. */
+    /** An open panel stands in the other column than the film, where there are two. What has the focus in it keeps it. */
     begin() {
         const {open} = this.panel;
         const place = byId("inside-place");
+        const focused = /** @type {HTMLElement} */ (document.activeElement);
         if (open) {
             byId("left").prepend(place);
         } else {
             byId("replay").after(place);
+        }
+        if (place.contains(focused)) {
+            focused.focus({preventScroll: true});
         }
         byId("main").classList.toggle("stepping", open);
         this.screen.beside(open);

@@ -6,6 +6,8 @@
 
 const NORMAL = 1.959964;
 const LEVEL = 0.95;
+// of a difference in points
+const DIGITS = 3;
 // Wichura's AS 241: the quotients of polynomials by which a normal quantile is found, the highest power first. His third one is for
 // chances below 1 in 10 ** 10, which nothing here asks for.
 const MIDDLE = [
@@ -102,4 +104,19 @@ export function fixed(value, digits) {
 export function withSign(value, digits) {
     const text = fixed(Math.abs(value), digits);
     return `${value < 0 && Number(text) ? "-" : "+"}${text}`;
+}
+
+/** A difference in points as crobots-tune writes it: with its sign and three digits; a zero has none. */
+export function difference(value) {
+    const text = withSign(value, DIGITS);
+    return Number(text) ? text : text.slice(1);
+}
+
+/**
+ * An interval whose ends are moved outward to what is written, and aren't beyond the most that a difference can be.
+ * @returns {Interval}
+ */
+export function outward({value, low, high}, most) {
+    const unit = 10 ** DIGITS;
+    return {value, low: Math.floor(Math.max(low, -most) * unit) / unit, high: Math.ceil(Math.min(high, most) * unit) / unit};
 }

@@ -10,9 +10,8 @@ const BELOW_ALONE = 44;
 // with less height the controls stand beside the field, if there is so much width
 const LOW = 380;
 const LEAST_WIDTH_OF_LOW = 520;
-// a frame that doesn't load in this time is made anew, and at last given up
-const MILLISECONDS_TO_LOAD = 4000;
-const TRIES = 3;
+// a frame that doesn't load in so many milliseconds is made anew, with more time for the next one, and at last given up
+const PATIENCE = [4000, 8000, 16000];
 const LOOK_EVERY = 20;
 const LOST = "The film's page doesn't load in this browser. Press Watch once more, or load the page anew.";
 
@@ -58,13 +57,13 @@ export class Screen {
 
     /** Loads the page that plays, into a frame of its own: one that is in use may be about to load something else. */
     async load() {
-        for (let tries = 0; tries < TRIES; tries += 1) {
+        for (const most of PATIENCE) {
             const frame = /** @type {HTMLIFrameElement} */ (this.frame.cloneNode());
             frame.srcdoc = globalThis.CROBOTS.player;
             frame.hidden = false;
             this.frame.replaceWith(frame);
             this.frame = this.loading = frame;
-            for (const begun = performance.now(); performance.now() - begun < MILLISECONDS_TO_LOAD;) {
+            for (const begun = performance.now(); performance.now() - begun < most;) {
                 if (this.loading !== frame) {
                     return;
                 }

@@ -4,20 +4,20 @@ import {Choice, Far, tableOf} from "./benching.js";
 import {STOPPED} from "./calling.js";
 import {curveOf} from "./curves.js";
 import {byId, made} from "./dom.js";
-import {fixed, withSign} from "./intervals.js";
+import {difference, fixed} from "./intervals.js";
 import {NOTHING, matchesOf, sweepOf} from "./sweeps.js";
 import {opponentsOf} from "./trials.js";
 import {constantsOf, countOf, tunablesOf} from "./tuning.js";
 
-const HEADS = ["value", "points", "change", "95 % interval", "matches", "verdict"];
+const HEADS = ["points", "change", "at least", "at most", "matches", "verdict"];
 
 // of a number with more values one learns nothing that one of fewer steps wouldn't say, and the page would be busy for long
 const MOST_VALUES = 100;
-const CAPTION = "'Better' and 'worse' hold for all values at once in 99 of 100 sweeps";
+const captionOf = ({value}) => `Points a match, and how many more than with ${value}: in 99 of 100 sweeps all changes lie between 'at least' and `
+    + "'at most' at once, and a verdict goes by these alone";
 
 function cellsOf({value, points, change, matches, verdict}) {
-    const [middle, low, high] = [change.value, change.low, change.high].map(it => withSign(it, 3));
-    return [`${value}`, fixed(points, 3), middle, `${low} to ${high}`, matches.toLocaleString("en"), verdict];
+    return [`${value}`, fixed(points, 3), ...[change.value, change.low, change.high].map(difference), matches.toLocaleString("en"), verdict];
 }
 
 /** The result in words. */
@@ -119,7 +119,7 @@ export class Sweeping {
             const rows = await sweepOf({...task, call: run.run, onSlice: count => this.far.add(run, count), onLook: draw});
             this.tell(toldOf(rows, number));
             const table = made("details");
-            table.append(made("summary", "Numbers"), tableOf(HEADS, rows.map(cellsOf), CAPTION));
+            table.append(made("summary", "Numbers"), tableOf([number.name, ...HEADS], rows.map(cellsOf), captionOf(number)));
             byId("sweep").append(table);
         } catch (fault) {
             this.far.end(run, () => this.tell(fault.message === STOPPED ? "Stopped." : fault.message));

@@ -1,6 +1,6 @@
 // A sweep: each value of a number against the same opponents in the same matches, as crobots-tune does. Nothing here knows of a
 // browser.
-import {isSure, meanOf} from "./intervals.js";
+import {isSure, meanOf, outward} from "./intervals.js";
 import {POINTS, Trials, opponentsOf, startsOf} from "./trials.js";
 import {valuesOf, withValue} from "./tuning.js";
 
@@ -26,11 +26,8 @@ function looksOf(each) {
     return found;
 }
 
-/** What a value is called that differs from today's by this. */
-function verdictOf(differences, level) {
-    const change = meanOf(differences, POINTS.won, level);
-    return isSure(change) ? change.low > 0 ? "better" : "worse" : NOTHING;
-}
+/** What a value is called whose change has this interval, which is the one that is shown. */
+const verdictOf = change => isSure(change) ? change.low > 0 ? "better" : "worse" : NOTHING;
 
 /**
  * A value's points, by its match, of each opponent, beside today's.
@@ -39,8 +36,8 @@ function verdictOf(differences, level) {
 function rowOf(value, mine, today, level) {
     const differences = mine.map((points, at) => points.map((it, match) => it - today[at][match]));
     const facts = {value, points: average(mine.map(average)), matches: mine.flat().length};
-    return mine === today ? {...facts, change: {value: 0, low: 0, high: 0}, verdict: "today's"}
-        : {...facts, change: meanOf(differences, POINTS.won), verdict: verdictOf(differences, level)};
+    const change = outward(meanOf(differences, POINTS.won, level), POINTS.won);
+    return mine === today ? {...facts, change: {value: 0, low: 0, high: 0}, verdict: "today's"} : {...facts, change, verdict: verdictOf(change)};
 }
 
 /** How many matches a sweep has. */
@@ -48,7 +45,7 @@ export const matchesOf = (number, opponents, each) => 2 * valuesOf(number).lengt
 
 /**
  * Plays each value of a number, `each` matches in each seat with each opponent. `onLook` has the rows so far. Returns those of all
- * matches. That values are better or worse holds for all of them at once in 99 of 100 sweeps.
+ * matches. Their intervals hold for all of them at once in 99 of 100 sweeps, and a verdict goes by its interval alone.
  */
 export async function sweepOf({call, settings, source, number, opponents, each, onSlice, onLook}) {
     const trials = new Trials(call, settings, onSlice);

@@ -121,7 +121,7 @@ function tunable(bytes, place, end, range) {
     const begin = bytes.at(place);
     const value = Number(bytes.text.slice(begin, end));
     if (value < range.low || value > range.high) {
-        throw new Error(`${bytes.placed(begin)}: ${value} isn't from ${range.low} to ${range.high}`);
+        throw new Error(`${bytes.placed(begin)}: today's value is ${value}, which ${range.low}..${range.high} leaves out`);
     }
     const name = range.name || `${place.line}:${place.column}`;
     return {...place, ...range, name, begin: bytes.letters(begin), end: bytes.letters(end), value};

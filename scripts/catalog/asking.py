@@ -4,7 +4,9 @@ with words that are names alone."""
 from __future__ import annotations
 
 import sys
+from typing import Sequence
 
+from tools.faults import Misuse
 from tools.output import OUTPUT
 from tools.output import write as write_pieces
 from tools.programs import number
@@ -30,6 +32,17 @@ def strange(names: list[str], most: int) -> str:
     if "" in names:
         return "an empty name"
     return f"one word too many: {names[most]}" if len(names) > most else ""
+
+
+def parted(words: list[str], flags: Sequence[str], most: int) -> tuple[set[str], list[str]]:
+    """The flags with which words begin, in this order, and the names behind them, at most so many; other words are a misuse."""
+    given: set[str] = set()
+    for flag in flags:
+        if words[:1] == [flag]:
+            given, words = {*given, flag}, words[1:]
+    if why := strange(words, most):
+        raise Misuse(why)
+    return given, words
 
 
 def write(name: str, text: str) -> None:

@@ -28,7 +28,7 @@ def libraries(name: str, top: Path = TOP) -> list[str]:
 def listed(top: Path = TOP) -> dict[str, list[str]]:
     """The crates, and those of this repository that each of them names."""
     lines = rows(top)
-    return {name: [it for it in libraries(name, top) if it in lines] for name in lines}
+    return {name: [library for library in libraries(name, top) if library in lines] for name in lines}
 
 
 def needed(names: list[str], top: Path = TOP) -> dict[str, list[str]]:

@@ -27,7 +27,7 @@ class Option:
 def options(command: Command) -> list[Option]:
     """The options, in the order of the page."""
     found = (option(item[1], item[2]) for item in ITEM.finditer(page(command)))
-    return [it for it in found if it]
+    return [option for option in found if option]
 
 
 def words(command: Command) -> list[tuple[str, str]]:

@@ -5,12 +5,21 @@ from __future__ import annotations
 
 import json
 from pathlib import Path
-from typing import Any
+from typing import Any, Iterable, Iterator, Sequence
 
 TOP = Path(__file__).resolve().parent.parent.parent
 ROWS = TOP / "crates" / "rules" / "stdout"
 PYTHON, PAGE = Path("scripts", "tools", "rules.py"), Path("web", "limits.js")
+VIM, CODE = Path("share", "vim", "syntax", "crobots.vim"), Path("share", "vscode", "syntaxes", "crobots.tmLanguage.json")
+LANGUAGE, MACHINE = Path("docs", "language.md"), Path("docs", "machine.md")
 BEGIN, END = "// made by dev/rules from here\n", "// to here\n"
+# The heads of tables in pages.
+HEADS = {name: f"{head}\n" for name, head in {
+    "intrinsics": "| intrinsic functions | arguments used |\n|---|---|", "limits": "| what | limit |\n|---|---|",
+    "profiles": "| | first profile | second profile |\n|---|---|---|"}.items()}
+# How both editors call the kinds of words, but for keywords in Vim, which have a group each.
+GROUPS = {"type": "Type", "intrinsic": "Intrinsic", "reserved": "Reserved"}
+SCOPES = {"keyword": "keyword.control", "type": "storage.type", "reserved": "invalid.illegal.reserved", "intrinsic": "support.function"}
 
 
 def rows(kind: str, text: str = "") -> list[dict[str, Any]]:
@@ -30,20 +39,68 @@ def diagnostics() -> list[str]:
     return [row["text"] for row in rows("diagnostic")]
 
 
+def words() -> dict[str, list[str]]:
+    """The words that have a meaning by themselves, by their kinds."""
+    found: dict[str, list[str]] = {"keyword": [], "type": [], "reserved": [], "intrinsic": [row["name"] for row in rows("intrinsic")]}
+    for row in rows("word"):
+        found[row["is"]].append(row["text"])
+    return found
+
+
 def made() -> dict[Path, str]:
     """The files that are made of the rules, each with its text, by their paths below the top."""
-    page = (TOP / PAGE).read_text(encoding="utf-8")
-    before, _, rest = page.partition(BEGIN)
-    return {PYTHON: for_scripts(), PAGE: f"{before}{BEGIN}{for_page()}{END}{rest.partition(END)[2]}"}
+    known = words()
+    return {
+        PYTHON: for_scripts(), PAGE: replaced(PAGE, {BEGIN: for_page()}, END),
+        VIM: replaced(VIM, {f"syntax keyword crobots{group} ": " ".join(known[kind]) for kind, group in GROUPS.items()}),
+        LANGUAGE: replaced(LANGUAGE, {HEADS["intrinsics"]: table(by_arguments()), HEADS["limits"]: table(limits())}, "\n\n"),
+        MACHINE: replaced(MACHINE, {HEADS["profiles"]: table(of_profiles())}, "\n\n"),
+        CODE: replaced(CODE, {f'"name": "{scope}.crobots",\n      "match": "\\\\b(?:': "|".join(known[kind]) + ')\\\\b"' for kind, scope in SCOPES.items()})}
+
+
+def replaced(path: Path, texts: dict[str, str], end: str = "\n") -> str:
+    """A file with other texts behind these, up to the end of each."""
+    text = (TOP / path).read_text(encoding="utf-8")
+    for begin, other in texts.items():
+        before, rest = text.split(begin)
+        text = f"{before}{begin}{other}{end}{rest.partition(end)[2]}"
+    return text
+
+
+def table(rows: Iterable[Sequence[str]]) -> str:
+    """The rows of a table of a page."""
+    return "\n".join(f"| {' | '.join(row)} |" for row in rows)
+
+
+def by_arguments() -> Iterator[tuple[str, str]]:
+    """The intrinsic functions by how many arguments they use, most first."""
+    found = rows("intrinsic")
+    for count in sorted({row["arguments"] for row in found}, reverse=True):
+        yield " ".join(f"`{row['name']}`" for row in found if row["arguments"] == count), str(count)
+
+
+def limits() -> list[tuple[str, str]]:
+    """The limits of a source."""
+    most = numbers("most")
+    return [("source", f"{most['source_bytes']:,} bytes"), ("name", f"{most['name_bytes']} bytes"),
+            ("externals; variables of a function; functions", f"{most['names']} each"), ("constructs nested in one another", str(most["nested"])),
+            ("code", "the [profile's](machine.md#the-two-profiles) instructions")]
+
+
+def of_profiles() -> list[tuple[str, ...]]:
+    """What each language profile has room for."""
+    said = {"instructions": "most instructions of a program, the NOP included", "words": "words of a stack", "frames": "most open frames"}
+    return [(what, *(f"{profile[name]:,}" for profile in rows("profile"))) for name, what in said.items()]
 
 
 def for_scripts() -> str:
-    """The module of the scripts with all numbers."""
+    """The module of the scripts with all numbers and words."""
     each = {f"MOST_{name}": value for name, value in numbers("most").items()}
     each |= {f"{name}_DEFAULT": value for name, value in numbers("default").items()} | numbers("field")
     lines = (f"{name.upper()} = {value}" for name, value in each.items())
-    head = '"""The rules of the game in numbers. Made by dev/rules of what crates/rules writes, and not changed by hand."""'
-    return "\n".join((head, "", *lines, ""))
+    head = '"""The rules of the game: numbers, and words. Made by dev/rules of what crates/rules writes, and not changed by hand."""'
+    rest = (f'    "{kind}": "{" ".join(several)}",' for kind, several in words().items())
+    return "\n".join((head, "", *lines, "WORDS = {", *rest, "}", ""))
 
 
 def for_page() -> str:

@@ -47,7 +47,7 @@ def versions(given: argparse.Namespace) -> list[Version]:
 def compared(trace: str, both: list[Version]) -> Comparison:
     """Plays the match with both versions side by side, until they ask something else."""
     with ExitStack() as playing:
-        new, old = (questions(playing.enter_context(traces.lines(trace, ["--asks", *it.match]))) for it in both)
+        new, old = (questions(playing.enter_context(traces.lines(trace, ["--asks", *version.match]))) for version in both)
         found = comparison(new, old)
     return found
 
@@ -60,7 +60,7 @@ def moment_of(trace: str, version: Version, cycle: int) -> Moment:
 
 def said(given: argparse.Namespace, both: list[Version], found: Comparison) -> str:
     """What both versions do alike, and whether they ever do something else."""
-    new, old = (it.name for it in both)
+    new, old = (version.name for version in both)
     count = f"{found.alike} question{'' if found.alike == 1 else 's'}"
     if found.cycle is None:
         return f"{new} and {old} do the same in match {given.match}: {count}, each in the same cycle with the same reply\n"
@@ -71,27 +71,27 @@ def said(given: argparse.Namespace, both: list[Version], found: Comparison) -> s
 
 def question_rows(new: Question | None, old: Question | None) -> list[Row]:
     """What both ask next, each in which cycle, and the replies."""
-    calls, cycles, replies = ([str(it[at]) if it else "" for it in (new, old)] for at in (1, 0, 2))
+    calls, cycles, replies = ([str(question[at]) if question else "" for question in (new, old)] for at in (1, 0, 2))
     return [Row("asks", calls[0] or NOTHING, calls[1] or NOTHING), Row("in cycle", *cycles), Row("reply", *replies)]
 
 
 def moment_rows(both: list[Version], moments: list[Moment]) -> list[Row]:
     """Where both are: the text of the line, what restarts them, calls and variables. What one lacks is empty."""
     new, old = moments
-    rows = [Row("line", *(f"{it.line}: {line_of(version, it.line)}" for version, it in zip(both, moments)))]
+    rows = [Row("line", *(f"{moment.line}: {line_of(version, moment.line)}" for version, moment in zip(both, moments)))]
     if new.restarts or old.restarts:
         rows.append(Row("restarts", new.restarts, old.restarts))
-    groups = [groups_of(it) for it in moments]
+    groups = [groups_of(moment) for moment in moments]
     for place in sorted({*groups[0], *groups[1]}):
-        one, other = (it.get(place, {}) for it in groups)
+        one, other = (group.get(place, {}) for group in groups)
         rows += [Row(label, one.get(label, ""), other.get(label, "")) for label in {**one, **other}]
     return rows
 
 
-def groups_of(it: Moment) -> dict[Place, Texts]:
+def groups_of(moment: Moment) -> dict[Place, Texts]:
     """The labels and texts of each call and of the externals."""
-    calls = {(-call.frames, call.function): {f"{call.function}()": f"at line {call.line}", **texts("  ", call.variables)} for call in it.calls}
-    return {**calls, EXTERNALS: texts("", it.externals)}
+    calls = {(-call.frames, call.function): {f"{call.function}()": f"at line {call.line}", **texts("  ", call.variables)} for call in moment.calls}
+    return {**calls, EXTERNALS: texts("", moment.externals)}
 
 
 def texts(indent: str, values: Values) -> Texts:
@@ -113,7 +113,7 @@ def compare(name: str, arguments: list[str]) -> None:
     trace, both = path_of(traces.TRACE), versions(given)
     with stopping("stopped while the match was played"):
         found = compared(trace, both)
-        moments = [] if found.cycle is None else [moment_of(trace, it, found.cycle - 1) for it in both]
+        moments = [] if found.cycle is None else [moment_of(trace, version, found.cycle - 1) for version in both]
         show([data(given, both, found, moments) if given.json else shown(given, both, found, moments)])
 
 
@@ -129,14 +129,14 @@ def shown(given: argparse.Namespace, both: list[Version], found: Comparison, mom
 def data(given: argparse.Namespace, both: list[Version], found: Comparison, moments: list[Moment]) -> str:
     """The answer as JSON."""
     asked = [found.new, found.old]
-    versions: list[dict[str, object]] = [{"name": it.name, "asks": question_data(question)} for it, question in zip(both, asked)]
-    for version, it, place in zip(versions, both, moments):
-        version |= {"line": place.line, "text": line_of(it, place.line), "restarts": place.restarts or None,
-                    "calls": [{"function": call.function, "line": call.line, "variables": call.variables} for call in place.calls],
-                    "externals": place.externals}
-    whole = {"match": given.match, "alike": found.alike, "last": question_data(found.last), "cycle": found.cycle, "versions": versions}
+    rows: list[dict[str, object]] = [{"name": version.name, "asks": question_data(question)} for version, question in zip(both, asked)]
+    for row, version, place in zip(rows, both, moments):
+        row |= {"line": place.line, "text": line_of(version, place.line), "restarts": place.restarts or None,
+                "calls": [{"function": call.function, "line": call.line, "variables": call.variables} for call in place.calls],
+                "externals": place.externals}
+    whole = {"match": given.match, "alike": found.alike, "last": question_data(found.last), "cycle": found.cycle, "versions": rows}
     return json.dumps(whole, ensure_ascii=False, indent=2) + "\n"
 
 
-def question_data(it: Question | None) -> dict[str, int | str] | None:
-    return it._asdict() if it else None
+def question_data(question: Question | None) -> dict[str, int | str] | None:
+    return question._asdict() if question else None

@@ -31,17 +31,17 @@ class Moment:
 
 def moment(rows: Iterable[str]) -> Moment:
     """The moment of the rows of `crobots-trace --at`."""
-    it = Moment()
+    found = Moment()
     for kind, *fields in (row.split("\t") for row in rows):
         if kind == "at":
-            it.line = int(fields[1])
+            found.line = int(fields[1])
         elif kind == "restarts":
-            it.restarts = fields[0]
+            found.restarts = fields[0]
         elif kind == "call":
             frames, line, function = fields
-            it.calls.append(Call(int(frames), function, int(line)))
+            found.calls.append(Call(int(frames), function, int(line)))
         elif kind in ("local", "external"):
             name, value = fields
-            (it.calls[-1].variables if kind == "local" else it.externals)[name] = int(value)
-    it.calls.sort(key=lambda call: -call.frames)
-    return it
+            (found.calls[-1].variables if kind == "local" else found.externals)[name] = int(value)
+    found.calls.sort(key=lambda call: -call.frames)
+    return found

@@ -40,7 +40,7 @@ class Comparison:
     @property
     def cycle(self) -> int | None:
         """The first cycle in which the versions do something else, if there is one."""
-        return min((it.cycle for it in (self.new, self.old) if it), default=None)
+        return min((question.cycle for question in (self.new, self.old) if question), default=None)
 
 
 def comparison(new: Iterable[Question], old: Iterable[Question]) -> Comparison:

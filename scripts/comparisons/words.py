@@ -19,16 +19,16 @@ class MatchParser(Parser):
 
 def parser(name: str) -> Parser:
     """The words of `compare`, under the name by which it was called."""
-    it = MatchParser(prog=name, description="Plays a match once with a robot and once with its older version, "
-                                            "and shows where they first do something else.", allow_abbrev=False)
-    it.add_version()
-    it.add_argument("--old", metavar="OLD", required=True, help="the older version")
-    it.add_argument("--json", action="store_true", help="print the answer as JSON")
-    it.add_argument("--robot", metavar="N", type=within(1, MOST_ROBOTS), default=1, help="number of the newer version among the files (default 1)")
-    it.add_argument("-k", "-f", dest="match", metavar="MATCH", type=within(1, MOST_MATCHES), default=1, help="number of the match (default 1)")
-    of_match(it, "most cycles of the match", "seed of the random numbers (default 1)")
-    it.add_argument("files", metavar="FILE", nargs="+", help="the robots of the match, the newer version among them")
-    return it
+    parser = MatchParser(prog=name, description="Plays a match once with a robot and once with its older version, "
+                                                "and shows where they first do something else.", allow_abbrev=False)
+    parser.add_version()
+    parser.add_argument("--old", metavar="OLD", required=True, help="the older version")
+    parser.add_argument("--json", action="store_true", help="print the answer as JSON")
+    parser.add_argument("--robot", metavar="N", type=within(1, MOST_ROBOTS), default=1, help="number of the newer version among the files (default 1)")
+    parser.add_argument("-k", "-f", dest="match", metavar="MATCH", type=within(1, MOST_MATCHES), default=1, help="number of the match (default 1)")
+    of_match(parser, "most cycles of the match", "seed of the random numbers (default 1)")
+    parser.add_argument("files", metavar="FILE", nargs="+", help="the robots of the match, the newer version among them")
+    return parser
 
 
 def read(name: str, arguments: list[str]) -> argparse.Namespace:

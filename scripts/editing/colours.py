@@ -11,6 +11,7 @@ from .telling import cycles_at
 TYPES = ["keyword", "type", "function", "variable", "parameter", "number", "operator"]
 MODIFIERS = ["declaration", "defaultLibrary", "static"]
 KINDS = {"keyword": "keyword", "type": "type", "constant": "number", "punctuator": "operator", "reserved": "keyword"}
+NUMBERS = {name: number for number, name in enumerate(TYPES)}
 DECLARATION, LIBRARY, STATIC = 1, 2, 4
 # Behind the hint's place: what comes after it is as it was.
 PADDED = {"paddingLeft": True}
@@ -21,16 +22,13 @@ def tokens(text: Text, known: Known) -> list[int]:
     names = {it.start: it for it in known.names}
     parameters = {(it.function, it.name) for it in known.names if it.role == "parameter"}
     packed: list[int] = []
-    line = column = 0
-    for token in known.tokens:
+    last_line = last_column = 0
+    for token, (line, column, length) in zip(known.tokens, text.places((it.start, it.end) for it in known.tokens)):
         kind, modifiers = kind_of(token.kind, names.get(token.start), parameters)
-        start, end = text.position(token.start), text.position(token.end)
-        if kind is None or start["line"] != end["line"]:
+        if kind is None or not length:
             continue
-        below = start["line"] - line
-        along = start["character"] - (0 if below else column)
-        packed += [below, along, end["character"] - start["character"], TYPES.index(kind), modifiers]
-        line, column = start["line"], start["character"]
+        packed += [line - last_line, column if line > last_line else column - last_column, length, NUMBERS[kind], modifiers]
+        last_line, last_column = line, column
     return packed
 
 

@@ -3,6 +3,7 @@
 from __future__ import annotations
 
 import os
+import re
 import subprocess
 from dataclasses import dataclass, field
 from typing import Any, Callable, Iterable
@@ -13,6 +14,7 @@ from stepping.sessions import BACKWARDS, FORWARDS, LAST_CYCLE, any_line, line_of
 from tools.faults import Fault
 from tools.programs import found
 
+from .counting import Counting, counting_of
 from .fields import Fields, Wrong
 from .loops import Loop, send
 from .manual import entries, page
@@ -23,11 +25,21 @@ from .stops import Stop, on_one_line
 
 Answer = Any
 HAPPENINGS = {"restart": "The robot restarts", "hurt": "The robot is hurt", "hit": "A missile of the robot hurts another one"}
+DIGIT = re.compile(r"[1-9]")
 LINES, DATA, EXCEPTIONS = "breakpoint", "data breakpoint", "exception"
+
+
+# How far a session has come.
+NEW, BEGUN, LAUNCHED, RUNNING, OVER = range(5)
+# What a request has to wait for, or comes too late for.
+WAITS = {NEW: "initialize comes first", BEGUN: "no match is launched", LAUNCHED: "configurationDone comes first", OVER: "the match is over"}
 
 
 class Failed(Exception):
     """A request can't be met: the text says why."""
+
+
+FAULTS = (Wrong, Failed, Fault, Refused, NoPlace, OSError)
 
 
 @dataclass
@@ -46,8 +58,10 @@ class Adapter:
     """A debug adapter for one client."""
 
     def __init__(self) -> None:
-        self._loop = Loop(self._take, lambda why: self._event("output", {"category": "stderr", "output": f"{why}\n"}))
+        self._loop = Loop(self._take, self._complain)
         self._number = 0
+        self._stage = NEW
+        self._counting = Counting()
         self._next_stop = 1
         self._launch = Launch()
         self._match: Match | None = None
@@ -67,7 +81,7 @@ class Adapter:
 
     def _send(self, message: Answer) -> None:
         self._number += 1
-        send({"seq": self._number} | message)
+        send({"seq": self._number} | self._counting.written(message))
 
     def _event(self, name: str, body: Answer) -> None:
         self._send({"type": "event", "event": name, "body": body})
@@ -75,35 +89,55 @@ class Adapter:
     def _say(self, text: str, category: str = "console") -> None:
         self._event("output", {"category": category, "output": f"{text}\n"})
 
+    def _complain(self, why: str) -> None:
+        """Says what is wrong with what is no request. Nothing is said before the first answer."""
+        if self._stage != NEW:
+            self._say(why, "stderr")
+
     def _take(self, message: Any) -> None:
         """Takes a message: a request is answered, and then what follows from it is told."""
         try:
             request = Fields(message, "message")
-            command, number = request.text("command"), request.number("seq")
+            kind, number = request.text("type"), request.number("seq")
+            command = request.text("command") if kind == "request" else ""
         except Wrong as why:
-            self._say(str(why), "stderr")
+            self._complain(str(why))
             return
+        if kind == "request":
+            self._reply(command, number, request)
+            self._follow()
+
+    def _reply(self, command: str, number: int, request: Fields) -> None:
+        """Answers a request, whatever is wrong with it."""
         reply = {"type": "response", "request_seq": number, "command": command}
         self._after = []
         try:
-            body = self._answer(command, request.fields_or("arguments"))
-        except (Wrong, Failed, Fault, Refused, NoPlace, OSError) as why:
+            body = self._answer(command, request.fields_or("arguments").changed(self._counting.read))
+        except FAULTS as why:
             told = str(why).strip()
             self._send(reply | {"success": False, "message": told, "body": {"error": {"id": 1, "format": told, "showUser": True}}})
         else:
             self._send(reply | {"success": True} | ({"body": body} if body is not None else {}))
+
+    def _follow(self) -> None:
+        """Does what follows from an answer. If a program below has gone, so has the match."""
         after, self._after = self._after, []
-        for act in after:
-            act()
+        try:
+            for act in after:
+                act()
+        except FAULTS as why:
+            self._complain(str(why).strip())
+            self._terminated()
 
     def _answer(self, command: str, given: Fields) -> Answer:
-        if command in BEFORE_LAUNCH:
-            return BEFORE_LAUNCH[command](self, given)
         if command not in REQUESTS:
             raise Failed(f"{command} isn't known")
-        if not self._match:
-            raise Failed("no match is launched")
-        return REQUESTS[command](self, given)
+        first, last, act = REQUESTS[command]
+        if self._stage < first:
+            raise Failed(WAITS[self._stage])
+        if self._stage > last:
+            raise Failed(WAITS[OVER] if self._stage == OVER else f"{command} comes once")
+        return act(self, given)
 
     def _of(self) -> Match:
         assert self._match
@@ -111,19 +145,24 @@ class Adapter:
 
     # The match.
 
-    def initialize(self, _: Fields) -> Answer:
+    def initialize(self, given: Fields) -> Answer:
+        self._counting = counting_of(given)
+        self._stage = BEGUN
         return CAPABILITIES | {"exceptionBreakpointFilters": filters()}
 
     def launch(self, given: Fields) -> Answer:
-        self._launch = read_launch(given)
-        self._match = Match(self._launch.options, self._launch.files)
-        if self._launch.watched not in self._match.robots():
-            raise Failed(f"watch {self._launch.watched}: there are {len(self._match.robots())} robots")
+        launch = read_launch(given)
+        match = Match(launch.options, launch.files)
+        if launch.watched not in match.robots():
+            match.close()
+            raise Failed(f"watch {launch.watched}: there are {len(match.robots())} robots")
+        self._launch, self._match, self._stage = launch, match, LAUNCHED
         self._after.append(lambda: self._event("initialized", {}))
         return None
 
     def configured(self, _: Fields) -> Answer:
         self._of().go(self._launch.from_cycle)
+        self._stage = RUNNING
         if self._launch.stops_on_entry:
             self._after.append(lambda: self._stopped("entry", self._launch.watched))
         else:
@@ -131,12 +170,17 @@ class Adapter:
         return None
 
     def disconnected(self, _: Fields) -> Answer:
-        self._after.append(self._end)
+        self._loop.is_over = True
         return None
 
-    def _end(self) -> None:
+    def terminate(self, _: Fields) -> Answer:
+        self._after.append(self._terminated)
+        return None
+
+    def _terminated(self) -> None:
+        """Tells that the match is over: its robots may still be looked at."""
+        self._stage = OVER
         self._event("terminated", {})
-        self._loop.is_over = True
 
     def _stopped(self, reason: str, robot: int, numbers: Iterable[int] = ()) -> None:
         """Tells that all robots have stopped, and which of them is looked at."""
@@ -150,7 +194,7 @@ class Adapter:
         ran = subprocess.run(words, stdin=subprocess.DEVNULL, capture_output=True, text=True, errors="replace", check=False)
         self._event("output", {"category": "stdout", "output": ran.stdout or ran.stderr})
         self._event("exited", {"exitCode": 0})
-        self._event("terminated", {})
+        self._terminated()
 
     # Moves.
 
@@ -254,7 +298,7 @@ class Adapter:
         robots = self._robots_of(path)
         stops: list[Stop] = []
         told = [self._set_breakpoint(stops, robots, asked) for asked in given.all("breakpoints")]
-        self._stops[os.path.realpath(path)] = stops
+        self._stops[real(path)] = stops
         return {"breakpoints": told}
 
     def _set_breakpoint(self, stops: list[Stop], robots: tuple[int, ...], asked: Fields) -> Answer:
@@ -274,7 +318,7 @@ class Adapter:
 
     def _robots_of(self, path: str) -> tuple[int, ...]:
         match = self._of()
-        return tuple(robot for robot in match.robots() if os.path.realpath(match.files[robot - 1]) == os.path.realpath(path))
+        return tuple(robot for robot in match.robots() if real(match.files[robot - 1]) == real(path))
 
     def _new_number(self) -> int:
         self._next_stop += 1
@@ -306,7 +350,7 @@ class Adapter:
     def set_exceptions(self, given: Fields) -> Answer:
         """Sets what happens to the watched robot, by the names of filters."""
         known = {it["filter"] for it in filters()}
-        asked = [it for it in given.items("filters") if isinstance(it, str)]
+        asked = given.texts("filters")
         wrong = [it for it in asked if it not in known]
         if wrong:
             raise Failed(f"{wrong[0]}: no filter")
@@ -330,8 +374,8 @@ class Adapter:
         stops: list[Stop] = []
         told = []
         for asked in given.all("breakpoints"):
-            robot, _, name = asked.text("dataId").partition(" ")
-            number = self._robot(int(robot) if robot.isdigit() else 0)
+            robot, _, name = on_one_line(asked.text("dataId")).partition(" ")
+            number = self._robot(int(robot) if DIGIT.fullmatch(robot) else 0)
             told.append(self._add(stops, self._stop(f"change {name}", (number,), DATA, asked)))
         self._stops[DATA] = stops
         return {"breakpoints": told}
@@ -383,6 +427,14 @@ class Adapter:
         return {"instructions": disassembled(self._of(), given.text("memoryReference"), offset, given.number("instructionCount"))}
 
 
+def real(path: str) -> str:
+    """The path of a file as the system has it: one that can be none is refused."""
+    try:
+        return os.path.realpath(path)
+    except ValueError:
+        raise Failed(f"{path}: no file can have this name") from None
+
+
 def moved(asked: int, line: int) -> Answer:
     return {"line": line} | ({"message": f"moved to line {line}, the next one with an instruction"} if line != asked else {})
 
@@ -395,11 +447,11 @@ def filters() -> list[dict[str, Any]]:
 
 def read_launch(given: Fields) -> Launch:
     """Reads what is to be launched. Wrong numbers are said by the program that takes them."""
-    files = [it for it in given.items("robots") if isinstance(it, str)]
-    if given.has("program"):
-        files = [given.text("program"), *files]
+    files = [*([given.text("program")] if given.has("program") else []), *given.texts("robots")]
     if not files:
         raise Failed("robots is empty")
+    for file in files:
+        real(file)
     options = [f"{letter}{given.number(name)}" for name, letter in {"match": "-k", "cycles": "-l", "seed": "-s", "profile": "-p"}.items()
                if given.has(name)]
     return Launch(files, options, given.number_or("watch", 1), given.number_or("profile", 1), given.number_or("from", 0),
@@ -410,14 +462,19 @@ CAPABILITIES = {f"supports{name}": True for name in (
     "ConfigurationDoneRequest", "ConditionalBreakpoints", "HitConditionalBreakpoints", "LogPoints", "StepBack", "DataBreakpoints",
     "EvaluateForHovers", "BreakpointLocationsRequest", "DisassembleRequest", "SteppingGranularity", "LoadedSourcesRequest", "TerminateRequest")}
 Act = Callable[[Adapter, Fields], Answer]
-BEFORE_LAUNCH: dict[str, Act] = {
-    "initialize": Adapter.initialize, "launch": Adapter.launch, "disconnect": Adapter.disconnected, "terminate": Adapter.disconnected,
+LOOKS: dict[str, Act] = {
+    "threads": Adapter.threads, "stackTrace": Adapter.stack_trace, "scopes": Adapter.scopes, "variables": Adapter.variables,
+    "evaluate": Adapter.evaluate, "disassemble": Adapter.disassemble, "loadedSources": Adapter.sources,
+    "setBreakpoints": Adapter.set_breakpoints, "breakpointLocations": Adapter.locations, "setExceptionBreakpoints": Adapter.set_exceptions,
+    "setDataBreakpoints": Adapter.set_data, "dataBreakpointInfo": Adapter.data_info,
 }
-REQUESTS: dict[str, Act] = {
-    "configurationDone": Adapter.configured, "threads": Adapter.threads, "stackTrace": Adapter.stack_trace, "scopes": Adapter.scopes,
-    "variables": Adapter.variables, "evaluate": Adapter.evaluate, "disassemble": Adapter.disassemble, "loadedSources": Adapter.sources,
-    "setBreakpoints": Adapter.set_breakpoints, "breakpointLocations": Adapter.locations,
-    "setExceptionBreakpoints": Adapter.set_exceptions, "setDataBreakpoints": Adapter.set_data,
-    "dataBreakpointInfo": Adapter.data_info, "continue": Adapter.continue_, "reverseContinue": Adapter.reverse, "next": Adapter.next,
-    "stepIn": Adapter.step_in, "stepOut": Adapter.step_out, "stepBack": Adapter.step_back, "pause": Adapter.pause,
+MOVES: dict[str, Act] = {
+    "continue": Adapter.continue_, "reverseContinue": Adapter.reverse, "next": Adapter.next, "stepIn": Adapter.step_in,
+    "stepOut": Adapter.step_out, "stepBack": Adapter.step_back, "pause": Adapter.pause,
 }
+# How far a session has to have come for a request, at least and at most, and what it does.
+REQUESTS: dict[str, tuple[int, int, Act]] = {
+    "initialize": (NEW, NEW, Adapter.initialize), "launch": (BEGUN, BEGUN, Adapter.launch),
+    "configurationDone": (LAUNCHED, LAUNCHED, Adapter.configured), "disconnect": (NEW, OVER, Adapter.disconnected),
+    "terminate": (LAUNCHED, RUNNING, Adapter.terminate),
+} | {name: (LAUNCHED, OVER, act) for name, act in LOOKS.items()} | {name: (RUNNING, RUNNING, act) for name, act in MOVES.items()}

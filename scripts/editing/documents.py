@@ -5,16 +5,30 @@ from __future__ import annotations
 import os
 import re
 import urllib.parse
-from bisect import bisect_right
+from bisect import bisect_left, bisect_right
 from functools import cached_property
+from itertools import accumulate
+from typing import Iterable, Iterator, NamedTuple
 
 from .fields import Fields
 
 # The protocol's ends of lines: also a CR alone.
 ENDS = re.compile(r"\r\n|\n|\r")
+WIDE = re.compile(r"[^\x00-\x7f]")
 UTF_8, UTF_16 = "utf-8", "utf-16"
 Position = dict[str, int]
 Range = dict[str, Position]
+
+
+class Wide(NamedTuple):
+    """The characters of a text that aren't of one byte: where they begin, counted in characters, in bytes and in the protocol's units, with
+    how many bytes and units each has; and how many more than characters there are before each of them, and behind the last."""
+
+    characters: list[int]
+    offsets: list[int]
+    units: list[int]
+    more_bytes: list[int]
+    more_units: list[int]
 
 
 class Text:
@@ -31,27 +45,42 @@ class Text:
     @cached_property
     def _starts(self) -> list[int]:
         """The places at which lines begin."""
-        return [0, *(it.end() for it in ENDS.finditer(self.text))]
-
-    @cached_property
-    def _offsets(self) -> list[int]:
-        """The offsets at which lines begin."""
-        if self.text.isascii():
-            return self._starts
-        offsets = [0]
-        for start, end in zip(self._starts, self._starts[1:]):
-            offsets.append(offsets[-1] + len(self.text[start:end].encode("utf-8", "surrogatepass")))
-        return offsets
+        if "\r" in self.text:
+            return [0, *(it.end() for it in ENDS.finditer(self.text))]
+        return [0, *accumulate(len(line) + 1 for line in self.text.split("\n")[:-1])]
 
     @cached_property
     def line_feeds(self) -> list[int]:
         """The offsets at which lines begin as the programs count them: LF alone ends one."""
         return [0, *(it.end() for it in re.finditer(b"\n", self.content))]
 
-    def _line(self, number: int) -> str:
-        """A line without its end."""
-        end = self._starts[number + 1] if number + 1 < len(self._starts) else len(self.text)
-        return self.text[self._starts[number] : end].rstrip("\r\n")
+    @cached_property
+    def _wide(self) -> Wide:
+        wide = Wide([], [], [], [0], [0])
+        for found in WIDE.finditer(self.text) if not self.text.isascii() else ():
+            place, width = found.start(), len(found[0].encode("utf-8", "surrogatepass"))
+            wide.characters.append(place)
+            wide.offsets.append(place + wide.more_bytes[-1])
+            wide.units.append(place + wide.more_units[-1])
+            wide.more_bytes.append(wide.more_bytes[-1] + width - 1)
+            wide.more_units.append(wide.more_units[-1] + (width - 1 if self._encoding == UTF_8 else int(found[0] > "\uffff")))
+        return wide
+
+    def _units(self, place: int) -> int:
+        """How many units are before a place."""
+        return place + self._wide.more_units[bisect_left(self._wide.characters, place)]
+
+    def _place(self, count: int, begins: list[int], more: list[int]) -> int:
+        """The place before which there are so many units or bytes; of a character that isn't whole its beginning."""
+        before = bisect_left(begins, count)
+        place = count - more[before]
+        return max(place, self._wide.characters[before - 1]) if before else place
+
+    def _end(self, line: int) -> int:
+        """The place at which a line ends, before what ends it."""
+        start = self._starts[line]
+        end = self._starts[line + 1] if line + 1 < len(self._starts) else len(self.text)
+        return start + len(self.text[start:end].rstrip("\r\n"))
 
     def place(self, position: Fields) -> int:
         """The place of a position; one behind the end of a line is that end, one behind the last line the text's end."""
@@ -60,43 +89,35 @@ class Text:
             return 0
         if line >= len(self._starts):
             return len(self.text)
-        text = self._line(line)
-        return self._starts[line] + (min(max(column, 0), len(text)) if text.isascii() else self._characters(text, max(column, 0)))
-
-    def _characters(self, text: str, units: int) -> int:
-        """How many characters of a text have at most as many units."""
-        for number, character in enumerate(text):
-            units -= self._width(character)
-            if units < 0:
-                return number
-        return len(text)
-
-    def _width(self, character: str) -> int:
-        if self._encoding == UTF_8:
-            return len(character.encode("utf-8", "surrogatepass"))
-        return 2 if character > "\uffff" else 1
+        start = self._starts[line]
+        place = self._place(self._units(start) + max(column, 0), self._wide.units, self._wide.more_units)
+        return min(place, self._end(line))
 
     def offset(self, position: Fields) -> int:
         """The offset of a position."""
         place = self.place(position)
-        line = bisect_right(self._starts, place) - 1
-        return self._offsets[line] + len(self.text[self._starts[line] : place].encode("utf-8", "surrogatepass"))
+        return place + self._wide.more_bytes[bisect_left(self._wide.characters, place)]
 
     def position(self, offset: int) -> Position:
         """The position of an offset, of a character that isn't whole that of its beginning."""
-        offset = min(max(offset, 0), len(self.content))
-        line = bisect_right(self._offsets, offset) - 1
-        before = self.content[self._offsets[line] : offset]
-        if before.isascii():
-            column = len(before)
-        else:
-            whole = before.decode("utf-8", "ignore")
-            column = sum(map(self._width, whole)) if self._encoding == UTF_16 else len(whole.encode())
-        # what ends a line is at its end
-        return {"line": line, "character": min(column, self._length(line)) if before.endswith((b"\r", b"\n")) else column}
+        place = self._place(min(max(offset, 0), len(self.content)), self._wide.offsets, self._wide.more_bytes)
+        line = bisect_right(self._starts, place) - 1
+        start = self._starts[line]
+        if place and self.text[place - 1] in "\r\n" and place > start:
+            # what ends a line is at its end
+            place = self._end(line)
+        return {"line": line, "character": self._units(place) - self._units(start)}
 
-    def _length(self, line: int) -> int:
-        return sum(map(self._width, self._line(line)))
+    def places(self, spans: Iterable[tuple[int, int]]) -> Iterator[tuple[int, int, int]]:
+        """The line, the column and the length of spans of bytes that follow one another. One of several lines has no length."""
+        line, starts, is_plain = 0, [*self._starts, len(self.text) + 1], self.text.isascii()
+        for start, end in spans:
+            if not is_plain:
+                start, end = (self._place(offset, self._wide.offsets, self._wide.more_bytes) for offset in (start, end))
+            while starts[line + 1] <= start:
+                line += 1
+            units = [start, end, starts[line]] if is_plain else [self._units(place) for place in (start, end, starts[line])]
+            yield line, units[0] - units[2], units[1] - units[0] if end < starts[line + 1] else 0
 
     def range(self, start: int, end: int) -> Range:
         """The range between two offsets."""
@@ -117,5 +138,9 @@ class Text:
 
 
 def name_of(uri: str) -> str:
-    """The name of the file of a URI."""
-    return os.path.basename(urllib.parse.unquote(urllib.parse.urlsplit(uri).path)).replace("\0", "")
+    """The name of the file of a URI: none of one that is no address."""
+    try:
+        path = urllib.parse.urlsplit(uri).path
+    except ValueError:
+        return ""
+    return os.path.basename(urllib.parse.unquote(path)).replace("\0", "").encode("utf-8", "replace").decode()

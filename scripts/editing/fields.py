@@ -2,7 +2,7 @@
 
 from __future__ import annotations
 
-from typing import Any, TypeVar
+from typing import Any, Callable, TypeVar
 
 Kind = TypeVar("Kind")
 
@@ -55,9 +55,20 @@ class Fields:
         """A list that may lack: an empty one then."""
         return self._of(name, list, "list") if self.has(name) else []
 
+    def texts(self, name: str) -> list[str]:
+        """The strings of a list that may lack."""
+        for number, one in enumerate(self.items(name)):
+            if not isinstance(one, str):
+                raise Wrong(f"{self._path}.{name}[{number}] is no string")
+        return self.items(name)
+
     def all(self, name: str) -> list[Fields]:
         """The objects of a list."""
         return [Fields(it, f"{self._path}.{name}[{number}]") for number, it in enumerate(self.items(name))]
+
+    def changed(self, change: Callable[[Any], Any]) -> Fields:
+        """An object of other values."""
+        return Fields(change(self._value), self._path)
 
     def value(self, name: str) -> Any:
         return self._value.get(name)

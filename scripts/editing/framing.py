@@ -17,6 +17,10 @@ MOST_BYTES = 64 << 20
 MOST_HEAD = 1 << 13
 
 
+# There is no message that is whole: null is one.
+NOTHING = object()
+
+
 class Broken(Exception):
     """Bytes that are no message: the text says why."""
 
@@ -36,12 +40,12 @@ class Frames:
         self._bytes += piece[dropped:]
 
     def next(self) -> Any:
-        """The next message that is whole, or None; it stops at bytes that are none, and goes on behind them."""
+        """The next message, or NOTHING if none is whole; it stops at bytes that are none, and goes on behind them."""
         if self._length is None and not self._read_head():
-            return None
+            return NOTHING
         assert self._length is not None
         if len(self._bytes) < self._length:
-            return None
+            return NOTHING
         body = bytes(self._bytes[: self._length])
         del self._bytes[: self._length]
         self._length = None
@@ -82,12 +86,21 @@ class Frames:
 def parsed(body: bytes) -> Any:
     """A message of its bytes."""
     try:
-        return json.loads(body.decode("utf-8"))
+        return json.loads(body.decode("utf-8"), parse_constant=refuse)
     except (ValueError, RecursionError) as why:
         raise Broken(f"no JSON: {why}") from why
 
 
-def framed(message: Any) -> bytes:
+def refuse(word: str) -> Any:
+    """Refuses a word that Python takes for a number, and JSON doesn't."""
+    raise ValueError(word)
+
+
+def encoded(value: Any) -> bytes:
+    """A value as JSON."""
+    return json.dumps(value, ensure_ascii=True, separators=(",", ":")).encode("ascii")
+
+
+def framed(body: bytes) -> bytes:
     """A message with its head."""
-    body = json.dumps(message, ensure_ascii=True, separators=(",", ":")).encode("ascii")
     return b"Content-Length: %d\r\n\r\n%s" % (len(body), body)

@@ -2,19 +2,25 @@
 
 from __future__ import annotations
 
+import contextlib
+import fcntl
 import json
 import os
 import subprocess
-from dataclasses import dataclass, field
 from functools import cached_property
+from operator import itemgetter
 from typing import Any, NamedTuple
 
 Row = dict[str, Any]
 PROGRAM = "crobots-know"
-# How a row begins, and how those do that are read at once.
+# How a row begins, and its last one.
 ROW = b'{"row": "'
-FAULTS = (ROW + b'first"', ROW + b'fault"', ROW + b'warning"')
 COMPLETE = ROW + b'complete"}'
+KINDS = ("first", "fault", "warning", "tokens", "name", "function", "loop", "cycles", "need", "word", "intrinsic", "room")
+# By so many of its letters a kind is known.
+LETTERS = 4
+# What a pipe takes in, in bytes: all that is said of most texts.
+PIPE = 1 << 20
 # What it calls a text that it is given.
 INPUT = "standard input"
 
@@ -42,6 +48,10 @@ class Name(NamedTuple):
         return self.kind, self.function, self.name
 
 
+# The fields of a name in its row.
+NAME = itemgetter("name", "is", "role", "function", "start", "end")
+
+
 class NoRow(ValueError):
     """A line that is none of the program's rows."""
 
@@ -49,66 +59,85 @@ class NoRow(ValueError):
         super().__init__(f"{PROGRAM} wrote what is no row")
 
 
-@dataclass
 class Known:
-    """All that is known of a text. It grows as rows come: faults and warnings are read at once, and all else when it is asked for, since
-    most texts change before that. The first fault comes twice: first without its hint."""
+    """All that is known of a text. It grows as rows come: the first fault is read at once, and all else when it is asked for, since most
+    texts change before that. The first fault comes twice: first without its hint."""
 
-    first: Row | None = None
-    faults: list[Row] = field(default_factory=list)
-    tokens: list[Token] = field(default_factory=list)
-    names: list[Name] = field(default_factory=list)
-    functions: list[Row] = field(default_factory=list)
-    loops: list[Row] = field(default_factory=list)
-    cycles: list[Row] = field(default_factory=list)
-    needs: list[Row] = field(default_factory=list)
-    words: list[Row] = field(default_factory=list)
-    intrinsics: list[Row] = field(default_factory=list)
-    room: Row | None = None
-    is_complete: bool = False
-    unread: list[bytes] = field(default_factory=list)
+    def __init__(self) -> None:
+        self.first: Row | None = None
+        self.is_complete = False
+        self._lines: dict[str, list[bytes]] = {kind: [] for kind in KINDS}
+        # faults and warnings stand in one list, as they come
+        self._lines["warning"] = self._lines["fault"]
+        self._lists = {ROW + kind[:LETTERS].encode("ascii"): lines for kind, lines in self._lines.items()}
 
-    def take(self, line: bytes) -> None:
-        """Takes the line of a row."""
-        if line == COMPLETE:
-            self.is_complete = True
-        elif line.startswith(FAULTS):
-            self._read([line])
-        elif line.startswith(ROW):
-            self.unread.append(line)
-        else:
-            raise NoRow
+    def take(self, lines: list[bytes]) -> None:
+        """Takes the lines of rows."""
+        lists, size = self._lists, len(ROW) + LETTERS
+        for line in lines:
+            if line[:size] in lists:
+                lists[line[:size]].append(line)
+            elif line == COMPLETE:
+                self.is_complete = True
+            else:
+                raise NoRow
+        if not self.first and self._lines["first"]:
+            self.first = parsed(self._lines["first"])[0]
 
-    def read(self) -> None:
-        """Reads the rows that nobody has asked for so far."""
-        lines, self.unread = self.unread, []
-        self._read(lines)
+    def _rows(self, kind: str) -> list[Row]:
+        """All rows of a kind. They are asked for only when all have come."""
+        return parsed(self._lines[kind])
 
-    def _read(self, lines: list[bytes]) -> None:
+    @cached_property
+    def faults(self) -> list[Row]:
+        """Faults and warnings, as they came."""
+        return self._rows("fault")
+
+    @cached_property
+    def tokens(self) -> list[Token]:
         try:
-            for line in lines:
-                self._take_row(json.loads(line))
-        except (ValueError, KeyError, TypeError):
+            return [Token._make(one) for row in self._rows("tokens") for one in row["tokens"]]
+        except (KeyError, TypeError):
             raise NoRow from None
 
-    def _take_row(self, row: Row) -> None:
-        kind = row["row"]
-        if kind == "name":
-            self.names.append(Name(row["name"], row["is"], row["role"], row["function"], row["start"], row["end"]))
-        elif kind == "tokens":
-            self.tokens = [Token(*it) for it in row["tokens"]]
-        elif kind == "room":
-            self.room = row
-        elif kind == "first":
-            self.first = row
-        else:
-            lists = {"fault": self.faults, "warning": self.faults, "function": self.functions, "loop": self.loops,
-                     "cycles": self.cycles, "need": self.needs, "word": self.words, "intrinsic": self.intrinsics}
-            lists[kind].append(row)
+    @cached_property
+    def names(self) -> list[Name]:
+        try:
+            return [*map(Name._make, map(NAME, self._rows("name")))]
+        except KeyError:
+            raise NoRow from None
+
+    @cached_property
+    def functions(self) -> list[Row]:
+        return self._rows("function")
+
+    @cached_property
+    def loops(self) -> list[Row]:
+        return self._rows("loop")
+
+    @cached_property
+    def cycles(self) -> list[Row]:
+        return self._rows("cycles")
+
+    @cached_property
+    def needs(self) -> list[Row]:
+        return self._rows("need")
+
+    @cached_property
+    def words(self) -> list[Row]:
+        return self._rows("word")
+
+    @cached_property
+    def intrinsics(self) -> list[Row]:
+        return self._rows("intrinsic")
+
+    @cached_property
+    def room(self) -> Row | None:
+        return next(iter(self._rows("room")), None)
 
     @cached_property
     def by_key(self) -> dict[tuple[str, int | None, str], list[Name]]:
-        """All names that name the same, in their order. It is asked for only when all rows have come."""
+        """All names that name the same, in their order."""
         found: dict[tuple[str, int | None, str], list[Name]] = {}
         for name in self.names:
             found.setdefault(name.key(), []).append(name)
@@ -149,64 +178,137 @@ class Known:
         return [*dict.fromkeys(it.name for it in self.names if it.kind == "local" and it.function == number)]
 
 
-class Knower:
-    """A running `crobots-know`: its rows, as they come."""
+def parsed(lines: list[bytes]) -> list[Row]:
+    """The rows of lines."""
+    try:
+        rows: list[Row] = json.loads(b"[%s]" % b",".join(lines))
+    except ValueError:
+        raise NoRow from None
+    return rows
 
-    def __init__(self, path: str, source: bytes, profile: int) -> None:
-        self.known = Known()
-        self._rest, self._wrong = b"", False
-        kept, self._said = memory(source), memory(b"")
+
+class Knower:
+    """A running `crobots-know`: it waits for its source, and then its rows come."""
+
+    def __init__(self, path: str, profile: int) -> None:
+        self.profile, self.known = profile, Known()
+        self._rest: list[bytes] = []
+        self._wrong = False
+        self._said = os.memfd_create("crobots")
         try:
-            self._child = subprocess.Popen([path, f"-p{profile}", "-"], stdin=kept, stdout=subprocess.PIPE, stderr=self._said)
-        finally:
-            os.close(kept)
+            self._child = subprocess.Popen([path, f"-p{profile}", "-"], stdin=subprocess.PIPE, stdout=subprocess.PIPE, stderr=self._said)
+        except OSError:
+            os.close(self._said)
+            raise
+        # so that neither waits for the other; a user may have too many such pipes
+        with contextlib.suppress(OSError):
+            fcntl.fcntl(self.fileno(), fcntl.F_SETPIPE_SZ, PIPE)
 
     def fileno(self) -> int:
         assert self._child.stdout
         return self._child.stdout.fileno()
 
+    def waits(self) -> bool:
+        """Whether it is still there."""
+        return self._child.poll() is None
+
+    def tell(self, source: bytes) -> None:
+        """Gives it its source. It writes nothing before it has read all of that."""
+        assert self._child.stdin
+        # why it may read no more is said at its end
+        with contextlib.suppress(BrokenPipeError), self._child.stdin as pipe:
+            pipe.write(source)
+
     def read(self) -> bool:
         """Takes what has been written; reports whether more may come. Behind what is no row nothing is read."""
-        piece = os.read(self.fileno(), 1 << 18)
-        *lines, self._rest = (self._rest + piece).split(b"\n")
+        piece = os.read(self.fileno(), PIPE)
         try:
-            for line in lines:
-                self.known.take(line)
+            self.known.take(self._lines(piece))
+            if not piece:
+                # what is wrong with these is said at the end
+                _ = self.known.faults
         except NoRow:
             self._wrong = True
         return bool(piece) and not self._wrong
 
+    def _lines(self, piece: bytes) -> list[bytes]:
+        """The lines that are whole with what was written."""
+        if b"\n" not in piece:
+            self._rest.append(piece)
+            return []
+        *lines, rest = b"".join([*self._rest, piece]).split(b"\n")
+        self._rest = [rest]
+        return lines
+
+    def stop(self) -> None:
+        """Ends it before it is done. It is gone a little later: nobody waits for that."""
+        self._child.kill()
+        self._close()
+
     def end(self) -> str:
-        """Ends it; answers what is to be said if it didn't write all."""
+        """Ends it when it has written; answers what is to be said if it didn't write all."""
         is_right = self.known.is_complete and not self._wrong
         if not is_right:
             self._child.kill()
-        assert self._child.stdout
-        self._child.stdout.close()
         status = self._child.wait()
         said = os.pread(self._said, 1000, 0).decode(errors="replace").strip()
-        os.close(self._said)
+        self._close()
         if self._wrong:
             return str(NoRow())
         return "" if is_right else said or f"{PROGRAM} ended {f'by signal {-status}' if status < 0 else f'with status {status}'}"
 
+    def _close(self) -> None:
+        assert self._child.stdin and self._child.stdout
+        self._child.stdin.close()
+        self._child.stdout.close()
+        os.close(self._said)
 
-def memory(content: bytes) -> int:
-    """A file in memory with this content, which is read from its beginning."""
-    file = os.memfd_create("crobots")
-    rest = memoryview(content)
-    while rest:
-        rest = rest[os.write(file, rest) :]
-    os.lseek(file, 0, os.SEEK_SET)
-    return file
+    def wait(self) -> None:
+        """Waits until it is gone."""
+        self._child.wait()
 
 
-def known_of(path: str, source: bytes, profile: int) -> Known:
-    """All that is known of a source, when it is said."""
-    knower = Knower(path, source, profile)
-    while knower.read():
-        pass
-    if said := knower.end():
-        raise OSError(said)
-    knower.known.read()
-    return knower.known
+class Knowers:
+    """Programs that say what is known of texts. One is begun ahead, so that the next text waits for no program's beginning."""
+
+    def __init__(self, path: str) -> None:
+        self._path = path
+        self._ahead: Knower | None = None
+        self._stopped: list[Knower] = []
+
+    def begin(self, source: bytes, profile: int) -> Knower:
+        """One that is told this source."""
+        knower, self._ahead = self._ahead, None
+        if knower and not (knower.profile == profile and knower.waits()):
+            self.stop(knower)
+            knower = None
+        knower = knower or Knower(self._path, profile)
+        knower.tell(source)
+        return knower
+
+    def stop(self, knower: Knower) -> None:
+        """Ends one that isn't needed any more."""
+        knower.stop()
+        self._stopped = [one for one in (*self._stopped, knower) if one.waits()]
+
+    def begin_ahead(self, profile: int) -> None:
+        """Begins one for the next text. One that can't be begun is told of when it is needed."""
+        if not self._ahead:
+            with contextlib.suppress(OSError):
+                self._ahead = Knower(self._path, profile)
+
+    def end(self) -> None:
+        """Ends all, and waits until they are gone."""
+        if self._ahead:
+            self.stop(self._ahead)
+        for knower in self._stopped:
+            knower.wait()
+
+    def known_of(self, source: bytes, profile: int) -> Known:
+        """All that is known of a source, when it is said."""
+        knower = self.begin(source, profile)
+        while knower.read():
+            pass
+        if said := knower.end():
+            raise OSError(said)
+        return knower.known

@@ -8,7 +8,7 @@ from typing import Any, Callable, Protocol
 
 from tools.faults import FILE, Fault
 
-from .framing import Broken, Frames, framed
+from .framing import NOTHING, Broken, Frames, encoded, framed
 
 INPUT, OUTPUT = 0, 1
 PIECE = 1 << 16
@@ -67,13 +67,18 @@ class Loop:
             except Broken as why:
                 self._broken(str(why))
                 continue
-            if message is None:
+            if message is NOTHING:
                 return
             self._take(message)
 
 
 def send(message: Any) -> None:
-    """Writes a message to the client. One that reads no more gets nothing."""
-    rest = memoryview(framed(message))
+    """Writes a message to the client."""
+    send_encoded(encoded(message))
+
+
+def send_encoded(body: bytes) -> None:
+    """Writes a message to the client, which is JSON already. One that reads no more gets nothing."""
+    rest = memoryview(framed(body))
     while rest:
         rest = rest[os.write(OUTPUT, rest) :]

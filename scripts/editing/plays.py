@@ -21,6 +21,8 @@ PLAY, REPLAY = "crobots.play", "crobots.replay"
 COMMANDS = {PLAY: "the results against each sample", REPLAY: "the replay of the worst match"}
 GAME, REPLAYER = "crobots", "crobots-replay"
 MATCHES = 10
+# The most bytes of a file's name.
+MOST_NAME = 255
 MATCH = re.compile(r"^Match (\d+): cycles = (\d+)\n  1\) (alive|dead)  ?damage +(\d+)%", re.MULTILINE)
 TOTALS = re.compile(r"^  1\) won (\d+) tied (\d+) lost (\d+)", re.MULTILINE)
 Show = Callable[[str, str | None], None]
@@ -85,6 +87,15 @@ class Play:
             self.rows.append(f"{os.path.basename(opponent):12} won {won:>2} tied {tied:>2} lost {lost:>2}")
 
 
+def file_name(name: str) -> str:
+    """The name of a robot's file: its own, if that can be one."""
+    try:
+        is_name = name.endswith(".r") and len(os.fsencode(name)) <= MOST_NAME
+    except UnicodeError:
+        is_name = False
+    return name if is_name else "robot.r"
+
+
 class Plays:
     """The commands that are at work."""
 
@@ -97,8 +108,7 @@ class Plays:
     def begin(self, command: str, uri: str, source: bytes, profile: int, against: list[str], is_opened: bool) -> None:
         """Begins a command: the text is put into a file of a folder that goes with the server."""
         folder = tempfile.TemporaryDirectory(prefix="crobots-")
-        name = name_of(uri)
-        file = os.path.join(folder.name, name if name.endswith(".r") else "robot.r")
+        file = os.path.join(folder.name, file_name(name_of(uri)))
         pathlib.Path(file).write_bytes(source)
         play = Play(command, folder, file, profile, against, is_opened)
         self._plays.append(play)
@@ -108,15 +118,16 @@ class Plays:
         """Goes on with a command, or says what came of it."""
         try:
             words = play.words()
-        except Fault:
+            if words:
+                play.output = b""
+                play.child = subprocess.Popen(words, stdin=subprocess.DEVNULL, stdout=subprocess.PIPE, stderr=subprocess.STDOUT)
+        except (Fault, OSError):
             self._plays.remove(play)
             raise
-        if not words:
+        if words:
+            self._loop.wait_for(play, lambda: self._read(play))
+        else:
             self._end(play)
-            return
-        play.output = b""
-        play.child = subprocess.Popen(words, stdin=subprocess.DEVNULL, stdout=subprocess.PIPE, stderr=subprocess.STDOUT)
-        self._loop.wait_for(play, lambda: self._read(play))
 
     def _read(self, play: Play) -> None:
         piece = os.read(play.fileno(), 1 << 16)
@@ -132,7 +143,7 @@ class Plays:
         play.take()
         try:
             self._next(play)
-        except Fault as why:
+        except (Fault, OSError) as why:
             self._show(str(why), None)
 
     def _close(self, play: Play) -> int:
@@ -145,8 +156,8 @@ class Plays:
     def _end(self, play: Play) -> None:
         self._plays.remove(play)
         self._kept.append(play)
-        if play.command == PLAY:
-            self._show("\n".join(play.rows), None)
+        if play.command == PLAY or not play.matches:
+            self._show("\n".join(play.rows) or f"{GAME} wrote no match", None)
             return
         worst = min(play.matches)
         told = f"match {worst.number} against {os.path.basename(worst.opponent)}"

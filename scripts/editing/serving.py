@@ -11,15 +11,18 @@ from tools.programs import found, number
 from . import colours, completing, mending, telling
 from .documents import UTF_8, UTF_16, Text, name_of
 from .fields import Fields, Wrong
-from .knowing import INPUT, PROGRAM, Knower, Known, NoRow, known_of
-from .loops import Loop, send
+from .framing import encoded
+from .knowing import INPUT, PROGRAM, Knower, Knowers, Known, NoRow
+from .loops import Loop, send, send_encoded
 from .manual import entries, page
 from .plays import COMMANDS, Plays, opponents
 from .words import NAME, pages
 
 PARSE_ERROR, INVALID_REQUEST, NO_METHOD, WRONG_PARAMS = -32700, -32600, -32601, -32602
 NOT_INITIALISED, CANCELLED, FAILED = -32002, -32800, -32803
-ERROR, INFO = 1, 3
+ERROR, WARNING, INFO = 1, 2, 3
+# How a message ends that publishes none.
+NO_DIAGNOSTICS = b"[]}}"
 Answer = Any
 Ask = Callable[["Document", Fields], Answer]
 
@@ -52,8 +55,8 @@ class Document:
     known: Known | None = None
     knower: Knower | None = None
     asked: list[Asked] = field(default_factory=list)
-    # what was published last
-    warnings: list[Any] = field(default_factory=list)
+    # what was published last, as JSON
+    warnings: list[bytes] = field(default_factory=list)
     # why nothing is known of it
     why: str = ""
 
@@ -81,7 +84,7 @@ class Server:
     """A language server for one client."""
 
     def __init__(self) -> None:
-        self._path = found(PROGRAM)
+        self._knowers = Knowers(found(PROGRAM))
         self._manual = entries(page())
         self._pages = pages()
         self._settings = Settings()
@@ -98,50 +101,49 @@ class Server:
         finally:
             for document in self._documents.values():
                 self._stop(document)
+            self._knowers.end()
             self._plays.stop()
         return 0 if self._is_asked_to_end else 1
 
     def _take(self, message: Any) -> None:
-        """Takes a message: a request has a number, and is answered, whatever is wrong with it."""
-        if not isinstance(message, dict) or not isinstance(message.get("method", ""), str):
+        """Takes a message: a request has a number, and is answered, whatever is wrong with it. A notification never is."""
+        if is_answer(message):
+            return
+        if not is_call(message):
             send(failure(None, INVALID_REQUEST, "no request and no notification"))
-            return
-        if "method" not in message:
-            # the answer to a request of ours
-            return
-        number_ = message.get("id")
-        try:
-            params = Fields(message.get("params") or {})
-            self._dispatch(message["method"], number_, params)
-        except Wrong as why:
-            self._fail(number_, WRONG_PARAMS, str(why))
-        except Failed as why:
-            self._fail(number_, why.code, str(why))
+        elif "id" in message:
+            self._answer_request(message["method"], message["id"], message.get("params"))
+        elif message["method"] == "exit" or self._is_ready and not self._is_asked_to_end:
+            self._heed(message["method"], message.get("params"))
 
-    def _fail(self, number_: Any, code: int, why: str) -> None:
-        """Says what is wrong with a request; of a notification in a message."""
-        if number_ is not None:
-            send(failure(number_, code, why))
-        elif code != NO_METHOD:
-            say(why)
+    def _answer_request(self, method: str, number_: Any, params: Any) -> None:
+        try:
+            self._dispatch(method, number_, fields_of(params))
+        except Wrong as why:
+            send(failure(number_, WRONG_PARAMS, str(why)))
+        except Failed as why:
+            send(failure(number_, why.code, str(why)))
+
+    def _heed(self, method: str, params: Any) -> None:
+        """Does what a notification says. What is wrong with one stands in the client's log."""
+        try:
+            if method in NOTIFICATIONS:
+                NOTIFICATIONS[method](self, fields_of(params))
+            elif not method.startswith("$/") and method not in IGNORED:
+                log(f"{method} isn't known")
+        except (Wrong, Failed) as why:
+            log(f"{method}: {why}")
 
     def _dispatch(self, method: str, number_: Any, params: Fields) -> None:
-        if method in NOTIFICATIONS:
-            if self._is_ready or method == "exit":
-                NOTIFICATIONS[method](self, params)
-            return
-        if number_ is None:
-            # others may be ignored if they begin so
-            self._fail(None, NO_METHOD if method.startswith("$/") or method in IGNORED else FAILED, f"{method} isn't known")
-            return
+        if self._is_asked_to_end:
+            raise Failed("the server is shut down", INVALID_REQUEST)
         if method == "initialize":
             send(success(number_, self._initialize(params)))
         elif not self._is_ready:
             raise Failed("initialize comes first", NOT_INITIALISED)
-        elif self._is_asked_to_end:
-            raise Failed("the server is shut down", INVALID_REQUEST)
         elif method == "shutdown":
             self._is_asked_to_end = True
+            self._leave()
             send(success(number_, None))
         elif method == "workspace/executeCommand":
             self._execute(number_, params)
@@ -152,6 +154,8 @@ class Server:
 
     def _initialize(self, params: Fields) -> Answer:
         """What the server can do, and the encoding of positions that it takes of those that the client offers."""
+        if self._is_ready:
+            raise Failed("the server is initialized", INVALID_REQUEST)
         can = params.fields_or("capabilities")
         offered = can.fields_or("general").items("positionEncodings")
         item = can.fields_or("textDocument").fields_or("completion").fields_or("completionItem")
@@ -160,6 +164,7 @@ class Server:
         self._settings.shows_documents = can.fields_or("window").fields_or("showDocument").truth("support")
         self._settings.take(params.value("initializationOptions"))
         self._is_ready = True
+        self._knowers.begin_ahead(self._settings.profile)
         return {"capabilities": capabilities(self._settings.encoding), "serverInfo": {"name": NAME, "version": number()}}
 
     def _document(self, params: Fields) -> Document:
@@ -194,8 +199,7 @@ class Server:
         document = self._document(params)
         self._stop(document)
         del self._documents[document.uri]
-        for asked in document.asked:
-            send(failure(asked.number, FAILED, f"{document.uri} was closed"))
+        self._fail(document, f"{document.uri} was closed")
         publish(document, [], with_version=False)
 
     def configured(self, params: Fields) -> None:
@@ -205,13 +209,21 @@ class Server:
             self._know(document)
 
     def cancelled(self, params: Fields) -> None:
+        number_ = params.value("id")
         for document in self._documents.values():
-            for asked in [it for it in document.asked if it.number == params.value("id")]:
+            for asked in [it for it in document.asked if is_number(number_) and it.number == number_]:
                 document.asked.remove(asked)
                 send(failure(asked.number, CANCELLED, "cancelled"))
 
     def exited(self, _: Fields) -> None:
+        self._leave()
         self._loop.is_over = True
+
+    def _leave(self) -> None:
+        """Looks at no text any more: what waits for one isn't met."""
+        for document in self._documents.values():
+            self._stop(document)
+            self._fail(document, "the server is shut down")
 
     # What is known of them.
 
@@ -220,7 +232,7 @@ class Server:
         self._stop(document)
         document.known = None
         try:
-            knower = Knower(self._path, document.text.content, document.profile)
+            knower = self._knowers.begin(document.text.content, document.profile)
         except OSError as why:
             self._lost(document, f"{PROGRAM}: {why.strerror}")
             return
@@ -230,7 +242,7 @@ class Server:
     def _stop(self, document: Document) -> None:
         if document.knower:
             self._loop.forget(document.knower)
-            document.knower.end()
+            self._knowers.stop(document.knower)
             document.knower = None
 
     def _read(self, document: Document, knower: Knower) -> None:
@@ -250,11 +262,13 @@ class Server:
             return
         self._said = ""
         document.known = known
-        document.warnings = [self._diagnostic(document, it) for it in known.faults if it["row"] == "warning"]
-        publish(document, [self._diagnostic(document, it) for it in known.faults])
+        told = [(it["row"], self._diagnostic(document, it)) for it in known.faults]
+        document.warnings = [diagnostic for kind, diagnostic in told if kind == "warning"]
+        publish(document, [diagnostic for _, diagnostic in told])
         waiting, document.asked = document.asked, []
         for asked in waiting:
             self._answer(asked, document)
+        self._knowers.begin_ahead(document.profile)
 
     def _lost(self, document: Document, said: str) -> None:
         """Says once that nothing is known, and why; what waits for it fails."""
@@ -263,12 +277,16 @@ class Server:
         self._said = document.why = said
         document.warnings = []
         publish(document, [])
+        self._fail(document, said)
+
+    def _fail(self, document: Document, why: str) -> None:
+        """Answers what waits for a document that it can't be met."""
         waiting, document.asked = document.asked, []
         for asked in waiting:
-            send(failure(asked.number, FAILED, said))
+            send(failure(asked.number, FAILED, why))
 
-    def _diagnostic(self, document: Document, row: dict[str, Any]) -> Answer:
-        return mending.diagnostic(document.text, row, self._pages)
+    def _diagnostic(self, document: Document, row: dict[str, Any]) -> bytes:
+        return encoded(mending.diagnostic(document.text, row, self._pages))
 
     def _ask(self, asked: Asked, document: Document) -> None:
         """Answers a request, or keeps it until the text is known."""
@@ -342,8 +360,8 @@ class Server:
         old, new = named(known, offset), params.text("newName")
         uses = known.by_key[old.key()]
         try:
-            mending.check_name(known_of(self._path, new.encode("utf-8", "surrogatepass"), document.profile), new)
-            after = known_of(self._path, mending.renamed(text, uses, new), document.profile)
+            mending.check_name(self._knowers.known_of(new.encode("utf-8", "surrogatepass"), document.profile), new)
+            after = self._knowers.known_of(mending.renamed(text, uses, new), document.profile)
         except (OSError, NoRow) as why:
             raise Failed(str(why)) from why
         if new != old.name:
@@ -362,7 +380,7 @@ class Server:
         document = self._documents[uris[0]]
         try:
             self._plays.begin(command, document.uri, document.text.content, document.profile, opponents(), self._settings.shows_documents)
-        except Fault as why:
+        except (Fault, OSError) as why:
             raise Failed(str(why)) from why
         send(success(number_, None))
 
@@ -382,7 +400,6 @@ def named(known: Known, offset: int) -> Any:
 def whole(document: Document) -> tuple[Text, Known]:
     """A document's text, and all that is known of it."""
     assert document.known
-    document.known.read()
     return document.text, document.known
 
 
@@ -390,6 +407,26 @@ def placed(document: Document, params: Fields) -> tuple[Text, Known, int]:
     """A document's text, what is known of it, and the offset of the position that a message names."""
     text, known = whole(document)
     return text, known, text.offset(params.fields("position"))
+
+
+def is_number(given: Any) -> bool:
+    """Whether this may be the number of a request."""
+    return isinstance(given, (int, str)) and not isinstance(given, bool) or isinstance(given, float) and given.is_integer()
+
+
+def is_call(message: Any) -> bool:
+    """Whether a message is a request or a notification."""
+    return isinstance(message, dict) and isinstance(message.get("method"), str) and ("id" not in message or is_number(message["id"]))
+
+
+def is_answer(message: Any) -> bool:
+    """Whether a message is the answer to a request of ours."""
+    return isinstance(message, dict) and "method" not in message and ("result" in message or "error" in message)
+
+
+def fields_of(params: Any) -> Fields:
+    """The fields of a message: some clients write none as null, or as an empty list."""
+    return Fields({} if params is None or params == [] else params)
 
 
 def capabilities(encoding: str) -> Answer:
@@ -424,6 +461,11 @@ def say(what: str) -> None:
     notify("window/showMessage", {"type": ERROR, "message": f"{NAME}: {what}"})
 
 
+def log(what: str) -> None:
+    """Writes into the client's log."""
+    notify("window/logMessage", {"type": WARNING, "message": f"{NAME}: {what}"})
+
+
 def show(what: str, uri: str | None = None) -> None:
     """Shows the user what a command found: a text, or a document in a program of its own."""
     if uri:
@@ -431,10 +473,12 @@ def show(what: str, uri: str | None = None) -> None:
     notify("window/showMessage", {"type": INFO, "message": what})
 
 
-def publish(document: Document, diagnostics: list[Answer], with_version: bool = True) -> None:
-    """Publishes what is wrong with a document."""
+def publish(document: Document, diagnostics: list[bytes], with_version: bool = True) -> None:
+    """Publishes what is wrong with a document, which is JSON already."""
     version = {"version": document.version} if with_version else {}
-    notify("textDocument/publishDiagnostics", {"uri": document.uri, "diagnostics": diagnostics} | version)
+    params: Answer = {"uri": document.uri} | version | {"diagnostics": []}
+    message = encoded({"jsonrpc": "2.0", "method": "textDocument/publishDiagnostics", "params": params})
+    send_encoded(message.removesuffix(NO_DIAGNOSTICS) + b"[" + b",".join(diagnostics) + NO_DIAGNOSTICS[1:])
 
 
 NOTIFICATIONS: dict[str, Callable[[Server, Fields], None]] = {

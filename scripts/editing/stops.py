@@ -42,5 +42,5 @@ class Stop:
 
 
 def on_one_line(text: str) -> str:
-    """An expression as a command takes it: blanks for all spaces."""
-    return " ".join(text.split())
+    """An expression as a command takes it: blanks for all spaces, and text alone."""
+    return " ".join(text.split()).encode("utf-8", "replace").decode()

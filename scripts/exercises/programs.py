@@ -2,15 +2,15 @@
 
 from __future__ import annotations
 
+import json
 import os
-import re
 import tempfile
 from subprocess import DEVNULL, PIPE
 from types import TracebackType
+from typing import Any
 
 from tools.faults import PROGRAM, Fault
 from tools.programs import found, started
-from tools.rules import UPDATE_CYCLES
 
 SECONDS = 60
 
@@ -49,23 +49,24 @@ class Programs:
         """How many cycles the first match of two robots has."""
         self.lay("robot.r", source)
         self.lay("other.r", other)
-        return first_number(self.lines("crobots", "-m1", *words, "robot.r", "other.r")[0], r"cycles = (\d+)")
+        return str(self.object("crobots-trace", *words, "robot.r", "other.r")["cycles"])
 
-    def shot(self, source: str) -> int:
-        """The first update of the field after a robot's first shot."""
+    def turn(self, source: str, *words: str) -> list[int]:
+        """The cycles that a turn of a robot's loop takes, at least and at most."""
         self.lay("robot.r", source)
-        asks = (line for line in self.lines("crobots-stages", "--run", "3000", "robot.r") if "; cannon(" in line)
-        return -(-int(first_number(next(asks, ""), r"^ *(\d+) ")) // UPDATE_CYCLES) * UPDATE_CYCLES
+        loop, = self.object("crobots-bounds", *words, "robot.r")["loops"]
+        return [*loop["cycles"]]
 
-    def damage(self, source: str, cycles: int) -> int:
-        """The damage of a robot after so many cycles of a match with itself."""
+    def events(self, source: str, form: str, limit: int) -> list[list[str]]:
+        """The rows of a robot in so many cycles of a match with itself, in a form of `crobots-trace`."""
         self.lay("robot.r", source)
-        return int(first_number(self.lines("crobots", "-m1", f"-l{cycles}", "robot.r", "robot.r")[1], r"damage +(\d+)%"))
+        return [line.split("\t") for line in self.lines("crobots-trace", form, "--robot=1", f"-l{limit}", "robot.r")]
 
-
-def first_number(line: str, form: str) -> str:
-    """The number of a form in a line that a program wrote."""
-    number = re.search(form, line)
-    if number is None:
-        raise Fault(f"a line of another form than is known: {line}", PROGRAM)
-    return number[1]
+    def object(self, name: str, *words: str) -> dict[str, Any]:
+        """What a command says as an object of JSON."""
+        text = "\n".join(self.lines(name, "--json", *words))
+        try:
+            found: dict[str, Any] = json.loads(text)
+        except ValueError as why:
+            raise Fault(f"{name} wrote no object: {text}", PROGRAM) from why
+        return found

@@ -2,12 +2,9 @@
 
 from __future__ import annotations
 
-import re
 from dataclasses import dataclass
 from random import Random
 from typing import Callable
-
-from tools.rules import UPDATE_CYCLES
 
 from .programs import Programs
 
@@ -48,7 +45,7 @@ def shot(random: Random) -> Task:
     count, more = random.randrange(5, 40), random.randrange(1, 6)
     robot = f"main()\n{{\n  int n;\n  while (n < {count}) n = n + 1;\n{'  1;' * more}\n  cannon(0, 0);\n  while (1) ;\n}}\n"
     return Task("After which cycle does this robot have damage? Write down the number alone.", robot,
-                lambda them: [str(next(cycle for cycle in range(them.shot(robot), MOST_CYCLES, UPDATE_CYCLES) if them.damage(robot, cycle)))])
+                lambda them: [next(cycle for cycle, _, kind, *_ in them.events(robot, "--events", MOST_CYCLES) if kind == "hurt")])
 
 
 def life(random: Random) -> Task:
@@ -65,7 +62,7 @@ def names(random: Random) -> Task:
     outer, inner = ", ".join(f"e{n}" for n in range(outside)), "".join(f"v{n};\n" for n in range(inside))
     robot = f"int {outer};\nmain() {{\n{inner}}}\n"
     return Task("Write down what `crobots -c robot.r` prints of this robot: only the lines that begin with Externals and with Function,\n"
-                "or the diagnostic.", robot, lambda them: [line for line in them.listing(robot) if re.match(r"Externals|Function|robot\.r:", line)])
+                "or the diagnostic.", robot, lambda them: [line for line in them.listing(robot) if line.startswith(("Externals", "Function", "robot.r:"))])
 
 
 def logic(random: Random) -> Task:
@@ -105,14 +102,8 @@ def turns(random: Random) -> Task:
     chosen = "\n    ".join(random.sample(acts, 3))
     robot = f"main()\n{{\n  int d, r;\n  while (1) {{\n    r = scan(d, 10);\n    if (r > {random.randrange(20, 90)}) cannon(d, r);\n    {chosen}\n  }}\n}}\n"
     return Task("How many cycles does a turn of this loop take, at least and at most? Write down what `crobots-bounds robot.r` has of it, as in\n"
-                "23 to 28; first by profile 1, then by profile 2, a line each.", robot, lambda them: [bounds(them, robot, it) for it in ("-p1", "-p2")])
-
-
-def bounds(them: Programs, robot: str, profile: str) -> str:
-    """The cycles that a turn takes."""
-    them.lay("robot.r", robot)
-    turn = (re.search(r"a turn +(\d+(?: to \d+)?) cycles", line) for line in them.lines("crobots-bounds", profile, "robot.r"))
-    return next(it[1] for it in turn if it)
+                "23 to 28; first by profile 1, then by profile 2, a line each.", robot,
+                lambda them: [" to ".join(map(str, dict.fromkeys(them.turn(robot, profile)))) for profile in ("-p1", "-p2")])
 
 
 def operations(random: Random) -> Task:
@@ -133,7 +124,7 @@ def operated(them: Programs, robot: str) -> list[str]:
 
 def cheaper(random: Random) -> Task:
     """What is saved by what a compiler could do."""
-    count, step, one, other, degree = (random.randrange(*it) for it in ((1, 5), (3, 30), (2, 5), (2, 5), (2, 9)))
+    count, step, one, other, degree = (random.randrange(*limits) for limits in ((1, 5), (3, 30), (2, 5), (2, 5), (2, 9)))
     first = "    d = d + {};\n".format(step) * count
     look, shot = f"    r = scan(d, {one} * {other});\n", f"    if (r > 0) cannon(d, r - {degree} * {other});\n"
     begin, end = "main()\n{\n  int d, r;\n  while (1) {\n", "  }\n}\n"
@@ -143,7 +134,7 @@ def cheaper(random: Random) -> Task:
     return Task("This robot becomes cheaper in three steps, and does the same after each of them:\n"
                 f"1. d = d + {step} becomes d += {step}.\n2. What has constants alone is worked out.\n3. r > 0 becomes r.\n\n"
                 "How many cycles does a turn of its loop take at most, as it is and after each step? Write down four numbers, a line each.",
-                begin + steps[0] + end, lambda them: [bounds(them, begin + it + end, "-p1").split(" to ")[-1] for it in steps])
+                begin + steps[0] + end, lambda them: [str(them.turn(begin + body + end)[-1]) for body in steps])
 
 
 Pair = tuple[int, int]
@@ -201,9 +192,9 @@ def refused(random: Random) -> Task:
 def differing(them: Programs, edit: Edit, pairs: list[Pair]) -> list[str]:
     """The pairs for which an edit is wrong, with both values: the machine works out the operator, and the edit as a function."""
     calls = "".join(f"  scan({a} {edit.sign} ({b}), edited({a}, {b}));\n" for a, b in pairs)
-    them.lay("robot.r", f"edited(a, b)\n{{\n  {edit.function}\n}}\n\nmain()\n{{\n{calls}}}\n")
-    asked = (re.search(r"; scan\((-?\d+), (-?\d+)\) replies", line) for line in them.lines("crobots-stages", "--run", "1000", "robot.r"))
-    values = [(it[1], it[2]) for it in asked if it]
+    robot = f"edited(a, b)\n{{\n  {edit.function}\n}}\n\nmain()\n{{\n{calls}}}\n"
+    _, *asked = them.events(robot, "--asks", MOST_CYCLES)
+    values = [call.removeprefix("scan(").removesuffix(")").split(", ") for *_, call, _ in asked]
     return [f"{a} {b} {right} {wrong}" for (a, b), (right, wrong) in zip(pairs, values) if right != wrong]
 
 
@@ -218,5 +209,5 @@ def task_of(number: int, seed: str) -> Task:
 
 def text_of(number: int, seed: str) -> str:
     """The text of an exercise."""
-    it = task_of(number, seed)
-    return f"Exercise {number}, for {seed}\n\n{it.asked}\n\n{it.robot}"
+    task = task_of(number, seed)
+    return f"Exercise {number}, for {seed}\n\n{task.asked}\n\n{task.robot}"

@@ -40,29 +40,29 @@ def read(words: list[str]) -> Asked:
     """Reads the words."""
     if strange := next((word for word in words if any("\udc80" <= letter <= "\udcff" for letter in word)), None):
         raise Misuse(f"{strange}: this word is no text")
-    it = given(words, ("--seed",), ("--check",))
-    seed = it.once("--seed")
-    if it.flags & {"-h", "--help", "--version"}:
-        return Asked(it.flags, None, None, None)
-    return to_mark(it, seed) if "--check" in it.flags else to_print(it, seed)
+    found = given(words, ("--seed",), ("--check",))
+    seed = found.once("--seed")
+    if found.flags & {"-h", "--help", "--version"}:
+        return Asked(found.flags, None, None, None)
+    return to_mark(found, seed) if "--check" in found.flags else to_print(found, seed)
 
 
-def to_print(it: Given, seed: str | None) -> Asked:
+def to_print(given: Given, seed: str | None) -> Asked:
     """The words of an exercise that is to be printed."""
-    if len(it.files) > 1:
-        raise Misuse(f"one word too many: {it.files[1]}")
-    if not it.files:
+    if len(given.files) > 1:
+        raise Misuse(f"one word too many: {given.files[1]}")
+    if not given.files:
         raise Misuse(f"no exercise: --seed took {seed} for its value" if seed else "")
-    return Asked(it.flags, number_of(it.files[0]), seed or DEFAULT_SEED, None)
+    return Asked(given.flags, number_of(given.files[0]), seed or DEFAULT_SEED, None)
 
 
-def to_mark(it: Given, seed: str | None) -> Asked:
+def to_mark(given: Given, seed: str | None) -> Asked:
     """The words of what is to be marked: the last one is its file."""
-    if len(it.files) > 2:
-        raise Misuse(f"one word too many: {it.files[2]}")
-    if not it.files or len(it.files) == 1 and seed is not None and it.files[0].isdigit():
+    if len(given.files) > 2:
+        raise Misuse(f"one word too many: {given.files[2]}")
+    if not given.files or len(given.files) == 1 and seed is not None and given.files[0].isdigit():
         raise Misuse(f"no file: --seed took {seed} for its value" if seed else "no file")
-    return Asked(it.flags, number_of(it.files[0]) if len(it.files) == 2 else None, seed, it.files[-1])
+    return Asked(given.flags, number_of(given.files[0]) if len(given.files) == 2 else None, seed, given.files[-1])
 
 
 def number_of(word: str) -> int:

@@ -74,19 +74,19 @@ def who(store: Store, given: str, kinds: Iterable[str] = (LINK, SESSION)) -> Who
 def join(store: Store, link: str, address: str) -> str:
     """A session for a link: always a new one, so nobody's browser can be given one that is known. Nothing if the link is none."""
     with store.change():
-        it = who(store, link, (LINK,))
-        if it is None:
+        by = who(store, link, (LINK,))
+        if by is None:
             return ""
-        note(store, it.name, "join", "", address)
-        return token(store, SESSION, it.number)
+        note(store, by.name, "join", "", address)
+        return token(store, SESSION, by.number)
 
 
 def leave(store: Store, session: str, address: str) -> None:
     """Ends a session, if it is one."""
     with store.change():
-        if it := who(store, session, (SESSION,)):
+        if by := who(store, session, (SESSION,)):
             store.run("UPDATE ladder_token SET ended = ? WHERE hash = ?", time.time(), hashed(session))
-            note(store, it.name, "leave", "", address)
+            note(store, by.name, "leave", "", address)
 
 
 def organiser(store: Store) -> str:
@@ -114,15 +114,15 @@ def number_of(store: Store, name: str) -> int | None:
 
 def invite(store: Store, name: str, team: str, by: str = ORGANISER, address: str = HERE) -> Invitation:
     """Makes an author with a link. One who is there already gets a new link, and the one before is withdrawn."""
-    it = name_of(name)
+    called = name_of(name)
     with store.change():
-        number = number_of(store, it)
+        number = number_of(store, called)
         if number is None:
-            number = store.run("INSERT INTO ladder_author (name, team, made) VALUES (?, ?, ?)", it, named(team), time.time())
+            number = store.run("INSERT INTO ladder_author (name, team, made) VALUES (?, ?, ?)", called, named(team), time.time())
         else:
             ended(store, number)
-        note(store, by, "invite", it, address)
-        return Invitation(it, token(store, LINK, number))
+        note(store, by, "invite", called, address)
+        return Invitation(called, token(store, LINK, number))
 
 
 def numbered(store: Store, count: int, team: str) -> list[Invitation]:

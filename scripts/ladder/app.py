@@ -31,12 +31,12 @@ FORM_PARTS = 20
 TYPES = {"css": "text/css", "js": "text/javascript", "html": "text/html"}
 
 
-def made(it: Site) -> Flask:
+def made(site: Site) -> Flask:
     """The application of a site."""
     app = Flask(__name__, static_folder=None, template_folder=None)
     app.config["MAX_CONTENT_LENGTH"] = FORM_MAX
     logging.getLogger("waitress").setLevel(logging.ERROR)
-    configured(app, it)
+    configured(app, site)
     app.request_class.max_form_parts = FORM_PARTS
     app.register_error_handler(HTTPException, failed)
     app.register_error_handler(sqlite3.OperationalError, unwritten)
@@ -107,10 +107,10 @@ def send() -> Response:
     by, source_ = writer(), request.get_data(cache=False)
     name, against = request.args.get("robot", ""), request.args.get("against", "")
     if against:
-        it = trials.tried(store(), by, name, source_, against, site().programs, address())
+        answer = trials.tried(store(), by, name, source_, against, site().programs, address())
     else:
-        it = handing.hand_in(store(), by, name, source_, site().programs, address())
-    return Response(json.dumps({"taken": it.is_taken, "words": it.words}), it.status, mimetype="application/json")
+        answer = handing.hand_in(store(), by, name, source_, site().programs, address())
+    return Response(json.dumps({"taken": answer.is_taken, "words": answer.words}), answer.status, mimetype="application/json")
 
 
 def robot_id(name: str) -> str:
@@ -120,19 +120,19 @@ def robot_id(name: str) -> str:
 
 def robot(name: str) -> Response:
     by = who()
-    it = robot_id(name)
-    why = [*reasons.shown(site(), store(), it)] if handing.is_theirs(store(), by, it) else []
-    return html(pages.robot(site(), store(), by, it, why))
+    robot = robot_id(name)
+    why = [*reasons.shown(site(), store(), robot)] if handing.is_theirs(store(), by, robot) else []
+    return html(pages.robot(site(), store(), by, robot, why))
 
 
 def version(name: str, number: int) -> Response:
     """A version's source, to be saved and never shown as a page."""
-    it, by = robot_id(name), who()
-    found = handing.versions(store(), it)
-    if not pages.is_shown(store(), by, it) or not 1 <= number <= len(found):
+    robot, by = robot_id(name), who()
+    found = handing.versions(store(), robot)
+    if not pages.is_shown(store(), by, robot) or not 1 <= number <= len(found):
         abort(404)
     answer = Response(source(store(), found[number - 1].sha256), mimetype="text/plain")
-    answer.headers["Content-Disposition"] = f'attachment; filename="{it}.r"'
+    answer.headers["Content-Disposition"] = f'attachment; filename="{robot}.r"'
     answer.headers["Content-Security-Policy"] = SOURCE_POLICY
     return answer
 
@@ -141,9 +141,9 @@ def join_page() -> Response:
     return html(pages.join(site(), can_sign_up(store())))
 
 
-def can_sign_up(it: Store) -> bool:
+def can_sign_up(store: Store) -> bool:
     """Whether one author more may sign up."""
-    return len(accounts.authors(it)) < terms(it).sign_up
+    return len(accounts.authors(store)) < terms(store).sign_up
 
 
 def refuse_foreign() -> None:
@@ -195,10 +195,10 @@ def sign_up() -> Response:
         name = accounts.name_of(request.form.get("name", ""))
         if accounts.number_of(store(), name) is not None:
             return answered(Answer(FAULTY, "there is an author of that name already: choose another one"), None)
-        it = accounts.invite(store(), name, "", "sign-up", address())
+        invitation = accounts.invite(store(), name, "", "sign-up", address())
     except Fault as why:
         return answered(Answer(FAULTY, str(why)), None)
-    return html(pages.signed_up(site(), it.name, it.token, origin()))
+    return html(pages.signed_up(site(), invitation.name, invitation.token, origin()))
 
 
 def mine() -> Response:
@@ -222,16 +222,16 @@ def by_form() -> Response:
     """A robot of a form. What is refused comes back with the form, so nobody loses what was written."""
     by = writer()
     name, text = filled_in()
-    it = handing.hand_in(store(), by, name, text, site().programs, address())
-    return answered(it, by) if it.is_taken else again(it, by, name, text)
+    answer = handing.hand_in(store(), by, name, text, site().programs, address())
+    return answered(answer, by) if answer.is_taken else again(answer, by, name, text)
 
 
-def again(it: Answer, by: Who, name: str, text: bytes) -> Response:
+def again(answer: Answer, by: Who, name: str, text: bytes) -> Response:
     """An answer with the form as it was filled in."""
     if not wants_page():
-        return answered(it, by)
+        return answered(answer, by)
     form = pages.hand_in(site(), terms(store()), name, text.decode("utf-8", "replace"))
-    return html(pages.told(site(), by, it, form), it.status)
+    return html(pages.told(site(), by, answer, form), answer.status)
 
 
 def check() -> Response:
@@ -280,10 +280,10 @@ def invite() -> Response:
     """Makes an author, or gives one a new link, which is shown once."""
     by = organiser()
     try:
-        it = accounts.invite(store(), request.form.get("name", ""), request.form.get("team", ""), by.name, address())
+        invitation = accounts.invite(store(), request.form.get("name", ""), request.form.get("team", ""), by.name, address())
     except Fault as why:
         return answered(Answer(FAULTY, str(why)), by)
-    return answered(Answer(TAKEN, f"The link of {it.name}, which is shown only now:\n\n{origin()}{site().to('join')}#{it.token}"), by)
+    return answered(Answer(TAKEN, f"The link of {invitation.name}, which is shown only now:\n\n{origin()}{site().to('join')}#{invitation.token}"), by)
 
 
 def withdraw_link() -> Response:

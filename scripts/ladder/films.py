@@ -47,7 +47,7 @@ def page(store: Store, seating: int, number: int) -> bytes | None:
     with turns:
         rules = season.rules
         hashes = store.one("SELECT hashes FROM seating WHERE number = ?", seating)[0].split(",")
-        called = [it.robot for it in battle.seats]
+        called = [seat.robot for seat in battle.seats]
         made = film(order(Settings(rules.matches, rules.cycles, rules.seed, rules.profile), battle,
                           [(name, source(store, sha256)) for name, sha256 in zip(called, hashes)]), limiting(BLOCKS))
     if made:
@@ -72,7 +72,7 @@ def played(store: Store, season: seasons.Season, seating: int, number: int) -> B
         return None
     hashes, seed, cycles, *damage = row
     called = names(store)
-    by_hash = {it.sha256: called.get(it.robot, it.robot) for it in seasons.field(store, season).robots}
+    by_hash = {entrant.sha256: called.get(entrant.robot, entrant.robot) for entrant in seasons.field(store, season).robots}
     seats = [Seat(by_hash.get(sha256, "robot"), hurt) for sha256, hurt in zip(hashes.split(","), damage)]
     return Battle(tuple(seats), number, int(seed), cycles)
 
@@ -83,6 +83,6 @@ def keep(path: str, made: bytes) -> None:
     with contextlib.suppress(OSError):
         os.makedirs(folder, exist_ok=True)
         replaced(path, made)
-        found = sorted((it for it in os.scandir(folder) if it.name.endswith(".html")), key=lambda it: it.stat().st_mtime)
-        for it in found[:-KEPT]:
-            os.unlink(it.path)
+        found = sorted((file for file in os.scandir(folder) if file.name.endswith(".html")), key=lambda file: file.stat().st_mtime)
+        for file in found[:-KEPT]:
+            os.unlink(file.path)

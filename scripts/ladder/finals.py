@@ -11,8 +11,7 @@ from leagues.days import today
 from leagues.entries import last_day
 from leagues.locks import is_played
 from leagues.missing import missing
-from leagues.results import Results
-from leagues.schedules import Schedule
+from leagues.schedules import scheduled
 from leagues.seasons import Season
 from leagues.store import Store, opened
 from leagues.words import checked
@@ -51,9 +50,9 @@ def final(given: argparse.Namespace) -> None:
 def announce(store: Store) -> None:
     """Draws the seed of the next final, and shows its hash."""
     with store.change():
-        it = seeds.drawn(store, True)
+        drawn = seeds.drawn(store, True)
         note(store, ORGANISER, "announce the final", "")
-    show([f"the seed of the final is drawn; the SHA-256 of its digits is {it.hash}\n"])
+    show([f"the seed of the final is drawn; the SHA-256 of its digits is {drawn.hash}\n"])
 
 
 def begin(store: Store, given: argparse.Namespace) -> None:
@@ -63,10 +62,10 @@ def begin(store: Store, given: argparse.Namespace) -> None:
         raise Fault(f"robots are handed in until {by.last_day()}; --early begins the final now")
     if not seasons.season(store).ended:
         turning.ended(store, day_of(store), given.unfinished)
-    before, it = seasons.season(store), seeds.drawn(store, False)
-    rules = checked(replace(before.rules, seed=it.seed, matches=given.matches or before.rules.matches))
+    before, drawn = seasons.season(store), seeds.drawn(store, False)
+    rules = checked(replace(before.rules, seed=drawn.seed, matches=given.matches or before.rules.matches))
     seasons.begin(store, given.name, max(day_of(store), before.ended), rules, turning.divided(store, before, rules, 0))
-    seeds.use(store, it, seasons.season(store))
+    seeds.use(store, drawn, seasons.season(store))
     note(store, ORGANISER, "final", given.name)
 
 
@@ -93,7 +92,7 @@ def missing_of(store: Store, season: Season) -> int:
     """How many matches of a season are missing; of one that ended none counts."""
     if season.ended:
         return 0
-    return sum(it.matches for it in missing(Schedule(seasons.field(store, season)), Results(store, season.rules)))
+    return sum(series.matches for series in missing(*scheduled(store, season)))
 
 
 def wait() -> None:
@@ -106,6 +105,6 @@ def wait() -> None:
 
 def checklist(store: Store, comma: bool) -> str:
     """The checklist with the ranks of the final."""
-    ranks = {it.robot: str(it.rank) for it in publications.final(store, seasons.season(store))}
-    rows = [[*COLUMNS], *(cells(it) for it in lines(store, ranks))]
+    ranks = {standing.robot: str(standing.rank) for standing in publications.final(store, seasons.season(store))}
+    rows = [[*COLUMNS], *(cells(line) for line in lines(store, ranks))]
     return comma_separated(rows) if comma else aligned(rows, range(len(COLUMNS)))

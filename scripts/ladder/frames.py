@@ -44,7 +44,7 @@ def head(site: Site, title: str) -> Markup:
     whole = f"{shown(title)} · {named(site.title)}" if title else named(site.title)
     return tag("head", tag("meta", charset="utf-8"), tag("meta", name="viewport", content="width=device-width, initial-scale=1"),
                tag("meta", name="color-scheme", content="light dark"), tag("link", rel="icon", href="data:,"), tag("title", whole),
-               *(tag("link", rel="stylesheet", href=site.to(it)) for it in STYLES), tag("script", src=site.to(SCRIPT), defer=""))
+               *(tag("link", rel="stylesheet", href=site.to(style)) for style in STYLES), tag("script", src=site.to(SCRIPT), defer=""))
 
 
 def heading(site: Site, who: Who | None) -> Markup:

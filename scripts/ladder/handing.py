@@ -123,9 +123,9 @@ def allowed(store: Store, who: Who, robot: str) -> None:
 
 def refuse_season(store: Store) -> None:
     """Refuses everything while no season goes on, or the final does."""
-    if (it := seasons.season(store)).ended:
-        raise Refused(SHUT, f"the season {it.name} ended on {it.ended}, and the next one hasn't begun")
-    if seeds.is_final(store, it):
+    if (season := seasons.season(store)).ended:
+        raise Refused(SHUT, f"the season {season.name} ended on {season.ended}, and the next one hasn't begun")
+    if seeds.is_final(store, season):
         raise Refused(SHUT, "the final is being played, and nothing is taken any more")
 
 
@@ -144,7 +144,7 @@ def refuse_owner(store: Store, who: Who, robot: str, by: Terms) -> None:
     if there:
         own = whose.get(there) == who.number
         raise Refused(NOT_THEIRS, f"your robot is called {there}" if own else f"there is a robot {there}, and it isn't yours: choose another name")
-    if not who.is_organiser and sum(it == who.number for it in whose.values()) >= by.robots:
+    if not who.is_organiser and sum(number == who.number for number in whose.values()) >= by.robots:
         raise Refused(MANY, f"you have {by.robots} robots, and an author has at most so many: hand in a new version of one")
 
 
@@ -170,7 +170,7 @@ def done_of_late(store: Store, who: Who, what: str) -> int:
 
 def same(store: Store, who: Who, robot: str, source: bytes) -> Answer | None:
     """That a robot of somebody plays with these bytes already, if it does."""
-    happened = [it for it in entries.entries(store) if it.robot == robot]
+    happened = [entry for entry in entries.entries(store) if entry.robot == robot]
     if not is_theirs(store, who, robot) or not happened or happened[-1].what == WITHDRAW or happened[-1].sha256 != entries.hashed(source):
         return None
     return Answer(TAKEN, f"taken: {robot}, version {count(happened)}")
@@ -178,7 +178,7 @@ def same(store: Store, who: Who, robot: str, source: bytes) -> Answer | None:
 
 def entered(store: Store, who: Who, robot: str, source: bytes, address: str) -> Answer:
     """Lets a robot join or change."""
-    happened = [it for it in entries.entries(store) if it.robot == robot]
+    happened = [entry for entry in entries.entries(store) if entry.robot == robot]
     if happened:
         entries.change(store, robot, source, day_of(store))
     else:
@@ -203,12 +203,12 @@ def day_of(store: Store) -> str:
 
 def count(happened: list[Entry]) -> int:
     """How many versions a robot had."""
-    return sum(it.what in (ADD, CHANGE) for it in happened)
+    return sum(entry.what in (ADD, CHANGE) for entry in happened)
 
 
 def versions(store: Store, robot: str) -> list[Entry]:
     """The versions of a robot, the first one first."""
-    return [it for it in entries.entries(store) if it.robot == robot and it.what != WITHDRAW]
+    return [entry for entry in entries.entries(store) if entry.robot == robot and entry.what != WITHDRAW]
 
 
 def back(store: Store, who: Who, robot: str, number: int, programs: Programs, address: str = HERE) -> Answer:
@@ -250,5 +250,5 @@ def is_theirs(store: Store, who: Who | None, robot: str) -> bool:
 
 def author_names(store: Store) -> dict[str, str]:
     """The names of the authors of robots."""
-    names = {it.number: it.name for it in authors(store)}
+    names = {author.number: author.name for author in authors(store)}
     return {robot: names[number] for robot, number in owners(store).items()}

@@ -42,7 +42,7 @@ def sheet(made: list[Invitation], url: str) -> list[str]:
     """The links as a sheet."""
     if len(made) == 1:
         return [f"{made[0].name}: {url}/join#{made[0].token}\n"]
-    return [f"{it.name}\n{url}/join#{it.token}\n{CUT.rstrip()}\n" for it in made]
+    return [f"{invitation.name}\n{url}/join#{invitation.token}\n{CUT.rstrip()}\n" for invitation in made]
 
 
 def settled(before: Terms, given: argparse.Namespace) -> Terms:

@@ -44,18 +44,18 @@ def fault(programs: Programs, profile: int, source: bytes) -> str:
     with tempfile.TemporaryDirectory(prefix="crobots-ladder-") as folder:
         path = os.path.join(folder, FILE)
         replaced(path, source)
-        it = ran([programs.crobots, "-c", f"-p{profile}", "--", path])
-        if it.returncode == 0:
+        child = ran([programs.crobots, "-c", f"-p{profile}", "--", path])
+        if child.returncode == 0:
             return ""
-        if it.returncode != 1:
-            raise Fault(f"{programs.crobots} -c ended with status {it.returncode}", PROGRAM)
-        return said(it.stderr, folder) if not programs.why else explained(programs.why, profile, path, folder) or said(it.stderr, folder)
+        if child.returncode != 1:
+            raise Fault(f"{programs.crobots} -c ended with status {child.returncode}", PROGRAM)
+        return said(child.stderr, folder) if not programs.why else explained(programs.why, profile, path, folder) or said(child.stderr, folder)
 
 
 def explained(why: str, profile: int, path: str, folder: str) -> str:
     """What `crobots-why` says of a faulty source; nothing if it fails."""
-    it = ran([why, f"-p{profile}", "--", path])
-    return said(it.stdout, folder) if it.returncode in (0, 1) else ""
+    child = ran([why, f"-p{profile}", "--", path])
+    return said(child.stdout, folder) if child.returncode in (0, 1) else ""
 
 
 def said(text: bytes, folder: str) -> str:

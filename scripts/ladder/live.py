@@ -8,30 +8,19 @@ import hashlib
 import json
 import os
 import threading
-from dataclasses import asdict, dataclass, fields
+from dataclasses import asdict, dataclass
+from decimal import Decimal
 
+from results.columns import COUNTS, data
+from results.scores import Score
+from results.standings import NOTHING, Rating, Standing
 from tools.output import replaced
 
 FOLDER, NAME = "ladder", "table.json"
 reading = threading.Lock()
 TAG_LETTERS = 20
-
-
-@dataclass(frozen=True)
-class Row:
-    """A robot in the live table. Without an interval its rating isn't worked out yet."""
-
-    division: int
-    rank: int
-    robot: str
-    played: int
-    won: int
-    tied: int
-    lost: int
-    points: str
-    rating: float = 0.0
-    low: float | None = None
-    high: float | None = None
+# What the file has of a robot.
+NAMES = ("division", "rank", "robot", *COUNTS, "points", "rating", "low", "high")
 
 
 @dataclass(frozen=True)
@@ -51,11 +40,12 @@ class Live:
     season: str = ""
     played: int = 0
     missing: int = 0
-    rows: tuple[Row, ...] = ()
+    rows: tuple[Standing, ...] = ()
     last: tuple[Fought, ...] = ()
 
     def text(self) -> str:
-        return json.dumps(asdict(self), sort_keys=True)
+        rows = [data(NAMES, row) | {"points": str(row.points)} for row in self.rows]
+        return json.dumps({"season": self.season, "played": self.played, "missing": self.missing, "rows": rows, "last": [*map(asdict, self.last)]})
 
     @functools.cached_property
     def tag(self) -> str:
@@ -72,19 +62,19 @@ def path_of(league: str) -> str:
     return os.path.join(folder_of(league), NAME)
 
 
-def write(league: str, it: Live) -> None:
+def write(league: str, live: Live) -> None:
     os.makedirs(folder_of(league), exist_ok=True)
-    replaced(path_of(league), it.text().encode())
+    replaced(path_of(league), live.text().encode())
 
 
 def read(league: str) -> Live:
     """The table that was written last; an empty one if there is none. It is read once, however many ask for it at a time."""
     try:
-        it = os.stat(path_of(league))
+        status = os.stat(path_of(league))
     except OSError:
         return Live()
     with reading:
-        found = parsed(league, (it.st_ino, it.st_mtime_ns, it.st_size))
+        found = parsed(league, (status.st_ino, status.st_mtime_ns, status.st_size))
         _ = found.tag  # so this is worked out once, too
     return found
 
@@ -92,9 +82,16 @@ def read(league: str) -> Live:
 @functools.lru_cache(8)
 def parsed(league: str, _: tuple[int, ...]) -> Live:
     """The table of a file as it was then; an empty one if it is one of another version."""
-    with contextlib.suppress(OSError, ValueError, TypeError, KeyError), open(path_of(league), encoding="utf-8") as file:
+    with contextlib.suppress(OSError, ValueError, TypeError, KeyError, ArithmeticError), open(path_of(league), encoding="utf-8") as file:
         said = json.load(file)
-        rows = tuple(Row(**{it.name: row[it.name] for it in fields(Row)}) for row in said["rows"])
-        last = tuple(Fought(it["hashes"], it["seed"], it["number"], tuple(it["robots"])) for it in said["last"])
+        rows = tuple(standing(**row) for row in said["rows"])
+        last = tuple(Fought(fought["hashes"], fought["seed"], fought["number"], tuple(fought["robots"])) for fought in said["last"])
         return Live(said["season"], said["played"], said["missing"], rows, last)
     return Live()
+
+
+def standing(division: int, rank: int, robot: str, played: int, won: int, tied: int, lost: int, points: str,
+             rating: float | None, low: float | None, high: float | None) -> Standing:
+    """A row of the file."""
+    rated = NOTHING if rating is None or low is None or high is None else Rating(rating, low, high)
+    return Standing(robot, rank, Score(won, tied, lost), Decimal(points), rated, division=division)

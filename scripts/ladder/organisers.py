@@ -9,7 +9,7 @@ from typing import Mapping, NamedTuple
 from leagues import seasons
 from leagues.entries import entries, playing
 from leagues.results import Results
-from leagues.schedules import Schedule
+from leagues.schedules import Schedule, scheduled
 from leagues.store import Store
 from sites.frames import section, sentence
 from sites.markup import Markup, joined, name_of, tag
@@ -57,8 +57,8 @@ def organiser(site: Site, store: Store, who: Who) -> str:
 def of_authors(site: Site, store: Store) -> Markup:
     """All authors, each with a button that renews the link and one that withdraws it."""
     many = Counter(owners(store).values())
-    rows = [[tag("bdi", it.name), tag("bdi", it.team), str(many[it.number]), "yes" if it.is_invited else "no", buttons(site, it.name)]
-            for it in authors(store)]
+    rows = [[tag("bdi", author.name), tag("bdi", author.team), str(many[author.number]), "yes" if author.is_invited else "no",
+             buttons(site, author.name)] for author in authors(store)]
     columns = [("Author", NAME), ("Group", TEXT), ("Robots", NUMBER), ("Link", TEXT), ("", TEXT)]
     return section("Authors", table("Authors", columns, rows) if rows else sentence("Nobody was invited yet."))
 
@@ -70,7 +70,7 @@ def buttons(site: Site, name: str) -> Markup:
 
 def of_audit(store: Store) -> Markup:
     """What was done last."""
-    rows = [[at(it.at), tag("bdi", it.who), it.what, tag("bdi", it.of), it.address] for it in last(store, AUDIT)]
+    rows = [[at(event.at), tag("bdi", event.who), event.what, tag("bdi", event.of), event.address] for event in last(store, AUDIT)]
     return section("Audit", table("What was done last", [("When", TEXT), ("Who", TEXT), ("What", TEXT), ("Of", NAME), ("Address, hashed", TEXT)], rows, names=3))
 
 
@@ -80,7 +80,7 @@ def at(seconds: float) -> str:
 
 def live_ranks(league: str) -> dict[str, str]:
     """The rank of each robot in the live table."""
-    return {it.robot: str(it.rank) for it in read(league).rows if it.played}
+    return {row.robot: str(row.rank) for row in read(league).rows if row.score.played}
 
 
 def lines(store: Store, ranks: Mapping[str, str]) -> list[Line]:
@@ -88,12 +88,12 @@ def lines(store: Store, ranks: Mapping[str, str]) -> list[Line]:
     closes = terms(store).closes
     whose, climbed, now = owners(store), climbed_by(store), playing(entries(store))
     found = []
-    for it in authors(store):
-        robots = sorted(robot for robot, number in whose.items() if number == it.number)
+    for author in authors(store):
+        robots = sorted(robot for robot, number in whose.items() if number == author.number)
         for robot in robots or [""]:
             had = versions(store, robot) if robot else []
             day = had[-1].day if had else ""
-            found.append(Line(it.name, it.team, robot, len(had), day, bool(closes) and day > closes, climbed.get(robot, ()),
+            found.append(Line(author.name, author.team, robot, len(had), day, bool(closes) and day > closes, climbed.get(robot, ()),
                               ranks.get(robot, "") if robot in now else "left" if robot else ""))
     return found
 
@@ -102,10 +102,10 @@ def climbed_by(store: Store) -> dict[str, tuple[bool, ...]]:
     """Which rungs each robot has climbed: against each robot of the level that plays here, in either seat. A rung of which no robot plays
     is climbed by nobody."""
     season = seasons.season(store)
-    schedule, results = Schedule(seasons.field(store, season)), Results(store, season.rules)
+    schedule, results = scheduled(store, season)
     if season.rules.sizes != (2,):
         return {}
-    places = {it.robot: at for at, it in enumerate(schedule.field.robots)}
+    places = {entrant.robot: at for at, entrant in enumerate(schedule.field.robots)}
     ended = results.endings()
     return {robot: tuple(has_climbed(schedule, results, ended, places, robot, rung) for rung in RUNGS) for robot in places}
 
@@ -113,8 +113,8 @@ def climbed_by(store: Store) -> dict[str, tuple[bool, ...]]:
 def has_climbed(schedule: Schedule, results: Results, ended: Mapping[int, Mapping[str, int]], places: Mapping[str, int], robot: str,
                 rung: tuple[str, ...]) -> bool:
     """Whether a robot wins as often as a rung wants, against each robot of it that plays."""
-    there = [it for it in rung if it in places and it != robot]
-    return bool(there) and all(beats(schedule, results, ended, places[robot], places[it]) for it in there)
+    there = [other for other in rung if other in places and other != robot]
+    return bool(there) and all(beats(schedule, results, ended, places[robot], places[other]) for other in there)
 
 
 def beats(schedule: Schedule, results: Results, ended: Mapping[int, Mapping[str, int]], one: int, other: int) -> bool:
@@ -129,8 +129,8 @@ def beats(schedule: Schedule, results: Results, ended: Mapping[int, Mapping[str,
 
 def checklist(site: Site, store: Store, who: Who) -> str:
     """The teacher's page."""
-    rows = [[tag("bdi", it.author), tag("bdi", it.team), name_of(it.robot) if it.robot else "", str(it.versions), f"{it.last} {LATE}" if it.late else it.last,
-             marks(it.rungs), it.rank] for it in lines(store, live_ranks(site.folder))]
+    rows = [[tag("bdi", line.author), tag("bdi", line.team), name_of(line.robot) if line.robot else "", str(line.versions),
+             f"{line.last} {LATE}" if line.late else line.last, marks(line.rungs), line.rank] for line in lines(store, live_ranks(site.folder))]
     columns = [("Author", NAME), ("Group", TEXT), ("Robot", TEXT), ("Versions", NUMBER), ("Last hand-in", TEXT), ("Rungs", TEXT), ("Rank", NUMBER)]
     said = sentence(f"A rung is climbed by {WON} of {OF} matches against each robot of that level, from either seat.", kind="note")
     return page(site, who, "Checklist", tag("h1", "Checklist"), section(
@@ -144,13 +144,13 @@ def marks(rungs: tuple[bool, ...]) -> str:
 
 def checklist_csv(store: Store, league: str) -> str:
     """The checklist as comma-separated values."""
-    return comma_separated([[*COLUMNS], *(cells(it) for it in lines(store, live_ranks(league)))])
+    return comma_separated([[*COLUMNS], *(cells(line) for line in lines(store, live_ranks(league)))])
 
 
-def cells(it: Line) -> list[str]:
+def cells(line: Line) -> list[str]:
     """The cells of a line. What a spreadsheet would take for a formula has a blank before it."""
-    rungs = " ".join(str(at) for at, yes in enumerate(it.rungs, 1) if yes)
-    return [safe(cell) for cell in (it.author, it.team, it.robot, str(it.versions), it.last, LATE if it.late else "", rungs, it.rank)]
+    rungs = " ".join(str(at) for at, yes in enumerate(line.rungs, 1) if yes)
+    return [safe(cell) for cell in (line.author, line.team, line.robot, str(line.versions), line.last, LATE if line.late else "", rungs, line.rank)]
 
 
 def safe(cell: str) -> str:

@@ -13,17 +13,20 @@ from leagues.naming import names
 from leagues.results import scores_of
 from leagues.rules import Rules
 from leagues.store import Store
+from results.columns import COUNTS, texts
 from results.scores import Score
+from results.standings import Standing
 from sites import charts
 from sites.frames import section, sentence
 from sites.markup import Markup, block, joined, name_of, tag
+from sites.numbers import decimal
 from sites.tables import NAME, NUMBER, TEXT, command_line, table
 
 from . import seeds
 from .accounts import Who, owners
 from .frames import Site, entry, form, hidden, page
 from .handing import Answer, author_names, is_theirs, versions
-from .live import Live, Row, read
+from .live import Live, read
 from .terms import ALL, Terms, terms
 
 COLUMNS = [("Rank", NUMBER), ("Robot", NAME), ("Played", NUMBER), ("Won", NUMBER), ("Tied", NUMBER), ("Lost", NUMBER), ("Points", NUMBER),
@@ -49,40 +52,38 @@ def authors_shown(store: Store) -> dict[str, str]:
     return dict(store.rows("SELECT id, author FROM robot")) | author_names(store)
 
 
-def standing(site: Site, store: Store, it: Live) -> Markup:
+def standing(site: Site, store: Store, live: Live) -> Markup:
     """The live table, which is replaced as it stands. It is made once, however many ask for it at a time, and anew when names may be others."""
-    key = site.folder, it.tag
+    key = site.folder, live.tag
     with making:
         made = kept.get(key)
         if made is None or made[0] + KEPT < time.monotonic():
             if len(kept) > 8:
                 kept.clear()
-            made = kept[key] = time.monotonic(), rendered(site, store, it)
+            made = kept[key] = time.monotonic(), rendered(site, store, live)
         return made[1]
 
 
-def rendered(site: Site, store: Store, it: Live) -> Markup:
+def rendered(site: Site, store: Store, live: Live) -> Markup:
     """The table, with what is said above it."""
     shown, by = names(store), authors_shown(store)
-    rows = [row_of(site, row, shown, by) for row in it.rows]
-    missing = f"{it.missing} matches of this round are missing" if it.missing else "no match is missing"
-    season = f"Season {it.season}: " if it.season else ""
-    return joined(sentence(f"{season}{it.played} matches were played, {missing}.", kind="lead"),
+    rows = [row_of(site, row, shown, by) for row in live.rows]
+    missing = f"{live.missing} matches of this round are missing" if live.missing else "no match is missing"
+    season = f"Season {live.season}: " if live.season else ""
+    return joined(sentence(f"{season}{live.played} matches were played, {missing}.", kind="lead"),
                   table("Table", COLUMNS, rows, names=1, style="standings") if rows else sentence("No robot plays yet."))
 
 
-def row_of(site: Site, it: Row, shown: Mapping[str, str], by: Mapping[str, str]) -> list[str]:
+def row_of(site: Site, row: Standing, shown: Mapping[str, str], by: Mapping[str, str]) -> list[str]:
     """A row: a robot that has no interval yet has a sign that it is being worked out."""
-    name = joined(robot_link(site, it.robot, shown), tag("small", tag("bdi", by[it.robot]), class_="author") if by.get(it.robot) else "")
-    rank = str(it.rank) if it.played else "new"
-    known = it.low is not None and it.high is not None
-    interval = f"{charts.whole(it.low or 0.0)} to {charts.whole(it.high or 0.0)}" if known else "…"
-    return [rank, name, str(it.played), str(it.won), str(it.tied), str(it.lost), it.points, charts.whole(it.rating) if known else "…", interval]
+    name = joined(robot_link(site, row.robot, shown), tag("small", tag("bdi", by[row.robot]), class_="author") if by.get(row.robot) else "")
+    rating = [charts.whole(row.rating.value), f"{charts.whole(row.rating.low)} to {charts.whole(row.rating.high)}"] if row.is_rated else ["…", "…"]
+    return [str(row.rank) if row.score.played else "new", name, *texts((*COUNTS, "points"), row), *rating]
 
 
 def index(site: Site, store: Store, who: Who | None) -> str:
     """The page of the table."""
-    drawn = [sentence(it, kind="note")] if (it := seeds.said(store)) else []
+    drawn = [sentence(said, kind="note")] if (said := seeds.said(store)) else []
     return page(site, who, "", tag("h1", name_of(site.title)), section("Table", tag("div", standing(site, store, read(site.folder)), id="table"), *drawn),
                 tag("div", id="own", data_own=" ".join(own(store, who))))
 
@@ -117,10 +118,10 @@ def told(site: Site, who: Who | None, answer: Answer, again: str = "") -> str:
 def mine(site: Site, store: Store, who: Who, origin: str) -> str:
     """An author's page. The origin is that by which it was asked for."""
     robots = own(store, who)
-    rows = {it.robot: it for it in read(site.folder).rows}
+    rows = {row.robot: row for row in read(site.folder).rows}
     now = playing(entries(store))
-    listed = [[robot_link(site, robot, {}), str(rows[robot].rank) if robot in rows and rows[robot].played else "new" if robot in now else "left",
-               str(len(versions(store, robot))), rows[robot].points if robot in rows else ""] for robot in robots]
+    listed = [[robot_link(site, robot, {}), str(rows[robot].rank) if robot in rows and rows[robot].score.played else "new" if robot in now else "left",
+               str(len(versions(store, robot))), decimal(rows[robot].points) if robot in rows else ""] for robot in robots]
     return page(site, who, "My robots", tag("h1", "My robots"), hand_in(site, terms(store), robots[0] if robots else ""), section(
         "Robots", table("My robots", [("Robot", NAME), ("Rank", NUMBER), ("Versions", NUMBER), ("Points", NUMBER)], listed)
         if listed else sentence("You have handed in nothing yet.")), by_command(f"{origin}{site.to('')}"), tag("div", id="own", data_own=" ".join(robots)))
@@ -152,10 +153,11 @@ def is_shown(store: Store, who: Who | None, robot: str) -> bool:
 def robot(site: Site, store: Store, who: Who | None, name: str, reasons: Iterable[Markup]) -> str:
     """The page of a robot."""
     may = is_theirs(store, who, name)
-    row = next((it for it in read(site.folder).rows if it.robot == name), None)
+    row = next((row for row in read(site.folder).rows if row.robot == name), None)
     shown = names(store).get(name, name)
     by = authors_shown(store).get(name, "")
-    place = [sentence(f"Rank {row.rank}, {row.points} points a match in {row.played} matches.", kind="lead")] if row and row.played else []
+    place = [sentence(f"Rank {row.rank}, {decimal(row.points)} points a match in {row.score.played} matches.",
+                      kind="lead")] if row and row.score.played else []
     return page(site, who, shown, tag("h1", name_of(shown)), sentence("by ", tag("bdi", by), kind="lead") if by else "", *place,
                 over_days(ranks(store, name)), history(site, store, who, name, may), *reasons, leaving(site, store, name) if may else "")
 
@@ -163,15 +165,15 @@ def robot(site: Site, store: Store, who: Who | None, name: str, reasons: Iterabl
 def history(site: Site, store: Store, who: Who | None, name: str, may: bool) -> Markup:
     """The versions of a robot with their days and results."""
     found, rules = versions(store, name), seasons.season(store).rules
-    did = scores_of(store, rules, {it.sha256 for it in found})
-    rows = [[str(at), it.day, *results(did[it.sha256], rules), *version_links(site, store, who, name, at, may and at < len(found))]
-            for at, it in enumerate(found, 1)]
+    did = scores_of(store, rules, {version.sha256 for version in found})
+    rows = [[str(at), version.day, *results(did[version.sha256], rules), *version_links(site, store, who, name, at, may and at < len(found))]
+            for at, version in enumerate(found, 1)]
     return section("Versions", table("Versions", VERSION_COLUMNS, rows[::-1]))
 
 
-def results(it: Score, rules: Rules) -> list[str]:
+def results(score: Score, rules: Rules) -> list[str]:
     """The cells of what a version did."""
-    return [str(it.played), str(it.won), str(it.tied), str(it.lost), f"{rules.scoring.mean(it):.3f}" if it.played else ""]
+    return [str(score.played), str(score.won), str(score.tied), str(score.lost), f"{rules.scoring.mean(score):.3f}" if score.played else ""]
 
 
 def version_links(site: Site, store: Store, who: Who | None, name: str, number: int, may: bool) -> list[str]:
@@ -183,7 +185,7 @@ def version_links(site: Site, store: Store, who: Who | None, name: str, number: 
 
 def leaving(site: Site, store: Store, name: str) -> Markup:
     """The button by which a robot leaves."""
-    happened = [it for it in entries(store) if it.robot == name]
+    happened = [entry for entry in entries(store) if entry.robot == name]
     if happened and happened[-1].what == WITHDRAW:
         return section("Left", sentence("It left. A new version lets it play again."))
     return section("Withdraw", form(site, f"robots/{name}/withdraw", tag("button", "Withdraw")))

@@ -35,24 +35,24 @@ def in_turns(schedule: Schedule, results: Results, worth: Mapping[int, float], a
     """The series of the next pass in their order. Authors of robots are named by any texts."""
     pieces = [*cut(schedule, results, authors)]
     early = spread_out(schedule, results, pieces, worth)
-    pieces = [Piece(FIRST if it.series.group in early and it.level == ONCE else it.level, it.series, it.author) for it in pieces]
+    pieces = [Piece(FIRST if piece.series.group in early and piece.level == ONCE else piece.level, piece.series, piece.author) for piece in pieces]
 
-    def gap(it: Piece) -> float:
-        there = [worth.get(at, 0.0) for at in it.series.seats]
+    def gap(piece: Piece) -> float:
+        there = [worth.get(at, 0.0) for at in piece.series.seats]
         return max(there) - min(there)
 
     turns: Counter[tuple[int, str]] = Counter()
     order: list[tuple[int, int, float, Series]] = []
-    for it in sorted(pieces, key=gap):
-        order.append((it.level, turns[it.level, it.author], gap(it), it.series))
-        turns[it.level, it.author] += 1
+    for piece in sorted(pieces, key=gap):
+        order.append((piece.level, turns[piece.level, piece.author], gap(piece), piece.series))
+        turns[piece.level, piece.author] += 1
     return [series for *_, series in sorted(order)]
 
 
 def cut(schedule: Schedule, results: Results, authors: Mapping[str, str]) -> Iterator[Piece]:
     """The next piece of each seating that wants more."""
     ends, since = results.ends(), schedule.field.since
-    names = [it.robot for it in schedule.field.robots]
+    names = [entrant.robot for entrant in schedule.field.robots]
     for need in needs(schedule, results):
         newest = max((names[at] for at in need.group), key=lambda robot: since[robot])
         for robots, seed in schedule.seatings(need.group):
@@ -75,7 +75,7 @@ def spread_out(schedule: Schedule, results: Results, pieces: Iterable[Piece], wo
     """The groups that new robots play first: spread over the table."""
     played = matches_of(schedule, results)
     wanted: dict[int, list[Group]] = {}
-    for group in {it.series.group for it in pieces if it.level == ONCE}:
+    for group in {piece.series.group for piece in pieces if piece.level == ONCE}:
         for at in group:
             if played[at] < NEW:
                 wanted.setdefault(at, []).append(group)

@@ -8,7 +8,7 @@ import os
 import shlex
 import time
 from contextlib import closing
-from dataclasses import dataclass, field, replace
+from dataclasses import dataclass, field
 from typing import Callable, Iterator
 
 from leagues import seasons
@@ -20,11 +20,11 @@ from leagues.schedules import Schedule
 from leagues.scores import ByRobot, points, scores, total
 from leagues.sessions import checked
 from leagues.sources import laid
-from leagues.standings import standings
+from leagues.standings import placed, standings
 from leagues.store import Store, opened
 from results.battles import Group
 from results.scores import NONE, counted
-from results.standings import Standing
+from results.standings import NOTHING, Standing
 from tools.faults import Fault
 from tools.output import replaced, say
 from tournaments.playing import Player
@@ -35,7 +35,7 @@ from tournaments.robots import Robot
 
 from . import schema
 from .handing import author_names
-from .live import Fought, Live, Row, folder_of, write
+from .live import Fought, Live, folder_of, write
 from .passes import in_turns
 
 SLICE, BATCH, REST, RATED = 1.0, 0.2, 0.5, 60.0
@@ -72,10 +72,10 @@ def run(name: str, league: str, crobots: str | None, jobs: int, glance: Callable
     found = program(crobots)
     with opened(league) as store, alone(league):
         schema.ready(store)
-        it = LadderPlayer(store, found, jobs, glance)
+        player = LadderPlayer(store, found, jobs, glance)
         while True:
             try:
-                it.step()
+                player.step()
             except Fault as why:
                 say(name, str(why))
                 rest(REST * 10, glance)
@@ -110,16 +110,16 @@ class LadderPlayer:
 
     def _now(self) -> Board:
         """The board, made anew if anything was entered meanwhile or its pass is over."""
-        it = self._board
-        if it is None or it.mark != mark(self._store):
-            it = self._board = self._begun(it)
-        return it
+        board = self._board
+        if board is None or board.mark != mark(self._store):
+            board = self._board = self._begun(board)
+        return board
 
     def _begun(self, before: Board | None) -> Board:
         season = seasons.season(self._store)
         now = mark(self._store)
         schedule = Schedule(seasons.field(self._store, season))
-        laid(self._store, {it.sha256 for it in schedule.field.robots})
+        laid(self._store, {entrant.sha256 for entrant in schedule.field.robots})
         results = Results(self._store, season.rules)
         rated = before.rated if before else {}
         board = Board(schedule, now, scores(schedule, results), rated=rated, last=before.last if before else ())
@@ -153,18 +153,19 @@ class LadderPlayer:
             with self._store.change():
                 if seasons.has_ended(self._store, season):
                     return 0
-                for it in batch:
-                    keep(self._store, rules, seated([robot.sha256 for robot in it.robots], it.series.seed), it.series.first, it.results, today())
-        for it in batch:
-            count(board.parts, it)
-        board.last = (*(fought(board, it) for it in batch[-LAST:]), *board.last)[:LAST]
+                for record in batch:
+                    where = seated([robot.sha256 for robot in record.robots], record.series.seed)
+                    keep(self._store, rules, where, record.series.first, record.results, today())
+        for record in batch:
+            count(board.parts, record)
+        board.last = (*(fought(board, record) for record in batch[-LAST:]), *board.last)[:LAST]
         return len(batch)
 
     def _rate(self, board: Board, again: bool) -> None:
         """Works out ratings, and begins the next pass if this one is over."""
         if again or not board.rated or board.at == 0.0:
             results = Results(self._store, board.schedule.field.rules)
-            board.rated = {it.robot: it for it in standings(board.schedule, results)}
+            board.rated = {standing.robot: standing for standing in standings(board.schedule, results)}
             board.at = time.monotonic()
             self._rank([*board.rated.values()])
             if not board.left and not board.schedule.field.season.ended:
@@ -173,12 +174,12 @@ class LadderPlayer:
     def _rank(self, rows: list[Standing]) -> None:
         """Keeps where each robot is today."""
         with self._store.change():
-            self._store.database.executemany("INSERT OR REPLACE INTO ladder_rank VALUES (?, ?, ?)", [(it.robot, today(), it.rank) for it in rows])
+            self._store.database.executemany("INSERT OR REPLACE INTO ladder_rank VALUES (?, ?, ?)", [(row.robot, today(), row.rank) for row in rows])
 
     def _shown(self, board: Board) -> Live:
         """The table as it is now."""
         played = int(self._store.one("SELECT count(*) FROM battle")[0])
-        return Live(board.schedule.field.season.name, played, sum(it.matches for it in board.left), tuple(rows(board)), board.last)
+        return Live(board.schedule.field.season.name, played, sum(series.matches for series in board.left), tuple(rows(board)), board.last)
 
 
 def mark(store: Store) -> tuple[object, ...]:
@@ -188,51 +189,31 @@ def mark(store: Store) -> tuple[object, ...]:
 
 def records(board: Board, until: float) -> Iterator[Record]:
     """Records to be played, until it is that late."""
-    plan = Plan(board.schedule.settings, [Robot(it.sha256, it.sha256) for it in board.schedule.field.robots], 1)
+    plan = Plan(board.schedule.settings, [Robot(entrant.sha256, entrant.sha256) for entrant in board.schedule.field.robots], 1)
     while board.left and time.monotonic() < until:
         series = board.left.pop()
         yield plan.record(series)
 
 
-def count(parts: dict[Group, ByRobot], it: Record) -> None:
+def count(parts: dict[Group, ByRobot], record: Record) -> None:
     """Adds a series to what was scored."""
-    of_group = parts.setdefault(it.series.group, {at: NONE for at in it.series.group})
-    for letters in it.ended:
-        for robot, letter in zip(it.series.seats, letters):
+    of_group = parts.setdefault(record.series.group, {at: NONE for at in record.series.group})
+    for letters in record.ended:
+        for robot, letter in zip(record.series.seats, letters):
             of_group[robot] = of_group[robot].plus(counted({letter: 1}))
 
 
-def fought(board: Board, it: Record) -> Fought:
+def fought(board: Board, record: Record) -> Fought:
     """The first match of a series, as pages name it."""
-    hashes, seed = seated([robot.sha256 for robot in it.robots], it.series.seed)
-    return Fought(hashes, seed, it.series.first, tuple(board.schedule.field.robots[at].robot for at in it.series.seats))
+    hashes, seed = seated([robot.sha256 for robot in record.robots], record.series.seed)
+    return Fought(hashes, seed, record.series.first, tuple(board.schedule.field.robots[at].robot for at in record.series.seats))
 
 
-def rows(board: Board) -> Iterator[Row]:
-    """The rows of the live table: by points, with the ratings that were worked out last. A ladder has its rungs."""
+def rows(board: Board) -> list[Standing]:
+    """The rows of the live table: with the ratings that were worked out last, if they are of the same bytes. A ladder has its rungs."""
     there, rules = board.schedule.field, board.schedule.field.rules
-    parts = {group: it for group, it in board.parts.items() if board.schedule.is_of_a_division(group)}
-    scored, earned = total(parts, len(there.robots)), points(parts, len(there.robots), rules)
-    rungs = {it.robot: it.rank for it in board.rated.values()} if rules.mode == LADDER else {}
-    found: list[Row] = []
-    for at in sorted(range(len(there.robots)), key=lambda at: (
-            there.division(there.robots[at].robot), rungs.get(there.robots[at].robot, 0), -earned[at], there.robots[at].robot)):
-        robot, score = there.robots[at].robot, scored[at]
-        row = Row(there.division(robot), 0, robot, score.played, score.won, score.tied, score.lost, f"{earned[at]:.3f}")
-        found.append(rated(board, ranked(found, row)))
-    yield from found
-
-
-def ranked(above: list[Row], it: Row) -> Row:
-    """A row below others: equal points have an equal rank."""
-    same = [row for row in above if row.division == it.division]
-    return replace(it, rank=same[-1].rank if same and same[-1].points == it.points else len(same) + 1)
-
-
-def rated(board: Board, it: Row) -> Row:
-    """A row with its rating, if that is known for these bytes."""
-    known = board.rated.get(it.robot)
-    sha256 = next(one.sha256 for one in board.schedule.field.robots if one.robot == it.robot)
-    if known is None or known.sha256 != sha256 or not known.is_rated:
-        return it
-    return replace(it, rating=known.rating.value, low=known.rating.low, high=known.rating.high)
+    parts = {group: part for group, part in board.parts.items() if board.schedule.is_of_a_division(group)}
+    known = [board.rated.get(robot.robot) for robot in there.robots]
+    ratings = [row.rating if row and row.sha256 == robot.sha256 else NOTHING for row, robot in zip(known, there.robots)]
+    rungs = {at: row.rank for at, row in enumerate(known) if row} if rules.mode == LADDER else {}
+    return placed(there, total(parts, len(there.robots)), points(parts, len(there.robots), rules), ratings, rungs)

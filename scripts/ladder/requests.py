@@ -106,11 +106,11 @@ def wants_page() -> bool:
     return "text/html" in request.headers.get("Accept", "")
 
 
-def answered(it: Answer, by: Who | None) -> Response:
+def answered(answer: Answer, by: Who | None) -> Response:
     """An answer as a page for a browser, and as a line for a program."""
     if wants_page():
-        return html(told(site(), by, it), it.status)
-    return Response(f"{it.words}\n", it.status, mimetype="text/plain")
+        return html(told(site(), by, answer), answer.status)
+    return Response(f"{answer.words}\n", answer.status, mimetype="text/plain")
 
 
 def html(text: str, status: int = 200) -> Response:
@@ -129,7 +129,7 @@ def secured(response: Response) -> Response:
     return response
 
 
-def configured(app: Flask, it: Site) -> None:
+def configured(app: Flask, site: Site) -> None:
     """Makes an application know its site."""
-    app.config[SITE], app.config[ATTEMPTS] = it, Attempts()
+    app.config[SITE], app.config[ATTEMPTS] = site, Attempts()
     app.after_request(secured)

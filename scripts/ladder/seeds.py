@@ -34,30 +34,30 @@ def last(store: Store) -> Drawn | None:
 
 def drawn(store: Store, announced: bool) -> Drawn:
     """The seed of the next final: the one that was announced, or a new one."""
-    it = last(store)
-    if it is None or it.season is not None:
+    found = last(store)
+    if found is None or found.season is not None:
         store.run("INSERT INTO ladder_final (seed, announced) VALUES (?, ?)", str(secrets.randbelow(MOST_SEED + 1)), announced)
-        it = last(store)
-    assert it
-    return it
+        found = last(store)
+    assert found
+    return found
 
 
-def use(store: Store, it: Drawn, season: Season) -> None:
+def use(store: Store, drawn: Drawn, season: Season) -> None:
     """Makes a season the final with this seed."""
-    store.run("UPDATE ladder_final SET season = ? WHERE number = ?", season.number, it.number)
+    store.run("UPDATE ladder_final SET season = ? WHERE number = ?", season.number, drawn.number)
 
 
 def is_final(store: Store, season: Season) -> bool:
     """Whether a season is a final."""
-    it = last(store)
-    return it is not None and it.season == season.number
+    found = last(store)
+    return found is not None and found.season == season.number
 
 
 def said(store: Store) -> str:
     """What pages say of the seed of the final; nothing if none was drawn."""
-    it = last(store)
-    if it is None:
+    found = last(store)
+    if found is None:
         return ""
-    if it.season is None:
-        return f"The seed of the final is drawn. The SHA-256 of its digits is {it.hash}."
-    return f"The seed of the final is {it.seed}." + (f" The SHA-256 of its digits, {it.hash}, was shown before." if it.is_announced else "")
+    if found.season is None:
+        return f"The seed of the final is drawn. The SHA-256 of its digits is {found.hash}."
+    return f"The seed of the final is {found.seed}." + (f" The SHA-256 of its digits, {found.hash}, was shown before." if found.is_announced else "")

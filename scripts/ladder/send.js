@@ -12,7 +12,7 @@ export async function answerOf(address, {robot, source, against = ""}, ask = fet
             {method: "POST", body: source, headers: {"Content-Type": "text/plain"}, credentials: "same-origin", redirect: "error"});
         const text = await answer.text();
         const isSaid = (answer.headers.get("Content-Type") ?? "").startsWith("application/json");
-        return isSaid ? JSON.parse(text) : {taken: false, words: text.replace(/^\d+: /, "").trim() || SILENT};
+        return isSaid ? JSON.parse(text) : {taken: false, words: text.replace(`${answer.status}: `, "").trim() || SILENT};
     } catch {
         return {taken: false, words: SILENT};
     }

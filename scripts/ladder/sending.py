@@ -46,7 +46,7 @@ def answered(asked: urllib.request.Request, base: str) -> list[str]:
 
 
 def lines(text: bytes) -> list[str]:
-    return [plain(it) for it in text.decode("utf-8", "replace").splitlines()]
+    return [plain(line) for line in text.decode("utf-8", "replace").splitlines()]
 
 
 class Staying(urllib.request.HTTPRedirectHandler):

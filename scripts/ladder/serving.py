@@ -100,9 +100,9 @@ def listening(given: argparse.Namespace) -> socket.socket:
 
 def outward() -> str:
     """The address of this machine in its network, for which nothing is sent; that of the machine alone if it has no network."""
-    with contextlib.suppress(OSError), socket.socket(socket.AF_INET, socket.SOCK_DGRAM) as it:
-        it.connect(NOWHERE)
-        return str(it.getsockname()[0])
+    with contextlib.suppress(OSError), socket.socket(socket.AF_INET, socket.SOCK_DGRAM) as probe:
+        probe.connect(NOWHERE)
+        return str(probe.getsockname()[0])
     return LOCAL
 
 

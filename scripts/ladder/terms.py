@@ -58,7 +58,7 @@ def terms(store: Store) -> Terms:
     """The terms that count now."""
     row = store.one("SELECT text FROM ladder_terms ORDER BY number DESC LIMIT 1")
     said = json.loads(row[0]) if row else {}
-    known = {it.name for it in fields(Terms)}
+    known = {field.name for field in fields(Terms)}
     return Terms(**{name: value for name, value in said.items() if name in known})
 
 
@@ -67,6 +67,6 @@ def keeps_back(store: Store) -> bool:
     return is_ready(store) and terms(store).readers == AUTHOR and bool(store.one("SELECT 1 FROM ladder_owner LIMIT 1"))
 
 
-def settle(store: Store, it: Terms) -> None:
+def settle(store: Store, terms: Terms) -> None:
     """Gives the ladder other terms."""
-    store.run("INSERT INTO ladder_terms (text) VALUES (?)", json.dumps(asdict(it), sort_keys=True))
+    store.run("INSERT INTO ladder_terms (text) VALUES (?)", json.dumps(asdict(terms), sort_keys=True))

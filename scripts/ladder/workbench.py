@@ -27,7 +27,7 @@ ORIGIN = re.compile(r"https?://[A-Za-z0-9.:\[\]-]+")
 def folder(given: str | None) -> str:
     """The folder of the page: the one that is given, or that was built or installed with this script; nothing if there is none."""
     places = [given] if given else [os.path.normpath(os.path.join(HERE, *place)) for place in PLACES]
-    found = next((os.path.abspath(it) for it in places if is_page(it)), "")
+    found = next((os.path.abspath(place) for place in places if is_page(place)), "")
     if given and not found:
         raise Fault(f"{given} has no page that plays in a browser, as scripts/web makes it", FILE)
     return found

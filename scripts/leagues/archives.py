@@ -111,10 +111,10 @@ def member(archive: zipfile.ZipFile, name: str, day: str) -> Iterator[io.TextIOW
 def dated(name: str, day: str) -> zipfile.ZipInfo:
     """A member's head, of a day and not of now."""
     year, month, of_month = map(int, day.split("-"))
-    it = zipfile.ZipInfo(name, (max(year, 1980), month, of_month, 0, 0, 0))
-    it.compress_type = zipfile.ZIP_DEFLATED
-    it.external_attr = 0o644 << 16
-    return it
+    head = zipfile.ZipInfo(name, (max(year, 1980), month, of_month, 0, 0, 0))
+    head.compress_type = zipfile.ZIP_DEFLATED
+    head.external_attr = 0o644 << 16
+    return head
 
 
 @contextlib.contextmanager
@@ -142,12 +142,12 @@ def tables_of(names: set[str]) -> Sequence[str]:
     """The tables that an archive with these members has to have: those of its version."""
     if f"{NEW}.csv" not in names:
         return older.KEPT
-    return KEPT if any(f"{it}.csv" in names for it in LATER) else KEPT[:-len(LATER)]
+    return KEPT if any(f"{table}.csv" in names for table in LATER) else KEPT[:-len(LATER)]
 
 
 def shown(text: str) -> str:
     """A text of an archive as it may be shown: in one line, and with no sign that a terminal obeys."""
-    return "".join(it if it.isprintable() else "?" for it in text)
+    return "".join(sign if sign.isprintable() else "?" for sign in text)
 
 
 def whole(archive: zipfile.ZipFile) -> None:
@@ -159,11 +159,11 @@ def whole(archive: zipfile.ZipFile) -> None:
 
 def load(store: Store, archive: zipfile.ZipFile, tables: Iterable[str]) -> None:
     """Reads all members of an archive."""
-    for it in archive.infolist():
-        if it.filename.startswith(SOURCES):
-            source = archive.read(it) if it.file_size <= SOURCE_MAX else b""
-            if it.filename != f"{SOURCES}{hashed(source)}.r":
-                raise Fault(f"{shown(it.filename)} has other bytes than its name says", FAULTY)
+    for member in archive.infolist():
+        if member.filename.startswith(SOURCES):
+            source = archive.read(member) if member.file_size <= SOURCE_MAX else b""
+            if member.filename != f"{SOURCES}{hashed(source)}.r":
+                raise Fault(f"{shown(member.filename)} has other bytes than its name says", FAULTY)
             store.run("INSERT INTO source VALUES (?, ?)", hashed(source), source)
     for kept in tables:
         columns = [Column(name, not must, kind == "REAL")
@@ -198,4 +198,4 @@ def valued(row: list[str], columns: Sequence[Column]) -> list[str | float | None
     if any(not cell.isprintable() for cell in row):
         raise ValueError("a cell has a sign that can't be shown")
     cells = zip(row, columns, strict=True)
-    return [None if not cell and it.may_lack else float(cell) if it.is_real else cell for cell, it in cells]
+    return [None if not cell and column.may_lack else float(cell) if column.is_real else cell for cell, column in cells]

@@ -18,7 +18,7 @@ from .ladders import climbed
 from .missing import missing
 from .results import Results
 from .rules import GAUNTLET, LADDER
-from .schedules import Schedule
+from .schedules import Schedule, scheduled
 from .seasons import Field, Season, field, seasons
 from .store import Store
 from .timelines import Ruled, State, is_known, ruled, within
@@ -60,7 +60,7 @@ class Judge:
         """The robots that sit so, if these rules seat them so."""
         if not self._places.keys() >= {*keys}:
             return None
-        seats = tuple(self._places[it] for it in keys)
+        seats = tuple(self._places[key] for key in keys)
         group = tuple(sorted(seats))
         return group if (seats, int(seed)) in self.schedule.seatings(group) else None
 
@@ -107,13 +107,13 @@ class Judge:
         if self.rules.mode == LADDER:
             yield from self._climbed(state)
             return
-        there = Schedule(self._field(self.field.season, (it for it, _ in state.robots.values())))
+        there = Schedule(self._field(self.field.season, (entrant for entrant, _ in state.robots.values())))
         for group in there.groups():
             yield tuple(sorted(self._places[there.keys[at]] for at in group))
 
     def _climbed(self, state: State) -> list[Group]:
         """The pairs that have to meet until all robots of one time are on the ladder."""
-        entering = [self._places[it.key] for it, _ in sorted(state.robots.values(), key=lambda one: one[1])]
+        entering = [self._places[entrant.key] for entrant, _ in sorted(state.robots.values(), key=lambda one: one[1])]
         met: list[Group] = []
 
         def won(newcomer: int, other: int) -> bool | None:
@@ -144,13 +144,13 @@ def together(them: Iterable[State]) -> tuple[list[set[str]], set[Entrant]]:
         if largest and state.has_all:
             largest.pop()
         largest.append(state)
-    robots = [{it for it, _ in state.robots.values()} for state in largest]
-    return [{it.key for it in there} for there in robots], {it for there in robots for it in there}
+    robots = [{entrant for entrant, _ in state.robots.values()} for state in largest]
+    return [{entrant.key for entrant in there} for there in robots], {entrant for there in robots for entrant in there}
 
 
 def judges(store: Store) -> list[Judge]:
     """A judge for each time of each season with the same rules."""
-    return [it for season in seasons(store) for it in judges_of(store, season)]
+    return [judge for season in seasons(store) for judge in judges_of(store, season)]
 
 
 def judges_of(store: Store, season: Season) -> list[Judge]:
@@ -168,7 +168,7 @@ def beyond(store: Store) -> Iterator[Finding]:
         found = [(judge, group) for judge in them if [judge.rules.cycles, judge.rules.profile, judge.rules.program] == by
                  for keys in possible(hashes.split(","), copies) if (group := judge.group(keys, seed)) is not None]
         most = max((judge.most(group) for judge, group in found), default=0 if all(
-            is_known(store, it) for it in known.values()) else math.inf)
+            is_known(store, season) for season in known.values()) else math.inf)
         if played.get(number, 0) > most:
             over = store.one("SELECT count(*) FROM battle WHERE seating = ? AND number > ?", number, most)[0]
             said = f"{found[0][0].named(found[0][1])} in season {found[0][0].field.season.name}" if found else hashes
@@ -179,15 +179,15 @@ def lacking(store: Store) -> Iterator[Finding]:
     """The matches that are missing, and whether their number is the one that the archive says."""
     for season in seasons(store):
         there, left = field(store, season), missing_of(store, season)
-        count, said = sum(it.matches for it in left), missing_by_itself(store, season)
+        count, said = sum(series.matches for series in left), missing_by_itself(store, season)
         if said not in (None, count):
             yield Finding(True, f"{count} matches of season {season.name} are missing, and the archive says {said}")
-        yield from (Finding(said not in (None, count), it) for it in listed(there, left))
+        yield from (Finding(said not in (None, count), line) for line in listed(there, left))
 
 
 def missing_of(store: Store, season: Season) -> list[Series]:
     """The matches of a season that are missing."""
-    return [*missing(Schedule(field(store, season)), Results(store, season.rules))]
+    return [*missing(*scheduled(store, season))]
 
 
 def missing_by_itself(store: Store, season: Season) -> int | None:
@@ -201,8 +201,8 @@ def missing_by_itself(store: Store, season: Season) -> int | None:
 def listed(there: Field, left: list[Series]) -> Iterator[str]:
     """Which matches are missing, by groups."""
     counts = Counter[Group]()
-    for it in left:
-        counts[it.group] += it.matches
+    for series in left:
+        counts[series.group] += series.matches
     for group, count in counts.most_common(MOST_NAMED):
         yield f"{count} matches of {among(there, group)} are missing in season {there.season.name}"
     if len(counts) > MOST_NAMED:

@@ -48,20 +48,20 @@ def numbers(store: Store) -> Iterator[str]:
 def unused(store: Store) -> Iterator[str]:
     """Rows that nothing else names."""
     for query, said in USED.values():
-        yield from (said.format(it) for it, in store.rows(query))
+        yield from (said.format(value) for value, in store.rows(query))
 
 
 def histories(store: Store) -> Iterator[str]:
     """Entries that can't follow those before: a robot joins once, and only one that plays leaves."""
     known: set[str] = set()
     now: dict[str, str] = {}
-    for it in entries(store):
-        may = {ADD: it.robot not in known, CHANGE: it.robot in known and now.get(it.robot) != it.sha256,
-               WITHDRAW: now.get(it.robot) == it.sha256}
-        if not may[it.what]:
-            yield f"entry {it.number} can't be: {it.what} of {it.robot}"
-        known.add(it.robot)
-        now[it.robot] = "" if it.what == WITHDRAW else it.sha256
+    for entry in entries(store):
+        may = {ADD: entry.robot not in known, CHANGE: entry.robot in known and now.get(entry.robot) != entry.sha256,
+               WITHDRAW: now.get(entry.robot) == entry.sha256}
+        if not may[entry.what]:
+            yield f"entry {entry.number} can't be: {entry.what} of {entry.robot}"
+        known.add(entry.robot)
+        now[entry.robot] = "" if entry.what == WITHDRAW else entry.sha256
 
 
 def copies(store: Store) -> Iterator[str]:
@@ -78,20 +78,20 @@ def copies(store: Store) -> Iterator[str]:
 def days(store: Store) -> Iterator[str]:
     """Entries that are of an earlier day than the one before."""
     last = ""
-    for it in entries(store):
-        if it.day < last:
-            yield f"entry {it.number} is of {it.day}, and the one before of {last}"
-        last = it.day
+    for entry in entries(store):
+        if entry.day < last:
+            yield f"entry {entry.number} is of {entry.day}, and the one before of {last}"
+        last = entry.day
 
 
 def turns(store: Store) -> Iterator[str]:
     """Seasons that don't follow each other."""
     them, many = seasons(store), store.one("SELECT count(*) FROM entry")[0]
-    for it in them:
-        if it.ended and not it.begun <= it.ended:
-            yield f"season {it.name} began on {it.begun} and ended on {it.ended}"
-        if not 0 <= it.first_entry <= (many if it.last_entry is None else it.last_entry) <= many:
-            yield f"season {it.name} began with entry {it.first_entry} and ended with entry {it.last_entry}"
+    for season in them:
+        if season.ended and not season.begun <= season.ended:
+            yield f"season {season.name} began on {season.begun} and ended on {season.ended}"
+        if not 0 <= season.first_entry <= (many if season.last_entry is None else season.last_entry) <= many:
+            yield f"season {season.name} began with entry {season.first_entry} and ended with entry {season.last_entry}"
     for one, other in zip(them, them[1:]):
         if not one.ended or one.ended > other.begun or (one.last_entry or 0) > other.first_entry:
             yield f"season {other.name} began before season {one.name} ended"
@@ -108,34 +108,34 @@ def corrected(store: Store) -> Iterator[str]:
     """Corrections of what isn't there, or wasn't there then."""
     numbered = {ENTRY: "entry", BEGIN: "season", END: "ending"}
     many = store.one("SELECT count(*) FROM entry")[0]
-    for it in corrections(store):
-        key = "season" if it.what == END else "number"
-        there = store.one(f"SELECT 1 FROM {numbered[it.what]} WHERE {key} = ?", it.of)
-        if not there or not it.entries <= many or (it.what == ENTRY and not it.of <= it.entries):
-            yield f"there is no {it.what} {it.of} to correct"
-        elif it.day is None and it.what != ENTRY:
-            yield f"the {it.what} of season {it.of} has no day"
+    for correction in corrections(store):
+        key = "season" if correction.what == END else "number"
+        there = store.one(f"SELECT 1 FROM {numbered[correction.what]} WHERE {key} = ?", correction.of)
+        if not there or not correction.entries <= many or (correction.what == ENTRY and not correction.of <= correction.entries):
+            yield f"there is no {correction.what} {correction.of} to correct"
+        elif correction.day is None and correction.what != ENTRY:
+            yield f"the {correction.what} of season {correction.of} has no day"
 
 
 def chained(store: Store) -> Iterator[str]:
     """Publications whose hash isn't that of their rows, or that don't name the one before."""
     found, before = chain.hashes(store), ""
-    for it in every(store):
-        if it.hash:
-            if it.hash != found.pop(it.number, ""):
-                yield f"publication {it.number} of {it.day} has another hash than its rows: something of it was changed"
-            if it.before != before:
-                yield f"publication {it.number} of {it.day} doesn't name the hash of the one before"
-            before = it.hash
+    for publication in every(store):
+        if publication.hash:
+            if publication.hash != found.pop(publication.number, ""):
+                yield f"publication {publication.number} of {publication.day} has another hash than its rows: something of it was changed"
+            if publication.before != before:
+                yield f"publication {publication.number} of {publication.day} doesn't name the hash of the one before"
+            before = publication.hash
         elif before:
-            yield f"publication {it.number} of {it.day} has no hash"
+            yield f"publication {publication.number} of {publication.day} has no hash"
     if found and before:
         yield "there are rows that no publication shows"
 
 
 def last_table(store: Store, table: list[Standing]) -> Iterator[str]:
     """Rows of the last publication that aren't those of a table."""
-    them = [it for it in every(store) if it.hash]
+    them = [publication for publication in every(store) if publication.hash]
     if them:
         shown, wanted = ({row.robot: row if them[-1].scale == SCALE else replace(row, rating=NOTHING, close=False) for row in rows}
                          for rows in (published(store, them[-1].number), table))
@@ -149,5 +149,5 @@ def are_equal(one: Standing | None, other: Standing | None) -> bool:
     if one is None or other is None:
         return one is other
     pairs = ((one.rating.value, other.rating.value), (one.rating.low, other.rating.low), (one.rating.high, other.rating.high))
-    bare = (values(replace(it, rating=NOTHING)) for it in (one, other))
+    bare = (values(replace(row, rating=NOTHING)) for row in (one, other))
     return next(bare) == next(bare) and all(abs(this - that) < NEAR for this, that in pairs)

@@ -15,8 +15,8 @@ from tools.faults import unwritable
 from .missing import missing
 from .publications import Publication, publish
 from .results import Results
-from .schedules import Schedule
-from .seasons import Season, field, season
+from .schedules import Schedule, scheduled
+from .seasons import Season, season
 from .standings import standings
 from .store import NAME, Store, connected, path_of, told
 
@@ -51,8 +51,8 @@ def published(store: Store, day: str) -> Iterator[Published]:
 
 def published_in(store: Store, day: str) -> Published:
     """Publishes the last season's table of a store."""
-    it = season(store)
-    schedule, results = Schedule(field(store, it)), Results(store, it.rules)
+    last = season(store)
+    schedule, results = scheduled(store, last)
     table = standings(schedule, results)
     left = sum(series.matches for series in missing(schedule, results))
-    return Published(store, it, schedule, results, table, publish(store, it, day, table, left))
+    return Published(store, last, schedule, results, table, publish(store, last, day, table, left))

@@ -29,7 +29,7 @@ def correct(given: argparse.Namespace) -> None:
         else:
             said = correct_season(store, given)
         named(store, seasons.season(store).rules)
-    show(f"{it}\n" for it in said)
+    show(f"{line}\n" for line in said)
 
 
 def correct_entries(store: Store, given: argparse.Namespace) -> list[str]:
@@ -43,24 +43,24 @@ def correct_entries(store: Store, given: argparse.Namespace) -> list[str]:
         raise Fault(f"a season ended with entry {ended}, whose table stays")
     if given.to and before and given.to < before[-1].day:
         raise Fault(f"the entry before is of {before[-1].day}, so none can be of {given.to}")
-    for it in reversed(chosen):
-        write_down(store, ENTRY, it.number, given)
-    return [f"entry {it.number}, {it.what} of {it.robot}: {f'is of {given.to}' if given.to else 'is taken back'}"
-            for it in chosen]
+    for entry in reversed(chosen):
+        write_down(store, ENTRY, entry.number, given)
+    return [f"entry {entry.number}, {entry.what} of {entry.robot}: {f'is of {given.to}' if given.to else 'is taken back'}"
+            for entry in chosen]
 
 
 def correct_season(store: Store, given: argparse.Namespace) -> list[str]:
     """Corrects the day on which the last season began or ended."""
-    it = seasons.season(store)
+    season = seasons.season(store)
     others = [one.ended for one in seasons.seasons(store)[:-1]]
-    inside = [one.day for one in entries(store, it.last_entry)]
-    if given.what == END and not it.ended:
-        raise Fault(f"the season {it.name} goes on")
-    earliest, latest = (max([*others, ""]), it.ended) if given.what == BEGIN else (max([it.begun, *inside]), "")
+    inside = [one.day for one in entries(store, season.last_entry)]
+    if given.what == END and not season.ended:
+        raise Fault(f"the season {season.name} goes on")
+    earliest, latest = (max([*others, ""]), season.ended) if given.what == BEGIN else (max([season.begun, *inside]), "")
     if given.to < earliest or (latest and given.to > latest):
-        raise Fault(f"the {given.what} of season {it.name} can't be on {given.to}")
-    write_down(store, given.what, it.number, given)
-    return [f"season {it.name}: the {given.what} is on {given.to}"]
+        raise Fault(f"the {given.what} of season {season.name} can't be on {given.to}")
+    write_down(store, given.what, season.number, given)
+    return [f"season {season.name}: the {given.what} is on {given.to}"]
 
 
 def write_down(store: Store, what: str, of: int, given: argparse.Namespace) -> None:

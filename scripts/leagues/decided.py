@@ -23,32 +23,36 @@ def decided(schedule: Schedule, results: Results) -> Iterator[Pair]:
         verdicts, names = Verdicts(schedule, results), [robot.robot for robot in schedule.field.robots]
         found = ((names[pair[0]], names[pair[1]], verdicts.told((pair[0], pair[1]))) for pair in schedule.groups())
         yield from sorted(((one, other, told) if one < other else (other, one, told.turned) for one, other, told in found if told),
-                          key=lambda it: it[:2])
+                          key=lambda pair: pair[:2])
 
 
 def table(pairs: list[Pair]) -> str:
     """The pairs in columns, with the verdict in words."""
-    rows = [[one, other, *map(str, counts(it)), *(f"{100 * share:.1f} %" for share in (it.score.share, it.low, it.high)), said(it, one, other)]
-            for one, other, it in pairs]
+    rows = [[one, other, *map(str, counts(told)), *(f"{100 * share:.1f} %" for share in shares(told)), said(told, one, other)] for one, other, told in pairs]
     return aligned([[*HEAD, ""], *rows], (0, 1, len(HEAD)))
 
 
 def comma(pairs: list[Pair]) -> str:
     """The pairs as comma-separated values."""
-    return comma_separated([[*HEAD, "verdict"], *([one, other, *counts(it), *(f"{share:.4f}" for share in (it.score.share, it.low, it.high)),
-                                                   data(it)["verdict"]] for one, other, it in pairs)])
+    rows = ([one, other, *counts(told), *(f"{share:.4f}" for share in shares(told)), data(told)["verdict"]] for one, other, told in pairs)
+    return comma_separated([[*HEAD, "verdict"], *rows])
 
 
-def counts(it: Told) -> tuple[int, int, int, int]:
-    return it.score.played, it.score.won, it.score.even, it.score.yielded
+def counts(told: Told) -> tuple[int, int, int, int]:
+    return told.score.played, told.score.won, told.score.even, told.score.yielded
+
+
+def shares(told: Told) -> tuple[float, float, float]:
+    """The share of the first robot, and its interval."""
+    return told.score.share, told.low, told.high
 
 
 def everything(pairs: Sequence[Pair]) -> list[dict[str, Any]]:
     """The pairs for JSON."""
-    return [{"robot": one, "against": other, **dict(zip(HEAD[2:6], counts(it))), **data(it)} for one, other, it in pairs]
+    return [{"robot": one, "against": other, **dict(zip(HEAD[2:6], counts(told))), **data(told)} for one, other, told in pairs]
 
 
 def in_short(pairs: list[Pair]) -> str:
     """How many pairs are decided, and how."""
-    many = Counter(it.decision for _, _, it in pairs)
+    many = Counter(told.decision for _, _, told in pairs)
     return f"of {len(pairs)} pairs {many[BETTER] + many[WORSE]} {BETTER}, {many[EVEN]} {EVEN}, {many[OPEN]} {OPEN}"

@@ -49,10 +49,10 @@ def named(store: Store, by: Rules) -> None:
 def compiles(crobots: Program, profile: int, path: str, source: bytes) -> None:
     """Stops, with the program's own diagnostic, if a source has a fault."""
     with private() as folder:
-        it = Robot(path, entries.hashed(source))
-        with open(os.path.join(folder, it.sha256), "wb") as file:
+        robot = Robot(path, entries.hashed(source))
+        with open(os.path.join(folder, robot.sha256), "wb") as file:
             file.write(source)
-        compiled(crobots, profile, [it], folder)
+        compiled(crobots, profile, [robot], folder)
 
 
 def add(given: argparse.Namespace) -> None:

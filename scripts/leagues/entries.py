@@ -76,11 +76,11 @@ def corrections(store: Store) -> list[Correction]:
 def playing(happened: list[Entry]) -> dict[str, Entrant]:
     """Who plays after all this, by ids in the order in which they joined."""
     found: dict[str, Entrant] = {}
-    for it in happened:
-        if it.what == WITHDRAW:
-            del found[it.robot]
+    for entry in happened:
+        if entry.what == WITHDRAW:
+            del found[entry.robot]
         else:
-            found[it.robot] = Entrant(it.robot, it.sha256, it.copy)
+            found[entry.robot] = Entrant(entry.robot, entry.sha256, entry.copy)
     return found
 
 
@@ -146,7 +146,7 @@ def known(store: Store, robot: str) -> None:
 
 def named(author: str) -> str:
     """An author's name, if it can be shown."""
-    if not author.isprintable() or len(author) > AUTHOR_MAX or any("\ud800" <= it <= "\udfff" for it in author):
+    if not author.isprintable() or len(author) > AUTHOR_MAX or any("\ud800" <= letter <= "\udfff" for letter in author):
         raise Fault(f"an author's name has at most {AUTHOR_MAX} letters, all of which can be shown")
     return author
 

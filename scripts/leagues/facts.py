@@ -49,9 +49,9 @@ def facts_of_league(store: Store, schedule: Schedule, results: Results, standing
     """All that the site shows."""
     rules, season = schedule.field.rules, schedule.field.season
     happened = entries(store, season.last_entry)
-    ranks = {it.robot: row for row, it in enumerate(standings)}
+    ranks = {standing.robot: row for row, standing in enumerate(standings)}
     guests = left(happened, season)
-    ranks |= {it.robot: len(ranks) + row for row, it in enumerate(guests)}
+    ranks |= {guest.robot: len(ranks) + row for row, guest in enumerate(guests)}
     gathering, lost = gathered(seatings(schedule, guests), results, ranks)
     settings = Settings(rules.matches, rules.cycles, rules.seed, rules.profile, rules.sizes, tuple(more(season)))
     return Facts(
@@ -68,7 +68,7 @@ def decided(pairs: Iterable[Pair], schedule: Schedule, results: Results) -> Iter
         yield from pairs
         return
     verdicts = Verdicts(schedule, results)
-    places = {it.robot: at for at, it in enumerate(schedule.field.robots)}
+    places = {robot.robot: at for at, robot in enumerate(schedule.field.robots)}
     for pair in pairs:
         if pair.one not in places or pair.other not in places:
             yield pair
@@ -76,8 +76,8 @@ def decided(pairs: Iterable[Pair], schedule: Schedule, results: Results) -> Iter
         one, other = places[pair.one], places[pair.other]
         told = verdicts.told((min(one, other), max(one, other)))
         assert told
-        it = told if one < other else told.turned
-        yield replace(pair, low=it.low, high=it.high, verdict=it.verdict)
+        seen = told if one < other else told.turned
+        yield replace(pair, low=seen.low, high=seen.high, verdict=seen.verdict)
 
 
 def is_hidden(season: Season) -> bool:
@@ -102,29 +102,29 @@ def rows(standings: Sequence[Standing]) -> tuple[Standing, ...]:
 def earlier(store: Store, season: Season, day: str) -> Iterator[Table]:
     """The tables that were published before this one, the oldest first: of a day the last one of each season."""
     found: dict[tuple[str, int], int] = {}
-    for it in publications(store):
-        if it.season < season.number and it.day <= day or it.season == season.number and it.day < day:
-            found[it.day, it.season] = it.number
-    names = {it.number: it.name for it in seasons(store)}
-    for (of_day, number), publication in sorted(found.items(), key=lambda it: (it[0][1], it[0][0])):
-        yield Table(of_day, {row.robot: row for row in rows(published(store, publication))}, names[number])
+    for publication in publications(store):
+        if publication.season < season.number and publication.day <= day or publication.season == season.number and publication.day < day:
+            found[publication.day, publication.season] = publication.number
+    names = {season.number: season.name for season in seasons(store)}
+    for (of_day, number), last in sorted(found.items(), key=lambda item: (item[0][1], item[0][0])):
+        yield Table(of_day, {row.robot: row for row in rows(published(store, last))}, names[number])
 
 
 def past(store: Store, season: Season) -> Iterator[SiteSeason]:
     """The seasons that ended before this one."""
-    for it in seasons(store):
-        if it.number < season.number:
-            said = tuple((name.capitalize(), value) for name, value in it.rules.said())
-            yield SiteSeason(it.name, it.begun, it.ended, said, rows(final(store, it)), it.rules.divisions)
+    for older in seasons(store):
+        if older.number < season.number:
+            said = tuple((name.capitalize(), value) for name, value in older.rules.said())
+            yield SiteSeason(older.name, older.begun, older.ended, said, rows(final(store, older)), older.rules.divisions)
 
 
 def robots(store: Store, happened: Sequence[Entry], season: Season, lost: Lost, words: Words) -> Iterator[Robot]:
     """The robots that play, and those that left."""
     authors = dict(store.rows("SELECT id, author FROM robot"))
-    shown = {it.sha256 for it in happened if it.number <= season.first_entry or not is_hidden(season)}
+    shown = {entry.sha256 for entry in happened if entry.number <= season.first_entry or not is_hidden(season)}
     names = given_names(store)
-    for robot in dict.fromkeys(it.robot for it in happened):
-        own = [it for it in happened if it.robot == robot]
+    for robot in dict.fromkeys(entry.robot for entry in happened):
+        own = [entry for entry in happened if entry.robot == robot]
         gone = own[-1].day if own[-1].what == WITHDRAW else ""
         battles = tuple(battle for _, battle in lost.get(robot, ()))
         yield Robot(robot, names.get(robot, robot), tuple(versions(store, own, shown)), authors[robot], gone,
@@ -133,16 +133,16 @@ def robots(store: Store, happened: Sequence[Entry], season: Season, lost: Lost, 
 
 def versions(store: Store, own: Sequence[Entry], shown: set[str]) -> Iterator[Version]:
     """The versions of a robot, each since the day on which it got it; with its source, if that is shown."""
-    for it in own:
-        if it.what != WITHDRAW:
-            yield Version(it.sha256, source(store, it.sha256) if it.sha256 in shown else None, it.day)
+    for entry in own:
+        if entry.what != WITHDRAW:
+            yield Version(entry.sha256, source(store, entry.sha256) if entry.sha256 in shown else None, entry.day)
 
 
 def left(happened: Sequence[Entry], season: Season) -> list[Entrant]:
     """The robots that left while the season went on, with the bytes that they had."""
-    last = {it.robot: it for it in happened}
-    gone = [it for it in happened if it.number > season.first_entry and it.what == WITHDRAW and last[it.robot] is it]
-    return [Entrant(it.robot, it.sha256, it.copy) for it in gone]
+    last = {entry.robot: entry for entry in happened}
+    gone = [entry for entry in happened if entry.number > season.first_entry and entry.what == WITHDRAW and last[entry.robot] is entry]
+    return [Entrant(entry.robot, entry.sha256, entry.copy) for entry in gone]
 
 
 def seatings(schedule: Schedule, guests: Sequence[Entrant]) -> Iterator[tuple[tuple[str, str], Seated]]:
@@ -150,9 +150,9 @@ def seatings(schedule: Schedule, guests: Sequence[Entrant]) -> Iterator[tuple[tu
     yield from named(schedule, schedule.groups())
     if guests:
         field = schedule.field
-        among = tuple(sorted([*field.robots, *guests], key=lambda it: (it.sha256, it.robot)))
+        among = tuple(sorted([*field.robots, *guests], key=lambda entrant: (entrant.sha256, entrant.robot)))
         wider = Schedule(replace(field, robots=among))
-        places = {at for at, it in enumerate(among) if it in guests}
+        places = {at for at, entrant in enumerate(among) if entrant in guests}
         yield from named(wider, (group for group in wider.groups() if not places.isdisjoint(group)))
 
 
@@ -169,22 +169,22 @@ def gathered(them: Iterable[tuple[tuple[str, str], Seated]], results: Results, r
     found, lost = Gathering(ranks), defaultdict[str, list[tuple[str, Battle]]](list)
     for where, (robots, seed) in them:
         if played := results.battles(where):
-            battles = [battle(robots, seed, it) for it in played]
+            battles = [battle(robots, seed, play) for play in played]
             found.add(battles)
             for at, robot in enumerate(robots):
-                there = [(it.day, one) for it, one in zip(played, battles) if it.match.damage[at] >= DEADLY]
+                there = [(play.day, one) for play, one in zip(played, battles) if play.match.damage[at] >= DEADLY]
                 lost[robot] = last_ones([*lost[robot], *there])
     return found, lost
 
 
 def last_ones(lost: Iterable[tuple[str, Battle]]) -> list[tuple[str, Battle]]:
     """The last lost matches, by their days and then by their numbers, the last one first."""
-    return sorted(lost, key=lambda it: (it[0], it[1].number), reverse=True)[:LOST]
+    return sorted(lost, key=lambda dated: (dated[0], dated[1].number), reverse=True)[:LOST]
 
 
-def battle(robots: Sequence[str], seed: int, it: Played) -> Battle:
+def battle(robots: Sequence[str], seed: int, play: Played) -> Battle:
     """A match as the site names it."""
-    return Battle(tuple(map(seat, robots, it.match.damage)), it.number, seed, it.match.cycles)
+    return Battle(tuple(map(seat, robots, play.match.damage)), play.number, seed, play.match.cycles)
 
 
 @functools.lru_cache(1 << 16)

@@ -29,7 +29,7 @@ def planned(plan: Plan, folder: str, program: str, piece: int | None, chunk: int
     if not plan.only:
         return
     most = min(piece or plan.settings.matches, one_write(plan.settings, plan.robots))
-    rows = [f"{program}\n".encode(), *(row(it) for it in Plan(plan.settings, plan.robots, most, plan.only).planned())]
+    rows = [f"{program}\n".encode(), *(row(record) for record in Plan(plan.settings, plan.robots, most, plan.only).planned())]
     if "\n" in program:
         raise Fault("the program's path has a line break")
     name = kept(os.path.join(folder, NAME), b"".join(rows))
@@ -41,11 +41,11 @@ def planned(plan: Plan, folder: str, program: str, piece: int | None, chunk: int
         begin += sum(map(len, part))
 
 
-def row(it: Record) -> bytes:
+def row(record: Record) -> bytes:
     """A series: the head of its record, its options, and the files of its robots, with tabs between them."""
-    series = it.series
-    options = it.settings.options(series.seed, series.first, series.matches)
-    return "\t".join([it.head(), " ".join(options), " ".join(robot.path for robot in it.robots)]).encode() + b"\n"
+    series = record.series
+    options = record.settings.options(series.seed, series.first, series.matches)
+    return "\t".join([record.head(), " ".join(options), " ".join(robot.path for robot in record.robots)]).encode() + b"\n"
 
 
 def kept(folder: str, text: bytes) -> str:
@@ -65,7 +65,7 @@ def kept(folder: str, text: bytes) -> str:
 
 def remove_old(folder: str, before: float) -> None:
     """Removes the files that were written before a time. Others may do so at the same time."""
-    for it in os.scandir(folder):
+    for file in os.scandir(folder):
         with contextlib.suppress(FileNotFoundError):
-            if it.stat().st_mtime < before:
-                os.unlink(it.path)
+            if file.stat().st_mtime < before:
+                os.unlink(file.path)

@@ -47,24 +47,24 @@ def take_in(given: argparse.Namespace) -> None:
     by = program(given.crobots)
     with opened(given.league) as store:
         profile = seasons.season(store).rules.profile
-        choices = [chosen(it, by.path, profile) for it in found]
+        choices = [chosen(inbox, by.path, profile) for inbox in found]
         faults = [f"{stray} is in no author's folder" for stray in strays(given.folder)] + [why for choice in choices for why in choice.faults]
         for why in faults:
             say(given.script, plain(why))
         if faults and given.all_or_none:
             raise Fault("nobody joined or changed", FAULTY)
-        good = [it for it in choices if it.path]
+        good = [choice for choice in choices if choice.path]
         with store.change():
-            done = [entered(store, it, given_day(given)) for it in good]
-            copies = [*copied(store, profile, by, [it.robot for it in done if it.what != SAME])]
-    show(f"{plain(line)}\n" for line in [*(it.line for it in done if it.what != SAME), *copies, counted(done, len(choices) - len(good))])
+            done = [entered(store, choice, given_day(given)) for choice in good]
+            copies = [*copied(store, profile, by, [act.robot for act in done if act.what != SAME])]
+    show(f"{plain(line)}\n" for line in [*(act.line for act in done if act.what != SAME), *copies, counted(done, len(choices) - len(good))])
     if faults:
         raise Fault("1 file or folder was left out" if len(faults) == 1 else f"{len(faults)} files or folders were left out", FAULTY)
 
 
 def counted(done: Sequence[Done], without: int) -> str:
     """How many robots joined, changed, and are as they were; and how many folders have no robot."""
-    many = Counter(it.what for it in done)
+    many = Counter(act.what for act in done)
     folders = ["1 folder has no good file" if without == 1 else f"{without} folders have no good file"] if without else []
     return ", ".join([*(f"{many[what]} {what}" for what in (JOINED, CHANGED, SAME)), *folders])
 
@@ -78,8 +78,8 @@ def chosen(inbox: Inbox, crobots: str, profile: int) -> Choice:
         short = f"{inbox.folder}/{os.path.basename(path)}"
         try:
             source = read(path)
-        except Fault as it:
-            faults.append(f"{short} {it}")
+        except Fault as refused:
+            faults.append(f"{short} {refused}")
             continue
         why = fault(source, crobots, profile, short)
         if not why:
@@ -107,20 +107,20 @@ def fault(source: bytes, crobots: str, profile: int, name: str) -> str:
     return said.strip().replace("robot.r", name, 1)
 
 
-def entered(store: Store, it: Choice, day: str) -> Done:
+def entered(store: Store, choice: Choice, day: str) -> Done:
     """Lets the robot of a folder join or change, if it has other bytes than before."""
-    folder, name = it.inbox.folder, name_of(it.path)
-    short = f"{folder}/{os.path.basename(it.path)}"
+    folder, name = choice.inbox.folder, name_of(choice.path)
+    short = f"{folder}/{os.path.basename(choice.path)}"
     robot = naming.robots_of_folders(store).get(text(folder), "")
     last = {one.robot: one for one in entries.entries(store)}.get(robot)
     if last is None:
         robot = robot or naming.made(folder, naming.taken(store))
-        entries.add(store, robot, it.inbox.author, it.source, day)
+        entries.add(store, robot, choice.inbox.author, choice.source, day)
         naming.keep(store, folder, robot, name)
         return Done(robot, JOINED, f"{short} joined as {robot}")
-    if last.sha256 == entries.hashed(it.source):
+    if last.sha256 == entries.hashed(choice.source):
         return Done(robot, SAME, "")
-    entries.change(store, robot, it.source, day)
+    entries.change(store, robot, choice.source, day)
     naming.keep(store, folder, robot, name)
     return Done(robot, CHANGED, f"{short} changed {robot}")
 
@@ -128,8 +128,8 @@ def entered(store: Store, it: Choice, day: str) -> Done:
 def copied(store: Store, profile: int, by: Program, robots: Sequence[str]) -> Iterator[str]:
     """Which of some robots have the code of another author's robot."""
     happened = entries.entries(store)
-    folder = laid(store, {it.sha256 for it in happened})
-    files = {it.sha256: os.path.join(folder, it.sha256) for it in happened}
+    folder = laid(store, {entry.sha256 for entry in happened})
+    files = {entry.sha256: os.path.join(folder, entry.sha256) for entry in happened}
     authors = dict(store.rows("SELECT id, author FROM robot"))
     found = likeness.copied(happened, authors, likeness.codes(store, profile, by, files, os.cpu_count() or 1))
     for robot in robots:

@@ -35,8 +35,8 @@ class Done(NamedTuple):
 def history(given: argparse.Namespace) -> None:
     """Says what was done."""
     with opened(given.league) as store, store.view():
-        them = [it for table in QUERIES for it in done(store, table)]
-    show(f"{it.day}  {it.said}\n" for it in sorted(them, key=lambda it: (it.publication, it.day)))
+        them = [event for table in QUERIES for event in done(store, table)]
+    show(f"{event.day}  {event.said}\n" for event in sorted(them, key=lambda event: (event.publication, event.day)))
 
 
 def done(store: Store, table: str) -> Iterator[Done]:

@@ -28,7 +28,7 @@ class Inbox:
 def inboxes(path: str, authors: dict[str, str] | None) -> list[Inbox]:
     """The authors' folders in the order of their names. Without a table an author has the folder's name."""
     try:
-        found = sorted(it.name for it in os.scandir(path) if it.is_dir() and not it.name.startswith("."))
+        found = sorted(folder.name for folder in os.scandir(path) if folder.is_dir() and not folder.name.startswith("."))
         return [Inbox(name, author(name, authors), tuple(robots(os.path.join(path, name)))) for name in found]
     except OSError as why:
         unreadable(path, why)
@@ -36,7 +36,7 @@ def inboxes(path: str, authors: dict[str, str] | None) -> list[Inbox]:
 
 def strays(path: str) -> list[str]:
     """Robots that are in no author's folder."""
-    return sorted(it.name for it in os.scandir(path) if is_robot(it))
+    return sorted(file.name for file in os.scandir(path) if is_robot(file))
 
 
 def author(folder: str, authors: dict[str, str] | None) -> str:
@@ -46,13 +46,13 @@ def author(folder: str, authors: dict[str, str] | None) -> str:
 
 def robots(folder: str) -> list[str]:
     """The robots of a folder, the newest first; of equally new ones in the order of their names."""
-    found = [it for it in os.scandir(folder) if is_robot(it)]
-    return [it.path for it in sorted(found, key=lambda it: (-it.stat().st_mtime_ns, it.name))]
+    found = [file for file in os.scandir(folder) if is_robot(file)]
+    return [file.path for file in sorted(found, key=lambda file: (-file.stat().st_mtime_ns, file.name))]
 
 
-def is_robot(it: os.DirEntry[str]) -> bool:
+def is_robot(file: os.DirEntry[str]) -> bool:
     """Whether a file is a robot by its name. Pipes, devices and folders are none, and links lead elsewhere."""
-    return it.is_file(follow_symlinks=False) and it.name.lower().endswith(ENDING) and not it.name.startswith(".")
+    return file.is_file(follow_symlinks=False) and file.name.lower().endswith(ENDING) and not file.name.startswith(".")
 
 
 def name_of(path: str) -> str:

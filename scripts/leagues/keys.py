@@ -19,7 +19,7 @@ def possible(hashes: Sequence[str], copies: dict[str, int]) -> Iterator[list[str
     """The keys that robots with these bytes may have, by how many had the same ones; none if there was no such robot."""
     if not {*hashes} <= copies.keys():
         return
-    for numbers in itertools.product(*(range(copies[it] + 1) for it in hashes)):
+    for numbers in itertools.product(*(range(copies[sha256] + 1) for sha256 in hashes)):
         keys = [seats.keys([sha256] * (number + 1))[-1] for sha256, number in zip(hashes, numbers)]
         if len({*keys}) == len(keys):
             yield keys

@@ -47,8 +47,8 @@ def codes(store: Store, profile: int, by: Program, sources: Mapping[str, str], j
     known = dict(store.rows("SELECT sha256, hash FROM code WHERE profile = ? AND program = ?", profile, by.sha256))
     new = [source for source in sources if source not in known]
     with ThreadPoolExecutor(jobs) as pool:
-        found = [*pool.map(lambda it: compiled(by.path, profile, sources[it]), new)]
-    rows = [(sha256, profile, by.sha256, it.code, store.next()) for sha256, it in zip(new, found) if it.code]
+        found = [*pool.map(lambda sha256: compiled(by.path, profile, sources[sha256]), new)]
+    rows = [(sha256, profile, by.sha256, answer.code, store.next()) for sha256, answer in zip(new, found) if answer.code]
     store.database.executemany("INSERT INTO code VALUES (?, ?, ?, ?, ?)", rows)
     return known | {sha256: code for sha256, _, _, code, _ in rows}
 
@@ -73,20 +73,20 @@ def copied(happened: Sequence[Entry], authors: Mapping[str, str], code: Mapping[
     """The robots whose last code another author's robot had before, each with the first of these."""
     first: dict[str, list[Entry]] = {}
     last: dict[str, Entry] = {}
-    for it in entered(happened):
-        last[it.robot] = it
-        if it.sha256 in code:
-            first.setdefault(code[it.sha256], []).append(it)
+    for entry in entered(happened):
+        last[entry.robot] = entry
+        if entry.sha256 in code:
+            first.setdefault(code[entry.sha256], []).append(entry)
     found: dict[str, str] = {}
     for robot, own in last.items():
         had = first.get(code.get(own.sha256, ""), [])
-        mine = next((it.number for it in had if it.robot == robot), 0)
-        others = [it.robot for it in had if it.number < mine and authors[it.robot] and authors[robot]
-                  and authors[it.robot] != authors[robot]]
+        mine = next((entry.number for entry in had if entry.robot == robot), 0)
+        others = [entry.robot for entry in had if entry.number < mine and authors[entry.robot] and authors[robot]
+                  and authors[entry.robot] != authors[robot]]
         found |= {robot: others[0]} if others else {}
     return found
 
 
 def entered(happened: Iterable[Entry]) -> Iterable[Entry]:
     """The entries by which robots got bytes."""
-    return (it for it in happened if it.what != WITHDRAW)
+    return (entry for entry in happened if entry.what != WITHDRAW)

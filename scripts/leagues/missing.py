@@ -54,13 +54,13 @@ def missing(schedule: Schedule, results: Results) -> Iterator[Series]:
 
 def nearest(series: Iterable[Series], gap: Gap) -> list[Series]:
     """The series in the order in which they are best played: first those whose robots are close in the table."""
-    return sorted(series, key=lambda it: gap(it.group))
+    return sorted(series, key=lambda one_series: gap(one_series.group))
 
 
 def gaps(played: Iterable[int], most: int) -> list[tuple[int, int]]:
     """The runs of numbers up to the most that weren't played."""
     found, end = [], 0
-    for number in sorted(it for it in played if it <= most) + [most + 1]:
+    for number in sorted(number for number in played if number <= most) + [most + 1]:
         if number > end + 1:
             found.append((end + 1, number - 1))
         end = number

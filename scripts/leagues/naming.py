@@ -30,7 +30,7 @@ def letter(sign: str) -> str:
     """A letter without accents, or one or two letters that are read like it."""
     if sign.lower() in LETTERS:
         return LETTERS.get(sign) or LETTERS[sign.lower()].capitalize()
-    parts = [it for it in unicodedata.normalize("NFKD", sign) if not unicodedata.combining(it)]
+    parts = [part for part in unicodedata.normalize("NFKD", sign) if not unicodedata.combining(part)]
     return "".join(parts if parts == [sign] else map(letter, parts))
 
 
@@ -38,7 +38,7 @@ def made(name: str, taken: Container[str]) -> str:
     """An id for a name, which no robot ever had: of equal ones the second has a 2."""
     begin = plain(name)[:MOST] or "robot"
     ends = itertools.chain([""], (f"-{number}" for number in itertools.count(2)))
-    return next(it for end in ends if (it := begin[:MOST - len(end)] + end) not in taken)
+    return next(fresh for end in ends if (fresh := begin[:MOST - len(end)] + end) not in taken)
 
 
 def taken(store: Store) -> set[str]:

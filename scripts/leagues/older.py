@@ -72,7 +72,7 @@ def moved(database: sqlite3.Connection) -> None:
     """Moves all rows into tables of this version."""
     tables = ("source", *KEPT)
     renaming = (f"ALTER TABLE {table} RENAME TO old_{table}" for table in tables)
-    removing = (f"DROP TABLE old_{it}" for it in reversed(tables))
+    removing = (f"DROP TABLE old_{table}" for table in reversed(tables))
     for statement in (*renaming, *SCHEMA.split(";\n"), *MOVES.split(";\n"), *removing, f"PRAGMA user_version = {VERSION}"):
         database.execute(statement)
 
@@ -82,10 +82,10 @@ def extended(database: sqlite3.Connection) -> None:
     to is found anew, since nobody knows by which program it was."""
     is_there = database.execute("SELECT 1 FROM sqlite_master WHERE name = 'handed'").fetchone()
     rows = database.execute("SELECT number, folder, robot, name FROM handed").fetchall() if is_there else []
-    for it in LATER:
-        database.execute(f"DROP TABLE IF EXISTS {it}")
+    for table in LATER:
+        database.execute(f"DROP TABLE IF EXISTS {table}")
     for statement in SCHEMA.split(";\n"):
-        if any(f"CREATE TABLE {it} " in statement for it in LATER):
+        if any(f"CREATE TABLE {table} " in statement for table in LATER):
             database.execute(statement)
     next_one, = database.execute("SELECT coalesce(max(number), 0) + 1 FROM publication").fetchone()
     database.executemany("INSERT INTO handed VALUES (?, ?, ?, ?, ?)",

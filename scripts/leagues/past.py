@@ -48,8 +48,8 @@ def inconsistent_links(store: Store) -> Iterator[str]:
 def differences(before: Store, now: Store, last: int) -> Iterator[str]:
     """The rows of two archives, up to a publication, that only one of them has."""
     one, other = rows(before, last), rows(now, last)
-    found = [*(f"is gone: {element}" for element in (one - other).elements()), *(f"was added: {it}" for it in (other - one).elements())]
-    yield from (it.replace("\t", " ").rstrip("\n") for it in found[:MOST_SHOWN])
+    found = [*(f"is gone: {element}" for element in (one - other).elements()), *(f"was added: {element}" for element in (other - one).elements())]
+    yield from (line.replace("\t", " ").rstrip("\n") for line in found[:MOST_SHOWN])
     if len(found) > MOST_SHOWN:
         yield f"and {len(found) - MOST_SHOWN} more rows"
 

@@ -52,7 +52,7 @@ def publish(store: Store, season: Season, day: str, standings: Sequence[Standing
 
 def is_last(store: Store, last: Publication, standings: Sequence[Standing]) -> bool:
     """Reports whether nothing was added since the last publication, and its table is this one."""
-    shown = [values(it) for it in published(store, last.number)]
+    shown = [values(standing) for standing in published(store, last.number)]
     return not any(chain.lines(store, last.number)) and sorted(shown) == sorted(map(values, standings))
 
 
@@ -62,9 +62,10 @@ def latest(store: Store) -> Publication | None:
     return found[-1] if found else None
 
 
-def values(it: Standing) -> tuple[object, ...]:
-    score = it.score
-    return (it.division, it.rank, it.robot, it.sha256, score.won, score.tied, score.lost, str(it.points), *it.rating, int(it.close))
+def values(standing: Standing) -> tuple[object, ...]:
+    score = standing.score
+    return (standing.division, standing.rank, standing.robot, standing.sha256, score.won, score.tied, score.lost, str(standing.points),
+            *standing.rating, int(standing.close))
 
 
 def every(store: Store) -> list[Publication]:
@@ -75,7 +76,7 @@ def every(store: Store) -> list[Publication]:
 
 def publications(store: Store) -> list[Publication]:
     """The publications in their order; of those of one day, in one season, the last one."""
-    return [*{(it.season, it.day, it.final): it for it in every(store)}.values()]
+    return [*{(publication.season, publication.day, publication.final): publication for publication in every(store)}.values()]
 
 
 def published(store: Store, number: int) -> list[Standing]:
@@ -84,14 +85,15 @@ def published(store: Store, number: int) -> list[Standing]:
     found = [*ranked(Standing(robot, rank, Score(won, tied, lost), Decimal(points), Rating(rating, low, high), bool(close), division, sha256)
                      for division, rank, robot, sha256, won, tied, lost, points, rating, low, high, close in rows)]
     # tables of the first scale don't say who is close
-    return [replace(it, close=overlaps(above, it)) if row[-1] is None else it for above, it, row in zip([None, *found], found, rows)]
+    return [replace(standing, close=overlaps(above, standing)) if row[-1] is None else standing
+            for above, standing, row in zip([None, *found], found, rows)]
 
 
-def overlaps(above: Standing | None, it: Standing) -> bool:
+def overlaps(above: Standing | None, standing: Standing) -> bool:
     """Reports whether a robot was close to the one above by the first scale: their intervals overlap in whole numbers."""
-    if above is None or above.division != it.division or not (above.is_rated and it.is_rated):
+    if above is None or above.division != standing.division or not (above.is_rated and standing.is_rated):
         return False
-    ours, theirs = it.rating, above.rating
+    ours, theirs = standing.rating, above.rating
     return round(ours.low) <= round(theirs.high) and round(theirs.low) <= round(ours.high)
 
 

@@ -25,16 +25,16 @@ from .sums import sums
 
 def copies(store: Store, jobs: int) -> dict[str, str]:
     """The robots that have the code of another author's robot, as far as it is known, or the program is there."""
-    it = season(store)
-    happened = entries(store, it.last_entry)
+    last = season(store)
+    happened = entries(store, last.last_entry)
     folder = laid(store, {one.sha256 for one in happened})
     files = {one.sha256: os.path.join(folder, one.sha256) for one in happened}
     try:
         by = program(None)
     except Fault:
-        code = likeness.last_codes(store, it.rules.profile)
+        code = likeness.last_codes(store, last.rules.profile)
     else:
-        code = likeness.codes(store, it.rules.profile, by, files, jobs)
+        code = likeness.codes(store, last.rules.profile, by, files, jobs)
     return likeness.copied(happened, dict(store.rows("SELECT id, author FROM robot")), code)
 
 

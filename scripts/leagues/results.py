@@ -81,11 +81,11 @@ class Results:
 
     def endings(self) -> dict[int, dict[str, int]]:
         """Of each seating how many matches ended so: a letter w, t or l for the robot of each seat."""
-        died = ", ".join(f"{it} = {DEADLY}" for it in DAMAGES)
+        died = ", ".join(f"{column} = {DEADLY}" for column in DAMAGES)
         found: dict[int, dict[str, int]] = {}
         query = f"SELECT seating, count(*), {died} {JOINED} GROUP BY 1, {died}"
         for seating, count, *dead in self._store.database.execute(query, self._by):
-            found.setdefault(seating, {})[letters([it for it in dead if it is not None])] = count
+            found.setdefault(seating, {})[letters([is_dead for is_dead in dead if is_dead is not None])] = count
         return found
 
     def each(self) -> Iterator[tuple[int, list[Played]]]:
@@ -98,12 +98,12 @@ class Results:
 def scores_of(store: Store, rules: Rules, wanted: Collection[str]) -> dict[str, Score]:
     """What robots with these bytes did by some rules, each against whomever it met: by the hashes of the bytes. Of all seatings those that
     have none of these aren't kept in memory."""
-    found = {it: Counter[str]() for it in wanted}
+    found = {sha256: Counter[str]() for sha256 in wanted}
     by = (rules.cycles, rules.profile, rules.program)
     each = ((number, hashes.split(",")) for number, hashes in store.database.execute(f"SELECT number, hashes FROM seating WHERE {BY}", by))
-    for number, there in [it for it in each if not found.keys().isdisjoint(it[1])]:
-        for _, it, _ in matches(store, number):
-            for sha256, letter in zip(there, it.results):
+    for number, there in [seating for seating in each if not found.keys().isdisjoint(seating[1])]:
+        for _, fought, _ in matches(store, number):
+            for sha256, letter in zip(there, fought.results):
                 if sha256 in found:
                     found[sha256][letter] += 1
     return {sha256: counted(letters_of) for sha256, letters_of in found.items()}
@@ -116,7 +116,7 @@ def matches(store: Store, seating: int | None) -> list[Played]:
 
 
 def ended(cycles: int, damage: Sequence[int | None]) -> Match:
-    return Match(cycles, tuple(it for it in damage if it is not None))
+    return Match(cycles, tuple(percent for percent in damage if percent is not None))
 
 
 def keep(store: Store, rules: Rules, where: Seated, first: int, results: str, day: str,
@@ -130,10 +130,10 @@ def keep(store: Store, rules: Rules, where: Seated, first: int, results: str, da
     number = int(store.one(f"SELECT number FROM seating WHERE hashes = ? AND seed = ? AND {BY}", *where, *by)[0])
     theirs = dict(enumerate(map(match, results.split(",")), first))
     known = ours(store, number, first, first + len(theirs) - 1)
-    for it, result in known.items():
-        if theirs[it] != result:
-            raise Fault(f"has match {it} of these robots with another result than the league", FILE)
-    new = [(*row(number, it, result), day, worker, after) for it, result in theirs.items() if it not in known]
+    for at, result in known.items():
+        if theirs[at] != result:
+            raise Fault(f"has match {at} of these robots with another result than the league", FILE)
+    new = [(*row(number, at, result), day, worker, after) for at, result in theirs.items() if at not in known]
     store.database.executemany(INSERT, new)
     return len(new), len(known)
 
@@ -145,6 +145,6 @@ def ours(store: Store, seating: int, first: int, last: int) -> dict[int, Match]:
     return {number: ended(cycles, damage) for number, cycles, *damage in store.rows(query, seating, first, last)}
 
 
-def row(seating: int, number: int, it: Match) -> tuple[int | None, ...]:
-    empty: list[int | None] = [None] * (MOST_ROBOTS - len(it.damage))
-    return seating, number, it.cycles, *it.damage, *empty
+def row(seating: int, number: int, match: Match) -> tuple[int | None, ...]:
+    empty: list[int | None] = [None] * (MOST_ROBOTS - len(match.damage))
+    return seating, number, match.cycles, *match.damage, *empty

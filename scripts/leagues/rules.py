@@ -79,9 +79,9 @@ class Rules:
         return self.mode + more.get(self.mode, "")
 
 
-def played_by(it: Rules, program: Program) -> Rules:
+def played_by(rules: Rules, program: Program) -> Rules:
     """The rules with another program."""
-    return replace(it, program=program.sha256, version=version(program.sha256))
+    return replace(rules, program=program.sha256, version=version(program.sha256))
 
 
 def rules(text: str) -> Rules:

@@ -11,9 +11,10 @@ from tournaments import groups as grouping
 from tournaments import seats
 from tournaments.settings import Settings
 
-from .results import Seated, seated
+from .results import Results, Seated, seated
 from .rules import GAUNTLET
-from .seasons import Field
+from .seasons import Field, Season, field
+from .store import Store
 
 
 class Schedule:
@@ -56,16 +57,21 @@ class Schedule:
 
     def place(self, robot: str) -> int:
         """The place of a robot that the rules name."""
-        for at, it in enumerate(self.field.robots):
-            if it.robot == robot:
+        for at, entrant in enumerate(self.field.robots):
+            if entrant.robot == robot:
                 return at
         raise Fault(f"the rules name the robot {robot}, which doesn't play")
 
     def seatings(self, group: Group) -> list[tuple[Group, int]]:
         """The robots of a group in the order of their seats, with the seed, of each seating."""
         found = seats.seatings(self.settings.seed, [self.keys[at] for at in group])
-        return [(tuple(group[at] for at in it.order), it.seed) for it in found]
+        return [(tuple(group[at] for at in seating.order), seating.seed) for seating in found]
 
     def seated(self, robots: Group, seed: int) -> Seated:
         """How results name a seating."""
         return seated([self.field.robots[at].sha256 for at in robots], seed)
+
+
+def scheduled(store: Store, season: Season) -> tuple[Schedule, Results]:
+    """What is to be played in a season, and what was played by its rules."""
+    return Schedule(field(store, season)), Results(store, season.rules)

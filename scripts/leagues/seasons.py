@@ -48,8 +48,8 @@ class Field:
 
     def places(self, division: int) -> list[int]:
         """Who plays in a division: its robots, and the one with the fixed rating, by which divisions are compared."""
-        return [at for at, it in enumerate(self.robots)
-                if self.division(it.robot) == division or it.robot == self.rules.anchor]
+        return [at for at, entrant in enumerate(self.robots)
+                if self.division(entrant.robot) == division or entrant.robot == self.rules.anchor]
 
 
 def begin(store: Store, name: str, day: str, by: Rules, divisions: dict[str, int]) -> None:
@@ -61,7 +61,7 @@ def begin(store: Store, name: str, day: str, by: Rules, divisions: dict[str, int
     count = store.one("SELECT count(*) FROM entry")[0]
     columns, after = "name, begun, first_entry, rules, publication", store.next()
     number = store.run(f"INSERT INTO season ({columns}) VALUES (?, ?, ?, ?, ?)", name, day, count, by.text(), after)
-    rows = [(number, *it, after) for it in sorted(divisions.items())]
+    rows = [(number, *member, after) for member in sorted(divisions.items())]
     store.database.executemany("INSERT INTO member VALUES (?, ?, ?, ?)", rows)
 
 
@@ -93,7 +93,7 @@ def seasons(store: Store) -> list[Season]:
 
 def season(store: Store, name: str | None = None) -> Season:
     """The season with this name, or the last one."""
-    found = [it for it in seasons(store) if name in (None, it.name)]
+    found = [season for season in seasons(store) if name in (None, season.name)]
     if not found:
         raise Fault(f"there is no season {name}")
     return found[-1]
@@ -101,35 +101,35 @@ def season(store: Store, name: str | None = None) -> Season:
 
 def running(store: Store) -> Season:
     """The season that goes on."""
-    it = season(store)
-    if it.ended:
-        raise Fault(f"the season {it.name} ended on {it.ended}; `season begin` begins another")
-    return it
+    last = season(store)
+    if last.ended:
+        raise Fault(f"the season {last.name} ended on {last.ended}; `season begin` begins another")
+    return last
 
 
-def has_ended(store: Store, it: Season) -> bool:
+def has_ended(store: Store, season: Season) -> bool:
     """Reports whether a season has ended, also since it was read."""
-    return any(one.number == it.number and one.ended for one in seasons(store))
+    return any(one.number == season.number and one.ended for one in seasons(store))
 
 
-def refuse_ended(store: Store, it: Season) -> None:
+def refuse_ended(store: Store, season: Season) -> None:
     """Refuses to keep matches of a season that ended while they were played: its table is that of those that were kept before."""
-    if has_ended(store, it):
-        raise Fault(f"the season {it.name} ended while it was being played; what wasn't kept before doesn't count")
+    if has_ended(store, season):
+        raise Fault(f"the season {season.name} ended while it was being played; what wasn't kept before doesn't count")
 
 
-def field(store: Store, it: Season) -> Field:
+def field(store: Store, season: Season) -> Field:
     """The robots of a season, as they are now or were at its end."""
-    happened = entries(store, it.last_entry)
+    happened = entries(store, season.last_entry)
     now = playing(happened)
     robots = sorted(now.values(), key=lambda one: (one.sha256, one.robot))
-    members = dict(store.rows("SELECT robot, division FROM member WHERE season = ?", it.number))
-    return Field(it, tuple(robots), members, since(happened))
+    members = dict(store.rows("SELECT robot, division FROM member WHERE season = ?", season.number))
+    return Field(season, tuple(robots), members, since(happened))
 
 
 def since(happened: Sequence[Entry]) -> dict[str, int]:
     """By which entry each robot got its last bytes."""
-    return {it.robot: it.number for it in happened}
+    return {entry.robot: entry.number for entry in happened}
 
 
 def promoted(tables: Sequence[Sequence[str]], moves: int) -> list[list[str]]:
@@ -141,8 +141,8 @@ def promoted(tables: Sequence[Sequence[str]], moves: int) -> list[list[str]]:
         many = min(moves, len(tables[above]) // 2, len(tables[below]) // 2)
         if many:
             down, up = [*tables[above]][-many:], [*tables[below]][:many]
-            found[above] = [it for it in found[above] if it not in down] + up
-            found[below] = down + [it for it in found[below] if it not in up]
+            found[above] = [robot for robot in found[above] if robot not in down] + up
+            found[below] = down + [robot for robot in found[below] if robot not in up]
     return found
 
 

@@ -59,15 +59,15 @@ LOOK = 10
 HALVINGS, NODES = 20, 80
 
 
-def sides(it: Score) -> float:
+def sides(score: Score) -> float:
     """The logarithm of how much more likely the matches are if one robot is better, by the average over all chances."""
-    both = it.won + it.yielded
-    return both * math.log(2) + math.lgamma(it.won + 1) + math.lgamma(it.yielded + 1) - math.lgamma(both + 2)
+    both = score.won + score.yielded
+    return both * math.log(2) + math.lgamma(score.won + 1) + math.lgamma(score.yielded + 1) - math.lgamma(both + 2)
 
 
-def against(it: Score, mean: float) -> float:
+def against(score: Score, mean: float) -> float:
     """The logarithm of how much more likely the matches are than by this mean, by the average over all chances."""
-    nodes, decided, even = NODES + 2 * math.isqrt(it.played), (it.won, it.yielded), it.even
+    nodes, decided, even = NODES + 2 * math.isqrt(score.played), (score.won, score.yielded), score.even
     logs = []
     for node in range(nodes):
         won, lost = (node + 0.5) / nodes / mean, (nodes - node - 0.5) / nodes / (1 - mean)
@@ -77,40 +77,40 @@ def against(it: Score, mean: float) -> float:
 
 
 @functools.cache
-def interval(it: Score) -> tuple[float, float]:
+def interval(score: Score) -> tuple[float, float]:
     """All means against which the matches don't speak enough, whenever play stopped; all there are if nothing was played."""
-    if not it.played:
+    if not score.played:
         return 0.0, 1.0
-    return 1 - upper(it.turned), upper(it)
+    return 1 - upper(score.turned), upper(score)
 
 
-def upper(it: Score) -> float:
+def upper(score: Score) -> float:
     """The upper end of the interval. It is on the side of 1/2 on which the decision says it is."""
-    near, far = it.share, 1.0
+    near, far = score.share, 1.0
     if near == far:
         return far
     if near < 0.5:
-        near, far = (near, 0.5) if sides(it) >= ENOUGH else (0.5, far)
+        near, far = (near, 0.5) if sides(score) >= ENOUGH else (0.5, far)
     for _ in range(HALVINGS):
         middle = (near + far) / 2
-        near, far = (middle, far) if against(it, middle) < ENOUGH else (near, middle)
+        near, far = (middle, far) if against(score, middle) < ENOUGH else (near, middle)
     return far
 
 
-def below(it: Score) -> float:
+def below(score: Score) -> float:
     """The logarithm of how much the matches speak against a first robot that is better by the margin or more."""
     middle = 0.5 + MARGIN
-    logs = [sum(times * math.log1p(bet * (middle - x)) for times, x in ((it.won, 1.0), (it.even, 0.5), (it.yielded, 0.0)))
+    logs = [sum(times * math.log1p(bet * (middle - x)) for times, x in ((score.won, 1.0), (score.even, 0.5), (score.yielded, 0.0)))
             for bet in BETS]
     most = max(logs)
     return most + math.log(sum(math.exp(one - most) for one in logs) / len(logs))
 
 
-def looked(it: Score) -> str:
+def looked(score: Score) -> str:
     """What is decided of the first robot if these are all matches."""
-    if sides(it) >= ENOUGH:
-        return BETTER if it.won > it.yielded else WORSE
-    return EVEN if min(below(it), below(it.turned)) >= ENOUGH else OPEN
+    if sides(score) >= ENOUGH:
+        return BETTER if score.won > score.yielded else WORSE
+    return EVEN if min(below(score), below(score.turned)) >= ENOUGH else OPEN
 
 
 def decision(parts: Iterable[Score]) -> tuple[str, int]:

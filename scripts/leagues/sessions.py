@@ -24,9 +24,9 @@ from .farm import planned
 from .locks import alone
 from .missing import missing, nearest
 from .results import Results, keep, seated
-from .schedules import Schedule
+from .schedules import Schedule, scheduled
 from .scores import points, scores
-from .seasons import Season, field, refuse_ended, running
+from .seasons import Season, refuse_ended, running
 from .sources import laid
 from .store import Store, opened
 
@@ -59,11 +59,11 @@ def by_gap(schedule: Schedule, results: Results, series: list[Series]) -> list[S
 
 def wanted(store: Store, season: Season, jobs: int, piece: int | None) -> Wanted:
     """What a season wants now, cut into series."""
-    schedule, results = Schedule(field(store, season)), Results(store, season.rules)
+    schedule, results = scheduled(store, season)
     series = by_gap(schedule, results, [*missing(schedule, results)])
     folder = laid(store, {robot.sha256 for robot in schedule.field.robots})
-    robots = [Robot(f"{folder}/{it.sha256}", it.sha256) for it in schedule.field.robots]
-    most = piece or max(1, math.ceil(sum(it.matches for it in series) / (8 * jobs)))
+    robots = [Robot(f"{folder}/{entrant.sha256}", entrant.sha256) for entrant in schedule.field.robots]
+    most = piece or max(1, math.ceil(sum(run.matches for run in series) / (8 * jobs)))
     return Wanted(Plan(schedule.settings, robots, most, tuple(series)), folder)
 
 

@@ -12,8 +12,7 @@ from . import decided, tables
 from .locks import is_played
 from .missing import missing
 from .publications import final, publications
-from .results import Results
-from .schedules import Schedule
+from .schedules import scheduled
 from .seasons import Field, Season, field, season
 from .standings import standings
 from .store import Store, opened
@@ -22,35 +21,35 @@ from .store import Store, opened
 def table(given: argparse.Namespace) -> None:
     """Prints a season's table. That of one that ended is as it was then."""
     with opened(given.league) as store, store.view():
-        it = season(store, given.season)
-        rows = rated(store, it)
-        pairs = [*decided.decided(Schedule(field(store, it)), Results(store, it.rules))] if given.pairs or given.json else []
-    if given.pairs and not it.rules.sure:
+        chosen = season(store, given.season)
+        rows = rated(store, chosen)
+        pairs = [*decided.decided(*scheduled(store, chosen))] if given.pairs or given.json else []
+    if given.pairs and not chosen.rules.sure:
         raise Fault("--pairs shows what the sequential test says, and this season has none")
     if given.json:
-        show([tables.everything(it, rows, pairs)])
+        show([tables.everything(chosen, rows, pairs)])
     elif given.pairs:
         show([decided.comma(pairs) if given.csv else decided.table(pairs)])
     else:
-        show([tables.comma(rows) if given.csv else tables.table(it, rows)])
+        show([tables.comma(rows) if given.csv else tables.table(chosen, rows)])
 
 
-def rated(store: Store, it: Season) -> list[Standing]:
+def rated(store: Store, season: Season) -> list[Standing]:
     """The standings of a season, as they are now or were at its end."""
-    return final(store, it) or standings(Schedule(field(store, it)), Results(store, it.rules))
+    return final(store, season) or standings(*scheduled(store, season))
 
 
 def status(given: argparse.Namespace) -> None:
     """Says how things are."""
     with opened(given.league) as store, store.view():
-        it = season(store)
-        there = field(store, it)
-        said = [*of_season(it), *it.rules.said(), *of_robots(store, there), *of_matches(store, there), *of_pairs(store, there)]
+        last = season(store)
+        there = field(store, last)
+        said = [*of_season(last), *last.rules.said(), *of_robots(store, there), *of_matches(store, there), *of_pairs(store, there)]
         show(f"{name}: {value}\n" for name, value in said)
 
 
-def of_season(it: Season) -> list[tuple[str, str]]:
-    return [("season", f"{it.name}, since {it.begun}" + (f" until {it.ended}" if it.ended else ""))]
+def of_season(season: Season) -> list[tuple[str, str]]:
+    return [("season", f"{season.name}, since {season.begun}" + (f" until {season.ended}" if season.ended else ""))]
 
 
 def of_robots(store: Store, there: Field) -> list[tuple[str, str]]:
@@ -63,15 +62,15 @@ def of_pairs(store: Store, there: Field) -> list[tuple[str, str]]:
     """What the sequential test says of all pairs, if the season has it."""
     if not there.rules.sure:
         return []
-    return [("verdicts", decided.in_short([*decided.decided(Schedule(there), Results(store, there.rules))]))]
+    return [("verdicts", decided.in_short([*decided.decided(*scheduled(store, there.season))]))]
 
 
 def of_matches(store: Store, there: Field) -> list[tuple[str, str]]:
     """How many matches were played and are missing, and whether somebody plays."""
-    left = [*missing(Schedule(there), Results(store, there.rules))]
+    left = [*missing(*scheduled(store, there.season))]
     shown = publications(store)
     played = store.one("SELECT count(*) FROM battle")[0]
     return [("played", f"{played} matches in all seasons"),
-            ("missing", f"{sum(it.matches for it in left)} matches of {len(left)} seatings"),
+            ("missing", f"{sum(series.matches for series in left)} matches of {len(left)} seatings"),
             ("now", "is being played" if is_played(store.folder) else "nobody plays"),
             ("published", shown[-1].day if shown else "never")]

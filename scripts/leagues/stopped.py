@@ -30,15 +30,15 @@ class Chance(NamedTuple):
 Ways = tuple[list[float], list[float], list[float]]
 
 
-def share(it: Score, first: Score) -> Share:
+def share(score: Score, first: Score) -> Share:
     """The share of a pair, by all that the test has seen of it, and by its first look."""
-    won = it.won + it.yielded
-    found = chances(it.played, won)[it.won] or plain(it.won, won)
+    won = score.won + score.yielded
+    found = chances(score.played, won)[score.won] or plain(score.won, won)
     part = (first.won + first.yielded) / first.played
     away = found.one - 0.5
     own = part * part * max(0.0, found.one**2 - found.both)
     variance = own + away**2 * part * (1 - part) / max(first.played - 1, 1)
-    return Share(0.5 + part * away, variance, own * part * -2 * away / max(won, 1), 1 / it.played, it.played - 1)
+    return Share(0.5 + part * away, variance, own * part * -2 * away / max(won, 1), 1 / score.played, score.played - 1)
 
 
 def plain(won: int, of: int) -> Chance:
@@ -81,9 +81,9 @@ def further(ways: Ways, played: int, have: int, more: int) -> Ways:
             for now, many in enumerate(each, won):
                 new[now] += old[won] * many
     most = max(found[0]) or 1.0
-    every, one, both = ([it / most for it in row] for row in found)
+    every, one, both = ([count / most for count in row] for row in found)
     return every, one, both
 
 
-def round_half_up(it: float) -> int:
-    return int(it + 0.5)
+def round_half_up(number: float) -> int:
+    return int(number + 0.5)

@@ -36,9 +36,9 @@ def sums(schedule: Schedule, results: Results, folder: str, many: int, jobs: int
                     played.setdefault(robot, []).append((seats, seed, seat))
     robots = schedule.field.robots
     with ThreadPoolExecutor(jobs) as pool:
-        said = {at: [pool.submit(summed, trace, schedule, folder, it) for it in spread(seats, many)]
+        said = {at: [pool.submit(summed, trace, schedule, folder, seat) for seat in spread(seats, many)]
                 for at, seats in played.items()}
-        return {robots[at].robot: joined([it.result() for it in them]) for at, them in said.items()}
+        return {robots[at].robot: joined([job.result() for job in them]) for at, them in said.items()}
 
 
 def spread(them: Sequence[Seat], many: int) -> list[Seat]:
@@ -48,12 +48,12 @@ def spread(them: Sequence[Seat], many: int) -> list[Seat]:
 
 def joined(them: Sequence[Sums]) -> Sums:
     """The sums of all these matches."""
-    return Sums("".join(it.text for it in them), "".join(it.objects for it in them))
+    return Sums("".join(part.text for part in them), "".join(part.objects for part in them))
 
 
-def summed(trace: str, schedule: Schedule, folder: str, it: Seat) -> Sums:
+def summed(trace: str, schedule: Schedule, folder: str, where: Seat) -> Sums:
     """What the program sums up of a robot in the first match of a seating; nothing if it fails."""
-    seats, seed, seat = it
+    seats, seed, seat = where
     rules = schedule.field.rules
     files = [f"{folder}/{schedule.field.robots[at].sha256}" for at in seats]
     words = [f"--robot={seat + 1}", f"-l{rules.cycles}", f"-s{seed}", f"-p{rules.profile}", "--", *files]

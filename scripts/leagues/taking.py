@@ -90,7 +90,7 @@ class Taker:
             if wrong and self._again and not self._again.is_whole:
                 taken.said.append(f"{place} is not taken from there on")
                 break
-            self._keep([it for it in right if it.number not in wrong], worker, place, taken)
+            self._keep([line for line in right if line.number not in wrong], worker, place, taken)
         return taken
 
     def _right(self, batch: Sequence[tuple[int, str]], place: str, taken: Taken) -> Iterator[Line]:
@@ -129,10 +129,10 @@ class Replays:
         many = len(lines) if self.is_whole else -(-len(lines) // SHARE)
         chosen = random.SystemRandom().sample(lines, many)
         with watch() as stop, closing(Player(self._found, self._jobs, self._folder).play(
-                [it.record._replace(results="") for it in chosen], stop.check)) as played_again:
-            now = {(it.robots, it.series): it.results for it in played_again}
-        return {it.number: f"was not played as it says: {differing(it.record, now[it.record.robots, it.record.series])}"
-                for it in chosen if now[it.record.robots, it.record.series] != it.record.results}
+                [line.record._replace(results="") for line in chosen], stop.check)) as played_again:
+            now = {(record.robots, record.series): record.results for record in played_again}
+        return {line.number: f"was not played as it says: {differing(line.record, now[line.record.robots, line.record.series])}"
+                for line in chosen if now[line.record.robots, line.record.series] != line.record.results}
 
 
 def differing(record: Record, now: str) -> str:
@@ -148,11 +148,11 @@ def take(given: argparse.Namespace) -> None:
         again = None if given.unchecked else replays(store, season, given)
         taker = Taker(store, season, given_day(given), again)
         them = [taken_from(taker, path, given.worker) for path in given.files or [None]]
-    for it in them:
-        for why in [*it.said[:MOST_TOLD], *([f"and {len(it.said) - MOST_TOLD} more lines"] if it.said[MOST_TOLD:] else [])]:
+    for taken in them:
+        for why in [*taken.said[:MOST_TOLD], *([f"and {len(taken.said) - MOST_TOLD} more lines"] if taken.said[MOST_TOLD:] else [])]:
             say(given.script, why)
-    show([f"{sum(it.new for it in them)} matches are new, {sum(it.known for it in them)} were there\n"])
-    if wrong := sum(it.wrong for it in them):
+    show([f"{sum(taken.new for taken in them)} matches are new, {sum(taken.known for taken in them)} were there\n"])
+    if wrong := sum(taken.wrong for taken in them):
         raise Fault(f"{wrong} lines were refused")
 
 
@@ -180,24 +180,24 @@ def worker_of(store: Store, name: str) -> tuple[int, bool]:
 
 def checked(line: str, by: Rules, copies: dict[str, int]) -> Record:
     """The record of a line, if it is one of a season with these rules."""
-    it = played(line)
-    settings = it.settings
+    record = played(line)
+    settings = record.settings
     for name, theirs, ours in (("limit", settings.cycles, by.cycles), ("profile", settings.profile, by.profile),
                                ("program", settings.program[:16], by.program[:16])):
         if theirs != ours:
             raise NoRecord(f"was played with another {name}: {theirs}, and not {ours}")
-    hashes = [robot.sha256 for robot in it.robots]
+    hashes = [robot.sha256 for robot in record.robots]
     if not copies.keys() >= {*hashes}:
         raise NoRecord("is of a robot that this league never had")
-    if it.series.seed not in (seats.drawn(by.seed, keys) for keys in possible(hashes, copies)):
+    if record.series.seed not in (seats.drawn(by.seed, keys) for keys in possible(hashes, copies)):
         raise NoRecord("has a seed that these robots don't have in this season")
-    return it
+    return record
 
 
-def asked_for(it: Record, judges: Sequence[Judge], copies: dict[str, int]) -> Record:
+def asked_for(record: Record, judges: Sequence[Judge], copies: dict[str, int]) -> Record:
     """A record, if the season asked for its matches at any time, by any of its rules."""
-    found = ((judge, judge.group(keys, str(it.series.seed))) for judge in judges
-             for keys in possible([robot.sha256 for robot in it.robots], copies))
-    if it.series.last > max((judge.most(group) for judge, group in found if group is not None), default=0):
+    found = ((judge, judge.group(keys, str(record.series.seed))) for judge in judges
+             for keys in possible([robot.sha256 for robot in record.robots], copies))
+    if record.series.last > max((judge.most(group) for judge, group in found if group is not None), default=0):
         raise NoRecord("has matches that this season doesn't ask for")
-    return it
+    return record

@@ -40,9 +40,9 @@ class Ruled:
 def states(store: Store) -> Iterator[State]:
     """Who played at first, and after each entry and each correction."""
     undone = defaultdict[int, list[int]](list)
-    for it in corrections(store):
-        if it.what == ENTRY and it.day is None:
-            undone[it.entries].append(it.of)
+    for correction in corrections(store):
+        if correction.what == ENTRY and correction.day is None:
+            undone[correction.entries].append(correction.of)
     had: dict[str, list[tuple[int, Entrant | None]]] = defaultdict(list)
     yield State(0, {})
     for count, (number, what, robot, sha256, copy) in enumerate(
@@ -52,7 +52,7 @@ def states(store: Store) -> Iterator[State]:
         yield State(count, standing(had), is_new)
         for of in undone[count]:
             for own in had.values():
-                own[:] = [it for it in own if it[0] != of]
+                own[:] = [entry for entry in own if entry[0] != of]
             yield State(count, standing(had))
 
 

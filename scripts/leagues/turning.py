@@ -16,9 +16,8 @@ from . import publications, seasons
 from .days import given_day
 from .entries import entries, playing
 from .missing import missing
-from .results import Results
 from .rules import Rules, played_by
-from .schedules import Schedule
+from .schedules import scheduled
 from .seasons import Season
 from .standings import standings
 from .store import Store, opened
@@ -38,7 +37,7 @@ def season(given: argparse.Namespace) -> None:
 
 def listed(them: list[Season]) -> str:
     """The seasons with their days and rules."""
-    rows = [[it.name, it.begun, it.ended or "goes on", f"{it.rules.mode}, {it.rules.matches} a group"] for it in them]
+    rows = [[season.name, season.begun, season.ended or "goes on", f"{season.rules.mode}, {season.rules.matches} a group"] for season in them]
     return aligned([["season", "begun", "ended", "rules"], *rows], range(4))
 
 
@@ -50,8 +49,8 @@ def end(store: Store, given: argparse.Namespace) -> None:
 def ended(store: Store, day: str, unfinished: bool) -> None:
     """Ends the season that goes on, with its table."""
     season = seasons.running(store)
-    schedule, results = Schedule(seasons.field(store, season)), Results(store, season.rules)
-    left = sum(it.matches for it in missing(schedule, results))
+    schedule, results = scheduled(store, season)
+    left = sum(series.matches for series in missing(schedule, results))
     if left and not unfinished:
         raise Fault(f"{left} matches are missing; `play` plays them, and --unfinished ends the season without them")
     seasons.end(store, season, day, left)
@@ -79,13 +78,13 @@ def divided(store: Store, last: Season, by: Rules, move: int) -> dict[str, int]:
     if by.divisions == 1:
         return {}
     now = playing(entries(store))
-    table = [it for it in publications.final(store, last) if it.robot in now]
+    table = [standing for standing in publications.final(store, last) if standing.robot in now]
     if by.divisions == last.rules.divisions:
         parts = seasons.promoted([in_division(table, division) for division in range(1, by.divisions + 1)], move)
     else:
-        parts = seasons.split([it.robot for it in table], by.divisions)
+        parts = seasons.split([standing.robot for standing in table], by.divisions)
     return {robot: division for division, part in enumerate(parts, 1) for robot in part}
 
 
 def in_division(table: list[Standing], division: int) -> list[str]:
-    return [it.robot for it in table if it.division == division]
+    return [standing.robot for standing in table if standing.division == division]

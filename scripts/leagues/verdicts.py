@@ -52,16 +52,16 @@ class Told:
         return Told(OTHER[self.decision], self.score.turned, 1 - self.high, 1 - self.low)
 
 
-def said(it: Told, first: str, second: str) -> str:
+def said(told: Told, first: str, second: str) -> str:
     """The decision in words, with the robots' names."""
-    by = f"after {it.score.played} matches"
+    by = f"after {told.score.played} matches"
     words = {BETTER: f"{first} is better, by the test ", WORSE: f"{second} is better, by the test ", EVEN: "even, by the test "}
-    return words.get(it.decision, f"{OPEN} ") + by
+    return words.get(told.decision, f"{OPEN} ") + by
 
 
-def data(it: Told) -> dict[str, Any]:
+def data(told: Told) -> dict[str, Any]:
     """The decision as fields for JSON, about the first robot: 'better', 'worse', 'even' or 'not decided'."""
-    return {"verdict": it.decision, "tested": it.score.played, "share": it.score.share, "low": it.low, "high": it.high}
+    return {"verdict": told.decision, "tested": told.score.played, "share": told.score.share, "low": told.low, "high": told.high}
 
 
 class Verdicts:
@@ -86,15 +86,15 @@ class Verdicts:
 
     def won(self, one: int, other: int) -> bool | None:
         """Reports whether a robot is better than another, if enough was played."""
-        it = self.on((min(one, other), max(one, other)))
-        return it.what == (BETTER if one < other else WORSE) if it.enough else None
+        so_far = self.on((min(one, other), max(one, other)))
+        return so_far.what == (BETTER if one < other else WORSE) if so_far.enough else None
 
     def wanted(self, pair: Group) -> int:
         """How many matches of each seating are wanted: all, or as many as there are until the next look."""
-        it = self.on(pair)
-        if it.enough:
-            return it.each
-        return min(self._each, it.each + EACH_LOOK) if self._schedule.field.rules.sure else self._each
+        so_far = self.on(pair)
+        if so_far.enough:
+            return so_far.each
+        return min(self._each, so_far.each + EACH_LOOK) if self._schedule.field.rules.sure else self._each
 
     def told(self, pair: Group) -> Told | None:
         """What the test says of a pair; nothing if the rules have no test. The first robot of a pair has the lower place."""

@@ -30,9 +30,9 @@ from .consistency import copies, inconsistent, last_table
 from .keys import copies_of, possible
 from .past import changed_since
 from .publications import final
-from .results import Results, ended
-from .schedules import Schedule
-from .seasons import Season, field, seasons
+from .results import ended
+from .schedules import scheduled
+from .seasons import Season, seasons
 from .standings import standings
 from .schema import DAMAGE
 from .store import Store
@@ -63,11 +63,11 @@ def verify(given: argparse.Namespace) -> None:
         changes = changed_since(store, given.since) if given.since else ()
         said = [*findings(store, table), *(Finding(True, change) for change in changes)]
         runs = chosen(store, None if given.all else given.number or MATCHES)
-        said += [Finding(True, it) for it in (*recompiled(store, found), *replayed(store, found, given, runs))]
+        said += [Finding(True, line) for line in (*recompiled(store, found), *replayed(store, found, given, runs))]
         total = store.one("SELECT count(*) FROM battle")[0]
         last = publications.latest(store)
-    show(f"{archives.shown(it.said)}\n" for it in said)
-    count, wrong = sum(len(run.matches) for run in runs), sum(it.is_wrong for it in said)
+    show(f"{archives.shown(finding.said)}\n" for finding in said)
+    count, wrong = sum(len(run.matches) for run in runs), sum(finding.is_wrong for finding in said)
     show([f"{count} of {total} matches were replayed, {wrong or 'no'} differences\n"])
     if last and last.hash:
         show([f"publication {last.number} has the hash {archives.shown(last.hash)}\n"])
@@ -78,13 +78,13 @@ def verify(given: argparse.Namespace) -> None:
 def findings(store: Store, table: str) -> Iterator[Finding]:
     """All that is to be said of an archive, without any match being replayed."""
     if wrong := [*copies(store)]:
-        yield from (Finding(True, it) for it in wrong)
+        yield from (Finding(True, line) for line in wrong)
         return
     for check in (sources, seeds, inconsistent):
-        yield from (Finding(True, it) for it in check(store))
+        yield from (Finding(True, line) for line in check(store))
     yield from lacking(store)
     yield from beyond(store)
-    yield from (Finding(True, it) for it in table_of(store, table))
+    yield from (Finding(True, line) for line in table_of(store, table))
 
 
 def sources(store: Store) -> Iterator[str]:
@@ -99,7 +99,7 @@ def seeds(store: Store) -> Iterator[str]:
     copies, drawn_from = copies_of(store), {season.rules.seed for season in seasons(store)}
     for hashes, seed in store.rows("SELECT hashes, seed FROM seating"):
         keys = [*possible(hashes.split(","), copies)] if {*hashes.split(",")} <= copies.keys() else []
-        if int(seed) not in {seats.drawn(it, key) for it in drawn_from for key in keys}:
+        if int(seed) not in {seats.drawn(of_season, key) for of_season in drawn_from for key in keys}:
             yield f"the seed {seed} is not that of {hashes}"
 
 
@@ -107,7 +107,7 @@ def table_of(store: Store, table: str) -> Iterator[str]:
     """Rows of tables that the results don't come to: of the last season's, and of those with which others ended."""
     last = seasons(store)[-1]
     for season in seasons(store):
-        ours = standings(Schedule(field(store, season)), Results(store, season.rules))
+        ours = standings(*scheduled(store, season))
         if season == last:
             theirs, wanted = table, tables.comma(ours)
             if publications.scale(store) != publications.SCALE:
@@ -120,7 +120,7 @@ def table_of(store: Store, table: str) -> Iterator[str]:
 
 def ended_table(store: Store, season: Season, ours: list[Standing]) -> Iterator[str]:
     """Rows of the table with which a season ended. Ratings of another scale aren't compared."""
-    them = [it for it in publications.every(store) if it.season == season.number and it.final]
+    them = [publication for publication in publications.every(store) if publication.season == season.number and publication.final]
     if not them:
         yield f"the season {season.name} ended without a table"
         return
@@ -160,7 +160,7 @@ def record(store: Store, run: Run) -> Record:
     """What plays a run again."""
     hashes, seed, cycles, profile, by = store.one(
         "SELECT hashes, seed, cycles, profile, program FROM seating WHERE number = ?", run.seating)
-    robots = tuple(Robot(it, it) for it in hashes.split(","))
+    robots = tuple(Robot(sha256, sha256) for sha256 in hashes.split(","))
     many = len(robots)
     settings = Settings(run.first + RUN, cycles, int(seed), profile, by, many, (many,))
     return Record(settings, Series(tuple(range(many)), int(seed), run.first, len(run.matches)), robots)
@@ -182,8 +182,8 @@ def recompiled(store: Store, found: Program) -> Iterator[str]:
 def replayed(store: Store, found: Program, given: argparse.Namespace, runs: list[Run]) -> Iterator[str]:
     """The matches of these runs that end otherwise now."""
     records = [record(store, run) for run in runs]
-    by_series = {(it.robots, it.series): run for it, run in zip(records, runs)}
-    for by in sorted({it.settings.program for it in records} - {found.sha256}):
+    by_series = {(record.robots, record.series): run for record, run in zip(records, runs)}
+    for by in sorted({record.settings.program for record in records} - {found.sha256}):
         ours, theirs = named(version(found.sha256), found.sha256), named(versions(store).get(by, ""), by)
         say(given.script, f"{found.path} is {ours}, and matches of the archive are by {theirs}")
     progress = Progress(len(records), given.quiet, given.script)
@@ -195,9 +195,9 @@ def replayed(store: Store, found: Program, given: argparse.Namespace, runs: list
             progress.glance()
 
         with closing(Player(found, given.jobs, folder).play(records, glance)) as played:
-            for it in played:
-                progress.count(it.series.matches)
-                yield from changed(it, by_series[it.robots, it.series])
+            for now in played:
+                progress.count(now.series.matches)
+                yield from changed(now, by_series[now.robots, now.series])
     progress.clear()
 
 
@@ -220,6 +220,6 @@ def changed(now: Record, run: Run) -> Iterator[str]:
                    f"-l{now.settings.cycles} -s{now.series.seed} -p{now.settings.profile} -f{number} {robots}")
 
 
-def said(it: Match) -> str:
+def said(match: Match) -> str:
     """How a match ended, as a record says it."""
-    return ":".join(map(str, (it.cycles, *it.damage)))
+    return ":".join(map(str, (match.cycles, *match.damage)))

@@ -6,7 +6,7 @@ import argparse
 import os
 import re
 from dataclasses import replace
-from typing import Any, Iterable
+from typing import Any, Callable, Iterable
 from urllib.parse import urlsplit
 
 from sites.addresses import page as address
@@ -26,6 +26,8 @@ SHOWN, HIDDEN = "shown", "hidden"
 DIVISIONS_MAX = 100
 CORRECTED = (ENTRY, BEGIN, END)
 TEXT_MAX = 200
+# What adds words to those that a command takes.
+Takes = Callable[[argparse._ActionsContainer], object]
 
 
 def mode(text: str) -> dict[str, Any]:
@@ -57,9 +59,9 @@ def points(text: str) -> dict[str, Any]:
     return {"win": str(win), "tie": str(tie)}
 
 
-def of_rules(it: argparse.ArgumentParser) -> None:
+def of_rules(parser: argparse._ActionsContainer) -> None:
     """The words by which a season's rules are given."""
-    rules = it.add_argument_group("rules")
+    rules = parser.add_argument_group("rules")
     one = rules.add_argument
     one("--mode", metavar="MODE", type=mode, help=f"who plays whom: {MODES} (default pairs)")
     one("-m", dest="matches", metavar="MATCHES", type=within(1, MOST_MATCHES),
@@ -73,7 +75,7 @@ def of_rules(it: argparse.ArgumentParser) -> None:
     one("--sources", metavar="shown|hidden", choices=(SHOWN, HIDDEN),
         help="show sources, or those of new robots only when the season has ended (default shown)")
     one("--anchor", metavar="ROBOT=RATING", type=anchor, help="the robot with a fixed rating, or none (default none)")
-    of_program(rules)
+    PROGRAM(rules)
 
 
 def ruled(before: Rules, given: argparse.Namespace) -> Rules:
@@ -89,30 +91,20 @@ def ruled(before: Rules, given: argparse.Namespace) -> Rules:
     return checked(replace(before, **changes))
 
 
-def checked(it: Rules) -> Rules:
+def checked(rules: Rules) -> Rules:
     """Refuses rules that don't go with each other."""
-    if it.sample and (it.mode not in (PAIRS, THREES, FOURS)):
+    if rules.sample and (rules.mode not in (PAIRS, THREES, FOURS)):
         raise Fault("a sample is one of pairs, threes or fours")
-    if it.sure and it.sizes != (2,):
+    if rules.sure and rules.sizes != (2,):
         raise Fault("only pairs are played until they are sure")
-    if it.divisions > 1 and it.mode in (LADDER, GAUNTLET):
-        raise Fault(f"a {it.mode} has no divisions")
-    return it
-
-
-def of_day(it: argparse.ArgumentParser) -> None:
-    it.add_argument("--day", metavar="YYYY-MM-DD", type=day, help="the day that is written down (default: today)")
-    it.add_argument("--future", action="store_true", help="take a day that is in the future")
-
-
-def of_reason(it: argparse.ArgumentParser) -> None:
-    it.add_argument("--why", metavar="TEXT", type=text, required=True, help="the reason, which stays in the history")
-    of_day(it)
+    if rules.divisions > 1 and rules.mode in (LADDER, GAUNTLET):
+        raise Fault(f"a {rules.mode} has no divisions")
+    return rules
 
 
 def text(said: str) -> str:
     """Reads a short text that can be shown."""
-    if not said.isprintable() or not 1 <= len(said) <= TEXT_MAX or any("\ud800" <= it <= "\udfff" for it in said):
+    if not said.isprintable() or not 1 <= len(said) <= TEXT_MAX or any("\ud800" <= letter <= "\udfff" for letter in said):
         raise argparse.ArgumentTypeError(f"{said!r} isn't a text of 1 to {TEXT_MAX} letters that can be shown")
     return said
 
@@ -125,21 +117,139 @@ def outside(said: str) -> str:
     return said.rstrip("/")
 
 
-def of_playing(it: argparse.ArgumentParser) -> None:
-    """The words of what plays."""
-    of_jobs(it)
-    it.add_argument("--quiet", action="store_true", help="don't say how far it is")
-    of_program(it)
+def word(*names: str, **how: Any) -> Takes:
+    """A word of a command line, as argparse has it."""
+    return lambda parser: parser.add_argument(*names, **how)
 
 
-def of_jobs(it: argparse.ArgumentParser) -> None:
-    it.add_argument("-j", dest="jobs", metavar="JOBS", type=within(1, 1024), default=os.cpu_count() or 1,
-                    help="programs at a time (default: the processors)")
+def either(*takes: Takes) -> Takes:
+    """Words of which one at most is given."""
+    def take(parser: argparse._ActionsContainer) -> None:
+        group = parser.add_mutually_exclusive_group()
+        for one in takes:
+            one(group)
+    return take
 
 
-def of_program(it: argparse._ActionsContainer) -> None:
-    it.add_argument("--crobots", metavar="PROGRAM",
-                    help="the program (default: crobots on the path, or the one installed or built with this script)")
+SEASON = word("--season", metavar="NAME", help="the season (default: the last one)")
+DAY = (word("--day", metavar="YYYY-MM-DD", type=day, help="the day that is written down (default: today)"),
+       word("--future", action="store_true", help="take a day that is in the future"))
+REASON = (word("--why", metavar="TEXT", type=text, required=True, help="the reason, which stays in the history"), *DAY)
+JOBS = word("-j", dest="jobs", metavar="JOBS", type=within(1, 1024), default=os.cpu_count() or 1,
+            help="programs at a time (default: the processors)")
+PROGRAM = word("--crobots", metavar="PROGRAM",
+               help="the program (default: crobots on the path, or the one installed or built with this script)")
+PLAYING = (JOBS, word("--quiet", action="store_true", help="don't say how far it is"), PROGRAM)
+AN_ID = word("--id", metavar="ID", help="the robot's id (default: the file's name without .r)")
+# The numbers among the terms of an open ladder.
+TERMS = {
+    "robots": (1000, "most robots of an author (default 3)"),
+    "versions": (10_000, "most versions that an author hands in within an hour (default 20)"),
+    "size": (65_536, "most bytes of a source (default 65536)"),
+    "grace": (366, "days of grace after the last day (default 0)"),
+    "trials": (10_000, "how many trials against robots of others an author may have within an hour (default 0)"),
+    "sign-up": (100_000, "how many authors there may be until nobody can sign up any more (default 0)"),
+    "floor": (1_000_000, "megabytes of the disk that stay free (default 100)"),
+    "quota": (1_000_000, "megabytes that the sources of an author may fill (default 20)"),
+}
+# The commands: what each does, and the words that it takes.
+COMMANDS: dict[str, tuple[str, tuple[Takes, ...]]] = {
+    "init": ("makes a league", (
+        word("--season", metavar="NAME", default="1", help="the name of its first season (default 1)"), of_rules, *DAY)),
+    "rules": ("says the rules of the season, and changes those that are given", (of_rules,)),
+    "add": ("lets robots join", (
+        AN_ID, word("--author", metavar="NAME", default="", help="who wrote them"), PROGRAM, *DAY,
+        word("robots", metavar="ROBOT", nargs="+", help="source files"))),
+    "take-in": ("takes robots from a folder that has a folder for each author", (
+        word("--authors", metavar="FILE", help="a table of comma-separated values, folder and author (default: the folders' names)"),
+        word("--all-or-none", action="store_true", help="take nothing if any file is faulty"), PROGRAM, *DAY,
+        word("folder", metavar="FOLDER", help="the folder with the authors' folders"))),
+    "change": ("gives a robot other bytes", (
+        word("id", metavar="ID", help="the robot's id"), word("robot", metavar="ROBOT", help="its source file"), PROGRAM, *DAY)),
+    "withdraw": ("lets robots leave; their matches are kept", (
+        word("ids", metavar="ID", nargs="+", help="robots' ids"), *DAY)),
+    "correct": ("takes the latest entry back, or gives it or the season another day", (
+        word("what", metavar="entry|begin|end", choices=CORRECTED, help="what is put right"),
+        word("--to", metavar="YYYY-MM-DD", type=day, help="the right day"), word("--undo", action="store_true", help="take it back"),
+        word("--last", metavar="N", type=within(1, 10_000), default=1, help="the latest N entries (default 1)"), *REASON)),
+    "play": ("plays what is missing", (
+        *PLAYING,
+        word("--piece", metavar="MATCHES", type=within(1, MOST_MATCHES),
+             help="most matches of one series (default: so that all processors are busy)"),
+        word("--plan", action="store_true", help="print what is missing as command lines, and play nothing"),
+        word("--chunk", metavar="N", type=within(1, 10_000), default=1, help="with --plan: at most N series a line (default 1)"), *DAY)),
+    "take": ("takes what the command lines of a plan wrote", (
+        word("files", metavar="FILE", nargs="*", help="what they wrote (default: standard input)"),
+        word("--worker", metavar="NAME", type=text, help="from where it comes (default: the file's name)"),
+        either(word("--check", action="store_true", help="play all of it again before it is taken (default: a part)"),
+               word("--unchecked", action="store_true", help="play nothing of it again")), JOBS, PROGRAM, *DAY)),
+    "drop": ("takes matches of the season back, which are played again", (
+        word("--worker", metavar="NAME", help="those that were taken from there"),
+        word("--played", metavar="YYYY-MM-DD", type=day, help="those of this day"),
+        word("--robot", metavar="ID", help="those of this robot"), *REASON)),
+    "season": ("lists the seasons, ends the one that goes on, or begins another", (
+        word("what", metavar="end|begin", nargs="?", choices=("end", "begin"), help="what to do (default: list them)"),
+        word("name", metavar="NAME", nargs="?", help="the name of the season that begins"),
+        word("--divisions", metavar="N", type=within(1, DIVISIONS_MAX), help="with begin: how many divisions (default: as before)"),
+        word("--move", metavar="N", type=within(0, 1000), default=2,
+             help="with begin: how many go up and down between divisions (default 2)"),
+        word("--unfinished", action="store_true", help="with end: though matches are missing"), of_rules, *DAY)),
+    "status": ("says how many robots there are and what is missing", ()),
+    "history": ("says what was ever done", ()),
+    "table": ("prints the table", (
+        SEASON,
+        either(word("--csv", action="store_true", help="print it as comma-separated values"),
+               word("--json", action="store_true", help="print it as JSON")),
+        word("--pairs", action="store_true", help="print what the sequential test says of each pair"))),
+    "publish": ("writes the league's site into a folder, and keeps the table of this day", (
+        word("site", metavar="DIR", help="the folder of the site"),
+        word("--title", metavar="TEXT", help="the site's title (default: the league's folder)"),
+        word("--page", metavar="URL", default="", type=address, help="the page that plays battles in a browser"),
+        word("--replays", metavar="N", type=within(0, 100_000), default=100,
+             help="make at most N new pages of matches, if crobots-trace is there (default 100)"),
+        word("--sums", metavar="N", type=within(0, 1000), default=10,
+             help="sum up at most N matches of each robot, if crobots-trace is there (default 10)"), JOBS, *DAY)),
+    "verify": ("replays matches of an archive, and compares", (
+        word("--all", action="store_true", help="replay all of its matches"),
+        word("--since", metavar="OLDER", default="",
+             help="say what was changed since an older archive, or since the hash of a publication"), *PLAYING,
+        word("number", metavar="N", nargs="?", type=within(1, 10**9), help="how many matches, drawn by chance (default 100)"),
+        word("archive", metavar="ARCHIVE", help="an archive that `publish` wrote"))),
+    "serve": ("lets authors hand in by a web page, plays, and shows the table", (
+        word("--address", metavar="ADDRESS", type=text, help="the address to listen at (default: this machine alone)"),
+        word("--public", action="store_true", help="listen at all addresses"),
+        word("--port", metavar="PORT", type=within(0, 65_535), default=8080, help="the port; 0 for any (default 8080)"),
+        word("--url", metavar="URL", type=outside,
+             help="the address by which readers reach it, as https://host/path, if a proxy is before it"),
+        word("--title", metavar="TEXT", help="the title of its pages (default: the league's folder)"),
+        word("--workbench", metavar="DIR", help="the folder of the page that plays in a browser "
+                                                "(default: the one built or installed with this script, if there is one)"), JOBS, PROGRAM)),
+    "invite": ("makes links by which authors join the open ladder", (
+        word("--author", metavar="NAME", default="", help="the author's name; one who is there gets a new link (default: a number)"),
+        word("--count", metavar="N", type=within(1, 10_000), help="make N authors (default 1)"),
+        word("--group", metavar="NAME", type=text, help="the name of their group"),
+        word("--withdraw", action="store_true", help="withdraw the link of this author"),
+        word("--url", metavar="URL", type=outside, default="http://127.0.0.1:8080",
+             help="the ladder's address, with which the links begin (default http://127.0.0.1:8080)"))),
+    "terms": ("says the terms of the open ladder, and changes those that are given", (
+        *(word(f"--{name}", metavar="N", type=within(0, most), help=about) for name, (most, about) in TERMS.items()),
+        word("--opens", metavar="YYYY-MM-DD", type=day, help="the first day of the hand-in"),
+        word("--closes", metavar="YYYY-MM-DD", type=day, help="the last day of the hand-in"),
+        word("--names", metavar="shown|hidden", choices=(SHOWN, HIDDEN), help="say the names of authors, or numbers (default shown)"),
+        word("--readers", metavar="all|author", choices=(ALL, AUTHOR), help="who may read a robot's source (default author)"))),
+    "final": ("plays a last season on a fresh seed, and prints each author's rungs and ranks", (
+        word("--announce", action="store_true", help="draw the seed, show its hash, and play nothing yet"),
+        word("--name", metavar="NAME", type=text, default="final", help="the name of its season (default final)"),
+        word("--early", action="store_true", help="begin it though robots are still handed in"),
+        word("--unfinished", action="store_true", help="end the season before it though matches are missing"),
+        word("--csv", action="store_true", help="print it as comma-separated values"),
+        word("-m", dest="matches", metavar="MATCHES", type=within(1, MOST_MATCHES), help="matches of each group (default: as before)"),
+        *PLAYING, lambda parser: parser.set_defaults(piece=None, day=None, future=False))),
+    "send": ("hands a robot in to an open ladder", (
+        AN_ID, word("url", metavar="URL", help="the author's link"), word("robot", metavar="ROBOT", help="the source file"))),
+}
+# Those that are given no league.
+WITHOUT = ("verify", "send")
 
 
 class Words:
@@ -151,15 +261,18 @@ class Words:
         self.parser.set_defaults(script=name)
         self.parser.add_version()
         self._commands = self.parser.add_subparsers(dest="command", metavar="COMMAND", required=True)
-        self._entries()
-        self._playing()
-        self._showing()
-        self._serving()
+        for command, (does, takes) in COMMANDS.items():
+            said = does[0].upper() + does[1:] + "."
+            parser = self._commands.add_parser(command, help=does, description=said, allow_abbrev=False)
+            if command not in WITHOUT:
+                parser.add_argument("league", metavar="LEAGUE", help="the league's folder")
+            for take in takes:
+                take(parser)
 
     @property
     def names(self) -> Iterable[str]:
         """The commands."""
-        return self._commands.choices
+        return COMMANDS
 
     def parse(self, arguments: list[str]) -> argparse.Namespace:
         """Reads the words. Options of a command and its other words may stand in any order."""
@@ -168,166 +281,3 @@ class Words:
             return self.parser.parse_args(arguments)
         given = argparse.Namespace(command=arguments[0], script=self.parser.get_default("script"))
         return command.parse_intermixed_args(arguments[1:], given)
-
-    def _command(self, name: str, does: str) -> Parser:
-        said = does[0].upper() + does[1:] + "."
-        it = self._commands.add_parser(name, help=does, description=said, allow_abbrev=False)
-        if name not in ("verify", "send"):
-            it.add_argument("league", metavar="LEAGUE", help="the league's folder")
-        return it
-
-    def _entries(self) -> None:
-        """Who plays, and by which rules."""
-        it = self._command("init", "makes a league")
-        it.add_argument("--season", metavar="NAME", default="1", help="the name of its first season (default 1)")
-        of_rules(it)
-        of_day(it)
-        of_rules(self._command("rules", "says the rules of the season, and changes those that are given"))
-        it = self._command("add", "lets robots join")
-        it.add_argument("--id", metavar="ID", help="the robot's id (default: the file's name without .r)")
-        it.add_argument("--author", metavar="NAME", default="", help="who wrote them")
-        of_program(it)
-        of_day(it)
-        it.add_argument("robots", metavar="ROBOT", nargs="+", help="source files")
-        self._handing_in()
-        it = self._command("change", "gives a robot other bytes")
-        it.add_argument("id", metavar="ID", help="the robot's id")
-        it.add_argument("robot", metavar="ROBOT", help="its source file")
-        of_program(it)
-        of_day(it)
-        it = self._command("withdraw", "lets robots leave; their matches are kept")
-        it.add_argument("ids", metavar="ID", nargs="+", help="robots' ids")
-        of_day(it)
-        it = self._command("correct", "takes the latest entry back, or gives it or the season another day")
-        it.add_argument("what", metavar="entry|begin|end", choices=CORRECTED, help="what is put right")
-        it.add_argument("--to", metavar="YYYY-MM-DD", type=day, help="the right day")
-        it.add_argument("--undo", action="store_true", help="take it back")
-        it.add_argument("--last", metavar="N", type=within(1, 10_000), default=1, help="the latest N entries (default 1)")
-        of_reason(it)
-
-    def _handing_in(self) -> None:
-        """Who plays, by folders."""
-        it = self._command("take-in", "takes robots from a folder that has a folder for each author")
-        it.add_argument("--authors", metavar="FILE",
-                        help="a table of comma-separated values, folder and author (default: the folders' names)")
-        it.add_argument("--all-or-none", action="store_true", help="take nothing if any file is faulty")
-        of_program(it)
-        of_day(it)
-        it.add_argument("folder", metavar="FOLDER", help="the folder with the authors' folders")
-
-    def _playing(self) -> None:
-        """What is played."""
-        it = self._command("play", "plays what is missing")
-        of_playing(it)
-        it.add_argument("--piece", metavar="MATCHES", type=within(1, MOST_MATCHES),
-                        help="most matches of one series (default: so that all processors are busy)")
-        it.add_argument("--plan", action="store_true", help="print what is missing as command lines, and play nothing")
-        it.add_argument("--chunk", metavar="N", type=within(1, 10_000), default=1,
-                        help="with --plan: at most N series a line (default 1)")
-        of_day(it)
-        it = self._command("take", "takes what the command lines of a plan wrote")
-        it.add_argument("files", metavar="FILE", nargs="*", help="what they wrote (default: standard input)")
-        it.add_argument("--worker", metavar="NAME", type=text, help="from where it comes (default: the file's name)")
-        how = it.add_mutually_exclusive_group()
-        how.add_argument("--check", action="store_true", help="play all of it again before it is taken (default: a part)")
-        how.add_argument("--unchecked", action="store_true", help="play nothing of it again")
-        of_jobs(it)
-        of_program(it)
-        of_day(it)
-        it = self._command("drop", "takes matches of the season back, which are played again")
-        it.add_argument("--worker", metavar="NAME", help="those that were taken from there")
-        it.add_argument("--played", metavar="YYYY-MM-DD", type=day, help="those of this day")
-        it.add_argument("--robot", metavar="ID", help="those of this robot")
-        of_reason(it)
-        it = self._command("season", "lists the seasons, ends the one that goes on, or begins another")
-        it.add_argument("what", metavar="end|begin", nargs="?", choices=("end", "begin"),
-                        help="what to do (default: list them)")
-        it.add_argument("name", metavar="NAME", nargs="?", help="the name of the season that begins")
-        it.add_argument("--divisions", metavar="N", type=within(1, DIVISIONS_MAX),
-                        help="with begin: how many divisions (default: as before)")
-        it.add_argument("--move", metavar="N", type=within(0, 1000), default=2,
-                        help="with begin: how many go up and down between divisions (default 2)")
-        it.add_argument("--unfinished", action="store_true", help="with end: though matches are missing")
-        of_rules(it)
-        of_day(it)
-
-    def _showing(self) -> None:
-        """What is shown."""
-        self._command("status", "says how many robots there are and what is missing")
-        self._command("history", "says what was ever done")
-        it = self._command("table", "prints the table")
-        it.add_argument("--season", metavar="NAME", help="the season (default: the last one)")
-        forms = it.add_mutually_exclusive_group()
-        forms.add_argument("--csv", action="store_true", help="print it as comma-separated values")
-        forms.add_argument("--json", action="store_true", help="print it as JSON")
-        it.add_argument("--pairs", action="store_true", help="print what the sequential test says of each pair")
-        it = self._command("publish", "writes the league's site into a folder, and keeps the table of this day")
-        it.add_argument("site", metavar="DIR", help="the folder of the site")
-        it.add_argument("--title", metavar="TEXT", help="the site's title (default: the league's folder)")
-        it.add_argument("--page", metavar="URL", default="", type=address, help="the page that plays battles in a browser")
-        it.add_argument("--replays", metavar="N", type=within(0, 100_000), default=100,
-                        help="make at most N new pages of matches, if crobots-trace is there (default 100)")
-        it.add_argument("--sums", metavar="N", type=within(0, 1000), default=10,
-                        help="sum up at most N matches of each robot, if crobots-trace is there (default 10)")
-        of_jobs(it)
-        of_day(it)
-        it = self._command("verify", "replays matches of an archive, and compares")
-        it.add_argument("--all", action="store_true", help="replay all of its matches")
-        it.add_argument("--since", metavar="OLDER", default="",
-                        help="say what was changed since an older archive, or since the hash of a publication")
-        of_playing(it)
-        it.add_argument("number", metavar="N", nargs="?", type=within(1, 10**9),
-                        help="how many matches, drawn by chance (default 100)")
-        it.add_argument("archive", metavar="ARCHIVE", help="an archive that `publish` wrote")
-
-    def _serving(self) -> None:
-        """The open ladder."""
-        it = self._command("serve", "lets authors hand in by a web page, plays, and shows the table")
-        it.add_argument("--address", metavar="ADDRESS", type=text, help="the address to listen at (default: this machine alone)")
-        it.add_argument("--public", action="store_true", help="listen at all addresses")
-        it.add_argument("--port", metavar="PORT", type=within(0, 65_535), default=8080, help="the port; 0 for any (default 8080)")
-        it.add_argument("--url", metavar="URL", type=outside, help="the address by which readers reach it, as https://host/path, if a proxy is before it")
-        it.add_argument("--title", metavar="TEXT", help="the title of its pages (default: the league's folder)")
-        it.add_argument("--workbench", metavar="DIR",
-                        help="the folder of the page that plays in a browser (default: the one built or installed with this script, if there is one)")
-        of_jobs(it)
-        of_program(it)
-        it = self._command("invite", "makes links by which authors join the open ladder")
-        it.add_argument("--author", metavar="NAME", default="", help="the author's name; one who is there gets a new link (default: a number)")
-        it.add_argument("--count", metavar="N", type=within(1, 10_000), help="make N authors (default 1)")
-        it.add_argument("--group", metavar="NAME", type=text, help="the name of their group")
-        it.add_argument("--withdraw", action="store_true", help="withdraw the link of this author")
-        it.add_argument("--url", metavar="URL", type=outside, default="http://127.0.0.1:8080", help="the ladder's address, with which the links begin (default http://127.0.0.1:8080)")
-        self._terms(self._command("terms", "says the terms of the open ladder, and changes those that are given"))
-        self._final(self._command("final", "plays a last season on a fresh seed, and prints each author's rungs and ranks"))
-        it = self._command("send", "hands a robot in to an open ladder")
-        it.add_argument("--id", metavar="ID", help="the robot's id (default: the file's name without .r)")
-        it.add_argument("url", metavar="URL", help="the author's link")
-        it.add_argument("robot", metavar="ROBOT", help="the source file")
-
-    def _final(self, it: Parser) -> None:
-        """The final of an open ladder."""
-        it.add_argument("--announce", action="store_true", help="draw the seed, show its hash, and play nothing yet")
-        it.add_argument("--name", metavar="NAME", type=text, default="final", help="the name of its season (default final)")
-        it.add_argument("--early", action="store_true", help="begin it though robots are still handed in")
-        it.add_argument("--unfinished", action="store_true", help="end the season before it though matches are missing")
-        it.add_argument("--csv", action="store_true", help="print it as comma-separated values")
-        it.add_argument("-m", dest="matches", metavar="MATCHES", type=within(1, MOST_MATCHES), help="matches of each group (default: as before)")
-        of_playing(it)
-        it.set_defaults(piece=None, day=None, future=False)
-
-    def _terms(self, it: Parser) -> None:
-        """The terms of a hand-in."""
-        for name, most, about in (
-                ("robots", 1000, "most robots of an author (default 3)"),
-                ("versions", 10_000, "most versions that an author hands in within an hour (default 20)"),
-                ("size", 65_536, "most bytes of a source (default 65536)"), ("grace", 366, "days of grace after the last day (default 0)"),
-                ("trials", 10_000, "how many trials against robots of others an author may have within an hour (default 0)"),
-                ("sign-up", 100_000, "how many authors there may be until nobody can sign up any more (default 0)"),
-                ("floor", 1_000_000, "megabytes of the disk that stay free (default 100)"),
-                ("quota", 1_000_000, "megabytes that the sources of an author may fill (default 20)")):
-            it.add_argument(f"--{name}", metavar="N", type=within(0, most), help=about)
-        it.add_argument("--opens", metavar="YYYY-MM-DD", type=day, help="the first day of the hand-in")
-        it.add_argument("--closes", metavar="YYYY-MM-DD", type=day, help="the last day of the hand-in")
-        it.add_argument("--names", metavar="shown|hidden", choices=(SHOWN, HIDDEN), help="say the names of authors, or numbers (default shown)")
-        it.add_argument("--readers", metavar="all|author", choices=(ALL, AUTHOR), help="who may read a robot's source (default author)")

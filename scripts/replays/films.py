@@ -5,23 +5,42 @@ lines of their sources are rows, too."""
 
 from __future__ import annotations
 
-import re
-from typing import Iterable, Sequence
+from typing import Callable, Iterable, Sequence
 
 from tools.faults import UNWRITTEN, Fault
+from tools.rules import MOST_ROBOTS
 from tools.sources import lines_of
 
 from .packing import Packer
 
 HEADER = "cycle robot kind a b c d e".split()
-# The values of each kind of row.
-KINDS = {
-    "name": r"\t[^\t]+", "at": r"(\t-?\d+){5}", "scan": r"(\t-?\d+){3}", "shot": r"(\t-?\d+){4}", "refused": r"(\t-?\d+){2}",
-    "burst": r"(\t-?\d+){2}", "hurt": r"(\t-?\d+){4}", "collision": r"(\t-?\d+){2}", "wall": r"\t-?\d+",
-    "restart": r"\t[^\t]+\t[^\t]+\t\d+", "death": "", "end": r"\t-?\d+", "stop": r"\t-?\d+",
-    "line": r"\t\d+\t[^\t]+", "asked": r"\t[a-z_]+(\t(-?\d+)?){2}\t-?\d+\t\d+",
+ROBOTS = {*map(str, range(1, MOST_ROBOTS + 1))}
+
+
+def is_number(value: str) -> bool:
+    return value.removeprefix("-").isdecimal()
+
+
+def may_be_number(value: str) -> bool:
+    return not value or is_number(value)
+
+
+# What the values of each kind of row have to be; of a text it is enough that it is there.
+KINDS: dict[str, list[Callable[[str], bool]]] = {
+    "name": [bool], "at": [is_number] * 5, "scan": [is_number] * 3, "shot": [is_number] * 4, "refused": [is_number] * 2,
+    "burst": [is_number] * 2, "hurt": [is_number] * 4, "collision": [is_number] * 2, "wall": [is_number],
+    "restart": [bool, bool, is_number], "death": [], "end": [is_number], "stop": [is_number], "line": [is_number, bool],
+    "asked": [bool, may_be_number, may_be_number, is_number, is_number],
 }
-ROW = re.compile(r"\d+\t[1-9]\t(" + "|".join(kind + values for kind, values in KINDS.items()) + ")")
+
+
+def is_row(fields: Sequence[str]) -> bool:
+    """Whether these are the fields of a row of a film: a cycle, a robot, a kind, and its values."""
+    if len(fields) < 3 or fields[2] not in KINDS:
+        return False
+    cycle, robot, kind, *values = fields
+    wanted = KINDS[kind]
+    return cycle.isdecimal() and robot in ROBOTS and len(values) == len(wanted) and all(fits(value) for fits, value in zip(wanted, values))
 
 
 class Film:
@@ -49,9 +68,9 @@ class Film:
 
     def _take(self, row: str) -> bool:
         """Takes a row; reports whether it is one of a film."""
-        if not ROW.fullmatch(row):
-            return False
         fields = row.split("\t")
+        if not is_row(fields):
+            return False
         robot, kind = int(fields[1]), fields[2]
         if kind == "name":
             self.names.append(fields[3])

@@ -50,7 +50,7 @@ def imported(path: str, names: str, place: str) -> str:
 
 def wrapped(path: str, is_last: bool) -> str:
     """A module as a function, whose result is a list of what it exports; that of the last module has names."""
-    body = EXPORT.sub(r"\1", IMPORT.sub(lambda it: f"const {{{imported(path, it[1], it[2])}}} = modules.{it[3]};", bare(text_of(path))))
+    body = EXPORT.sub(r"\1", IMPORT.sub(lambda found: f"const {{{imported(path, found[1], found[2])}}} = modules.{found[3]};", bare(text_of(path))))
     exports = ", ".join(exports_of(path))
     return f"modules.{name_of(path)} = (() => {{\n{body}return {f'{{{exports}}}' if is_last else f'[{exports}]'};\n}})();\n"
 
@@ -59,7 +59,7 @@ def all_wrapped(path: str) -> str:
     """A module, with those that it imports, each as a function that runs at once."""
     paths = in_order(os.path.normpath(path))
     assert len(set(map(name_of, paths))) == len(paths), paths
-    return "const modules = {};\n" + "".join(wrapped(it, it == paths[-1]) for it in paths)
+    return "const modules = {};\n" + "".join(wrapped(path, path == paths[-1]) for path in paths)
 
 
 def waiting_script(path: str) -> str:

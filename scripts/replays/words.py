@@ -45,8 +45,8 @@ class Asked:
 
 def read(words: list[str]) -> Asked:
     """Reads the words. What is wrong with values and files `trace` says."""
-    it = given(words, OPTIONS, ("--inside",)).some_files()
-    file = it.once("-o") or ""
-    if why := written_over(file, it.files):
+    found = given(words, OPTIONS, ("--inside",)).some_files()
+    file = found.once("-o") or ""
+    if why := written_over(file, found.files):
         raise Misuse(f"-o {why}")
-    return Asked(it.handed_on(but=("-o",)), number(it.last("-k", "-f")), it.files, file, it.flags)
+    return Asked(found.handed_on(but=("-o",)), number(found.last("-k", "-f")), found.files, file, found.flags)

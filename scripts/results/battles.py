@@ -30,7 +30,7 @@ class Match:
 def letters(died: Sequence[bool]) -> str:
     """What each robot did, by who died: the only one that lives has won, several have tied."""
     lived = "w" if len(died) - sum(died) == 1 else "t"
-    return "".join("l" if it else lived for it in died)
+    return "".join("l" if is_dead else lived for is_dead in died)
 
 
 def match(result: str) -> Match:
@@ -48,5 +48,8 @@ def endings(results: str) -> list[str]:
 @functools.lru_cache(1 << 16)
 def ending(damage: str) -> str:
     """What each robot did, of damage as 0:100; nothing if that can't be."""
-    ended = match(f"0:{damage}")
+    try:
+        ended = match(f"0:{damage}")
+    except ValueError:
+        return ""
     return ended.results if max(ended.damage) <= DEADLY else ""

@@ -19,7 +19,7 @@ Replays = AbstractSet[str]
 
 def card(lookup: Lookup, replays: Replays, heading: Markup, battle: Battle, up: str) -> Markup:
     """A match with its heading. Its replay is linked if it is one of those that there are."""
-    seats = tag("ol", *(seat(lookup, it, DID[letter], up) for it, letter in zip(battle.seats, battle.results)), class_="seats")
+    seats = tag("ol", *(in_seat(lookup, seat, DID[letter], up) for seat, letter in zip(battle.seats, battle.results)), class_="seats")
     return tag("article", heading, tag("p", ended(battle), class_="ended"), seats, ways(lookup, replays, battle, up),
                command(lookup, battle), class_="battle")
 
@@ -28,10 +28,10 @@ def ended(battle: Battle) -> str:
     return f"Match {battle.number}, {count(battle.cycles)} cycles"
 
 
-def seat(lookup: Lookup, it: Seat, did: str, up: str) -> Markup:
+def in_seat(lookup: Lookup, seat: Seat, did: str, up: str) -> Markup:
     """A robot in its seat, with its damage and what it did."""
-    return tag("li", tag("span", lookup.robot_link(it.robot, up)), tag("span", did, class_=f"did {did}"),
-               tag("span", charts.damage(it.damage), f" {it.damage} % damage", class_="hurt"))
+    return tag("li", tag("span", lookup.robot_link(seat.robot, up)), tag("span", did, class_=f"did {did}"),
+               tag("span", charts.damage(seat.damage), f" {seat.damage} % damage", class_="hurt"))
 
 
 def ways(lookup: Lookup, replays: Replays, battle: Battle, up: str) -> Markup:

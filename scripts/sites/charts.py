@@ -42,7 +42,7 @@ def upright(x: float, low: float, high: float, kind: str) -> Markup:
 
 def rating_scale(ratings: Sequence[Rating]) -> Scale:
     """The axis of all rows of a table."""
-    return scale([end for it in ratings for end in (it.low, it.high)], 8, ROW_WIDTH - 8)
+    return scale([end for rating in ratings for end in (rating.low, rating.high)], 8, ROW_WIDTH - 8)
 
 
 def rating_axis(axis: Scale) -> Markup:
@@ -50,10 +50,10 @@ def rating_axis(axis: Scale) -> Markup:
     return svg(ROW_WIDTH, 18, *(text(axis.at(tick), 13, whole(tick)) for tick in axis.ticks()), kind="axis")
 
 
-def rating_row(axis: Scale, it: Rating) -> Markup:
+def rating_row(axis: Scale, rating: Rating) -> Markup:
     """A rating as a dot on its interval. An arrow says that it goes on beyond the axis."""
     grid = [upright(axis.at(tick), 0, ROW_HEIGHT, "grid") for tick in axis.ticks()]
-    return svg(ROW_WIDTH, ROW_HEIGHT, *grid, *span(axis, it.low, it.value, it.high, ROW_HEIGHT / 2), kind="row")
+    return svg(ROW_WIDTH, ROW_HEIGHT, *grid, *span(axis, rating.low, rating.value, rating.high, ROW_HEIGHT / 2), kind="row")
 
 
 def span(axis: Scale, low: float, value: float, high: float, y: float) -> list[Markup]:
@@ -67,14 +67,6 @@ def span(axis: Scale, low: float, value: float, high: float, y: float) -> list[M
     if axis.holds(value):
         found.append(tag("circle", cx=axis.at(value), cy=y, r=4.5, class_="value"))
     return found
-
-
-def share_row(low: float, value: float, high: float, label: str) -> Markup:
-    """A share as a dot on its interval, on an axis from 0 to 100 %."""
-    axis = Scale(0, 100, 12, 348)
-    grid = [upright(axis.at(tick), 4, 30, "even" if tick == 50 else "grid") for tick in (0, 25, 50, 75, 100)]
-    numbers = [text(axis.at(tick), 44, f"{tick} %" if tick else "0") for tick in (0, 25, 50, 75, 100)]
-    return svg(366, 48, *grid, *numbers, *span(axis, 100 * low, 100 * value, 100 * high, 17), label=label, kind="axis")
 
 
 def parts(score: Score, width: int = 120, height: int = 12, label: str | None = None) -> Markup:
@@ -112,14 +104,14 @@ def over_time(found: Sequence[Stay], changes: Sequence[str], label: str) -> Mark
     """A rating over time with its interval, and a dotted line at each day of a new version.
 
     Each season has a line of its own, which begins at a line with its name, if there are several."""
-    days = [it.day for it in found]
+    days = [stay.day for stay in found]
     every = sorted({*days, *during(days, changes)})
     times = dict(zip(every, moments(every)))
     across = Scale(times[days[0]], max(times[days[-1]], times[days[0]] + 1), TIME_LEFT + 6, TIME_WIDTH - 14)
-    up = scale([end for it in found for end in it.place.rating[1:]], TIME_HEIGHT - TIME_BOTTOM, TIME_TOP)
+    up = scale([end for stay in found for end in stay.place.rating[1:]], TIME_HEIGHT - TIME_BOTTOM, TIME_TOP)
     xs = [across.at(times[day]) for day in days]
     new = [upright(across.at(times[day]), TIME_TOP, TIME_HEIGHT - TIME_BOTTOM, "change") for day in during(days, changes)]
-    parts = [[*part] for _, part in groupby(zip(xs, found), lambda it: it[1].season)]
+    parts = [[*part] for _, part in groupby(zip(xs, found), lambda dot: dot[1].season)]
     marks = [season_mark(part[0][0], part[0][1].season) for part in parts] if len(parts) > 1 else []
     return svg(TIME_WIDTH, TIME_HEIGHT, *levels(up), *first_and_last(days, xs), *new, *marks,
                *(of_season(up, part) for part in parts), label=label, kind="time axis")
@@ -127,9 +119,9 @@ def over_time(found: Sequence[Stay], changes: Sequence[str], label: str) -> Mark
 
 def of_season(up: Scale, part: Sequence[tuple[float, Stay]]) -> Markup:
     """The line of a season, with its band and its points."""
-    xs, ratings = [x for x, _ in part], [it.place.rating for _, it in part]
-    way = tag("polyline", points=" ".join(f"{x},{up.at(it.value)}" for x, it in zip(xs, ratings)), class_="way")
-    return joined(band(up, xs, ratings), way, *(point(x, up, it) for x, it in part))
+    xs, ratings = [x for x, _ in part], [stay.place.rating for _, stay in part]
+    way = tag("polyline", points=" ".join(f"{x},{up.at(rating.value)}" for x, rating in zip(xs, ratings)), class_="way")
+    return joined(band(up, xs, ratings), way, *(point(x, up, stay) for x, stay in part))
 
 
 def season_mark(x: float, season: str) -> Markup:
@@ -154,13 +146,13 @@ def first_and_last(days: Sequence[str], xs: Sequence[float]) -> list[Markup]:
 
 def band(up: Scale, xs: Sequence[float], ratings: Sequence[Rating]) -> Markup:
     """The intervals over time."""
-    above = [f"{x},{up.at(it.high)}" for x, it in zip(xs, ratings)]
-    below = [f"{x},{up.at(it.low)}" for x, it in zip(xs, ratings)]
+    above = [f"{x},{up.at(rating.high)}" for x, rating in zip(xs, ratings)]
+    below = [f"{x},{up.at(rating.low)}" for x, rating in zip(xs, ratings)]
     return tag("polygon", points=" ".join(above + below[::-1]), class_="interval")
 
 
-def point(x: float, up: Scale, it: Stay) -> Markup:
+def point(x: float, up: Scale, stay: Stay) -> Markup:
     """A rating of a day."""
-    value, low, high = it.place.rating
-    said = f"{it.day}: {whole(value)} ({whole(low)} to {whole(high)}), rank {it.place.rank}"
+    value, low, high = stay.place.rating
+    said = f"{stay.day}: {whole(value)} ({whole(low)} to {whole(high)}), rank {stay.place.rank}"
     return tag("circle", tag("title", said), cx=x, cy=up.at(value), r=3.5, class_="value")

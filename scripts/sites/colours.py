@@ -27,9 +27,9 @@ def colour(ends: tuple[Colour, Colour, Colour], at: int) -> Colour:
     return red, green, blue
 
 
-def light(it: Colour) -> float:
+def light(colour: Colour) -> float:
     """How light a colour is to the eye, from 0 to 1."""
-    parts = [part / 255 for part in it]
+    parts = [part / 255 for part in colour]
     red, green, blue = (part / 12.92 if part <= 0.04045 else math.pow((part + 0.055) / 1.055, 2.4) for part in parts)
     return 0.2126 * red + 0.7152 * green + 0.0722 * blue
 
@@ -42,11 +42,11 @@ def contrast(one: Colour, other: Colour) -> float:
 
 def ink(ground: Colour) -> Colour:
     """The ink with the most contrast to a ground."""
-    return max(INKS, key=lambda it: contrast(it, ground))
+    return max(INKS, key=lambda ink: contrast(ink, ground))
 
 
-def written(it: Colour) -> str:
-    return "#" + "".join(f"{part:02x}" for part in it)
+def written(colour: Colour) -> str:
+    return "#" + "".join(f"{part:02x}" for part in colour)
 
 
 def rules(ends: tuple[Colour, Colour, Colour]) -> str:

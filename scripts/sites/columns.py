@@ -64,9 +64,9 @@ def scores(first: int) -> list[Column[Scored]]:
 
 def robot(view: View, row: Standing) -> Markup:
     """A robot with its author."""
-    it = view.lookup.robots[row.robot]
-    by = tag("span", tag("bdi", named(it.author)), class_="author") if it.author else Markup("")
-    return joined(view.lookup.robot_link(row.robot, view.up), by, tag("span", "the code of another", class_="author") if it.copied else Markup(""))
+    robot = view.lookup.robots[row.robot]
+    by = tag("span", tag("bdi", named(robot.author)), class_="author") if robot.author else Markup("")
+    return joined(view.lookup.robot_link(row.robot, view.up), by, tag("span", "the code of another", class_="author") if robot.copied else Markup(""))
 
 
 def close(row: Standing) -> Markup:
@@ -135,17 +135,18 @@ PAIRS: list[Column[Pair]] = [
 
 def chosen(columns: Iterable[Column[Row]], *names: str) -> list[Column[Row]]:
     """The columns with these names."""
-    return [it for it in columns if it.name in names]
+    return [column for column in columns if column.name in names]
 
 
 def cells(view: View, columns: Iterable[Column[Row]], row: Row) -> list[str]:
     """A row's cells."""
-    return [it.cell(view, row) for it in columns if it.cell and it.is_there(view)]
+    return [column.cell(view, row) for column in columns if column.cell and column.is_there(view)]
 
 
 def heads(view: View, columns: Iterable[Column[Row]]) -> list[tuple[str, str | None]]:
     """The titles of columns, with their kinds."""
-    return [(it.title if isinstance(it.title, str) else it.title(view), it.kind) for it in columns if it.cell and it.is_there(view)]
+    shown = (column for column in columns if column.cell and column.is_there(view))
+    return [(column.title if isinstance(column.title, str) else column.title(view), column.kind) for column in shown]
 
 
 def tabled(view: View, columns: Sequence[Column[Row]], caption: str, rows: Iterable[Row], style: str = "") -> Markup:
@@ -156,6 +157,6 @@ def tabled(view: View, columns: Sequence[Column[Row]], caption: str, rows: Itera
 
 def written(lookup: Lookup, columns: Iterable[Column[Row]], rows: Iterable[Row]) -> str:
     """Comma-separated values, without what can't be shown."""
-    there = sorted(filter(lambda it: it.value, columns), key=lambda it: it.order)
-    text = comma_separated([[it.name for it in there], *([it.value(lookup, row) for it in there if it.value] for row in rows)])
+    there = sorted(filter(lambda column: column.value, columns), key=lambda column: column.order)
+    text = comma_separated([[column.name for column in there], *([column.value(lookup, row) for column in there if column.value] for row in rows)])
     return "\n".join(map(shown, text.split("\n")))

@@ -2,6 +2,7 @@
 
 from __future__ import annotations
 
+import functools
 import json
 from typing import Any, Iterable, Iterator
 
@@ -38,10 +39,10 @@ def everything(lookup: Lookup) -> str:
 def pieces(lookup: Lookup) -> Iterator[str]:
     """The same in pieces: a large league has much of it."""
     facts = lookup.facts
-    for at, (name, it) in enumerate(head(lookup).items()):
-        yield f"{',' if at else '{'}{json.dumps(name)}: {json.dumps(it)}\n"
+    for at, (name, value) in enumerate(head(lookup).items()):
+        yield f"{',' if at else '{'}{json.dumps(name)}: {json.dumps(value)}\n"
     lists: dict[str, Iterable[dict[str, Any]]] = {
-        "robots": (robot(lookup, it) for it in facts.robots),
+        "robots": map(functools.partial(robot, lookup), facts.robots),
         "table": map(standing, facts.standings),
         "pairs": map(pair, facts.pairs),
         "earlier": map(earlier, facts.earlier),
@@ -68,52 +69,52 @@ def head(lookup: Lookup) -> dict[str, Any]:
     }
 
 
-def score(it: Score) -> dict[str, int]:
-    return {"played": it.played, "won": it.won, "tied": it.tied, "lost": it.lost}
+def score(counts: Score) -> dict[str, int]:
+    return {"played": counts.played, "won": counts.won, "tied": counts.tied, "lost": counts.lost}
 
 
-def both(it: Score) -> dict[str, int]:
+def both(counts: Score) -> dict[str, int]:
     """The score of a pair."""
-    return {**score(it), "both_lost": it.both}
+    return {**score(counts), "both_lost": counts.both}
 
 
-def robot(lookup: Lookup, it: Robot) -> dict[str, Any]:
+def robot(lookup: Lookup, robot: Robot) -> dict[str, Any]:
     return {
-        "id": it.id, "name": it.name, "author": it.author, "withdrawn": it.withdrawn, "copied": it.copied or None,
-        "page": places.robot_page(it.id), "data": places.data_file(it.id),
-        "versions": [version(it, one) for one in it.versions],
-        "lost": [battle(lookup, one) for one in it.lost],
+        "id": robot.id, "name": robot.name, "author": robot.author, "withdrawn": robot.withdrawn, "copied": robot.copied or None,
+        "page": places.robot_page(robot.id), "data": places.data_file(robot.id),
+        "versions": [version(robot, one) for one in robot.versions],
+        "lost": [battle(lookup, one) for one in robot.lost],
     }
 
 
-def version(robot: Robot, it: Version) -> dict[str, Any]:
-    source = None if it.source is None else places.source_file(robot.id, it)
-    return {"sha256": it.sha256, "day": it.day, "source": source}
+def version(robot: Robot, version: Version) -> dict[str, Any]:
+    source = None if version.source is None else places.source_file(robot.id, version)
+    return {"sha256": version.sha256, "day": version.day, "source": source}
 
 
-def standing(it: Standing) -> dict[str, Any]:
-    return columns.data(NAMES, it)
+def standing(row: Standing) -> dict[str, Any]:
+    return columns.data(NAMES, row)
 
 
-def earlier(it: Table) -> dict[str, Any]:
+def earlier(table: Table) -> dict[str, Any]:
     places = {robot: {"rank": row.rank, "rating": row.rating.value, "low": row.rating.low, "high": row.rating.high, "division": row.division}
-              for robot, row in it.places.items()}
-    return {"day": it.day, "season": it.season, "table": places}
+              for robot, row in table.places.items()}
+    return {"day": table.day, "season": table.season, "table": places}
 
 
-def season(it: Season) -> dict[str, Any]:
-    return {"name": it.name, "begun": it.begun, "ended": it.ended, "rules": dict(it.rules), "divisions": it.divisions,
-            "page": places.season_page(it.name), "table": [*map(standing, it.standings)]}
+def season(season: Season) -> dict[str, Any]:
+    return {"name": season.name, "begun": season.begun, "ended": season.ended, "rules": dict(season.rules), "divisions": season.divisions,
+            "page": places.season_page(season.name), "table": [*map(standing, season.standings)]}
 
 
-def pair(it: Pair) -> dict[str, Any]:
-    return {"robot": it.one, "against": it.other, **both(it.score), "share": round(it.score.share, 4), "low": round(it.low, 4),
-            "high": round(it.high, 4), "verdict": it.decided.said, "page": places.pair_page(it.one, it.other)}
+def pair(pair: Pair) -> dict[str, Any]:
+    return {"robot": pair.one, "against": pair.other, **both(pair.score), "share": round(pair.score.share, 4), "low": round(pair.low, 4),
+            "high": round(pair.high, 4), "verdict": pair.decided.said, "page": places.pair_page(pair.one, pair.other)}
 
 
-def battle(lookup: Lookup, it: Battle) -> dict[str, Any]:
+def battle(lookup: Lookup, battle: Battle) -> dict[str, Any]:
     return {
-        "robots": [seat.robot for seat in it.seats], "damage": [seat.damage for seat in it.seats], "match": it.number,
-        "seed": it.seed, "cycles": it.cycles,
-        "command": commands.line(commands.again(lookup.facts.settings, it, lookup.files(it))),
+        "robots": [seat.robot for seat in battle.seats], "damage": [seat.damage for seat in battle.seats], "match": battle.number,
+        "seed": battle.seed, "cycles": battle.cycles,
+        "command": commands.line(commands.again(lookup.facts.settings, battle, lookup.files(battle))),
     }

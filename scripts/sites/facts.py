@@ -179,7 +179,7 @@ class Pair:
     @property
     def turned(self) -> Pair:
         """The same pair with its robots exchanged."""
-        seats = tuple(BySeat(it.against, it.seat, it.score.turned, it.series) for it in self.seats)
+        seats = tuple(BySeat(seat.against, seat.seat, seat.score.turned, seat.series) for seat in self.seats)
         return Pair(self.other, self.one, self.score.turned, 1 - self.high, 1 - self.low, seats, self.notable,
                     self.verdict and self.verdict.turned)
 

@@ -56,7 +56,7 @@ def order(settings: Settings, battle: Battle, robots: Sequence[tuple[str, bytes]
 
 def ways_back(battle: Battle) -> Iterator[tuple[str, str]]:
     """Where a replay leads back to: the page of its pair, if it has two robots, and the first page; with the words of the link."""
-    ids = [it.robot for it in battle.seats]
+    ids = [seat.robot for seat in battle.seats]
     if len(set(ids)) == len(ids) == 2:
         yield places.pair_page(*ids), "All matches of these two"
     yield places.INDEX, "All robots"
@@ -70,14 +70,14 @@ def made(orders: Mapping[str, Order], jobs: int) -> Iterator[tuple[str, bytes]]:
                 yield place, text
 
 
-def film(it: Order, before: Sequence[str] = ()) -> bytes:
+def film(order: Order, before: Sequence[str] = ()) -> bytes:
     """The page of a match, made by a child that these words run; nothing if it can't be played."""
     with tempfile.TemporaryDirectory(prefix="crobots-") as folder:
-        files = [written(folder, seat, name, source) for seat, (name, source) in enumerate(it.robots)]
+        files = [written(folder, seat, name, source) for seat, (name, source) in enumerate(order.robots)]
         python = [sys.executable, *(["-B"] if sys.dont_write_bytecode else []), "-c", REPLAY, LIBRARY]
-        ran = subprocess.run([*before, *python, *it.options, *files], stdin=subprocess.DEVNULL, stdout=subprocess.PIPE,
+        ran = subprocess.run([*before, *python, *order.options, *files], stdin=subprocess.DEVNULL, stdout=subprocess.PIPE,
                              stderr=subprocess.DEVNULL, check=False)
-        return b"" if ran.returncode else with_way_back(ran.stdout, it.back)
+        return b"" if ran.returncode else with_way_back(ran.stdout, order.back)
 
 
 def with_way_back(page: bytes, back: Iterable[tuple[str, str]]) -> bytes:

@@ -33,16 +33,16 @@ class Folder:
     def open(self) -> Iterator[None]:
         """Makes the folder if it isn't there, keeps it from another writer, and reads the list."""
         os.makedirs(self._path, exist_ok=True)
-        it = os.open(self._path, os.O_RDONLY | os.O_DIRECTORY | os.O_CLOEXEC)
+        folder = os.open(self._path, os.O_RDONLY | os.O_DIRECTORY | os.O_CLOEXEC)
         try:
-            fcntl.flock(it, fcntl.LOCK_EX)
+            fcntl.flock(folder, fcntl.LOCK_EX)
             with contextlib.suppress(FileNotFoundError), open(self.path(LIST), encoding="ascii") as file:
                 self.before = {*filter(is_place, file.read().splitlines())}
             shutil.rmtree(self.path(NEW), ignore_errors=True)
             yield
         finally:
             shutil.rmtree(self.path(NEW), ignore_errors=True)
-            os.close(it)
+            os.close(folder)
 
     def path(self, place: str) -> str:
         return os.path.join(self._path, *place.split("/"))

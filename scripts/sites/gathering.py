@@ -38,17 +38,17 @@ class Gathering:
         robots = [seat.robot for seat in battles[0].seats]
         for (seat, one), (against, other) in itertools.permutations(enumerate(robots, 1), 2):
             if self._rows[one] < self._rows[other]:
-                it = self._pairs[one, other]
+                pair = self._pairs[one, other]
                 more = by_seat(seat, against, score(battles, seat, against))
-                it.seats = with_more(it.seats, replace(more, series=series(battles)) if len(robots) == 2 else more)
-                it.notable = notables([*dict.fromkeys(known.battle for known in it.notable), *battles], one, other)
+                pair.seats = with_more(pair.seats, replace(more, series=series(battles)) if len(robots) == 2 else more)
+                pair.notable = notables([*dict.fromkeys(known.battle for known in pair.notable), *battles], one, other)
 
     def pairs(self) -> Iterator[Pair]:
         """All pairs, in the order of the table. What was added is given away."""
-        for key in sorted(self._pairs, key=lambda it: [self._rows[robot] for robot in it]):
-            it = self._pairs.pop(key)
-            total = added(known.score for known in it.seats)
-            yield Pair(*key, total, *interval(total), it.seats, it.notable)
+        for key in sorted(self._pairs, key=lambda robots: [self._rows[robot] for robot in robots]):
+            pair = self._pairs.pop(key)
+            total = added(known.score for known in pair.seats)
+            yield Pair(*key, total, *interval(total), pair.seats, pair.notable)
 
 
 class Losses:
@@ -69,13 +69,13 @@ class Losses:
 
     def of(self, robot: RobotId, most: int) -> tuple[Battle, ...]:
         """The shortest lost matches of a robot, one to each of the lowest ones in the table that survived it."""
-        found = sorted(self._lost[robot].items(), key=lambda it: -self._rows[it[0]])
+        found = sorted(self._lost[robot].items(), key=lambda item: -self._rows[item[0]])
         return tuple(dict.fromkeys(battle for _, battle in found))[:most]
 
 
 def score(battles: Iterable[Battle], seat: int, against: int) -> Score:
     """What the robot in one seat did to that in another."""
-    return between(Counter((it.seats[seat - 1].damage >= DEADLY, it.seats[against - 1].damage >= DEADLY) for it in battles))
+    return between(Counter((battle.seats[seat - 1].damage >= DEADLY, battle.seats[against - 1].damage >= DEADLY) for battle in battles))
 
 
 @functools.lru_cache(1 << 14)
@@ -86,25 +86,25 @@ def by_seat(seat: int, against: int, score: Score) -> BySeat:
 
 def with_more(seats: tuple[BySeat, ...], more: BySeat) -> tuple[BySeat, ...]:
     """The scores by seat, with one more, in the order of the seats."""
-    same = [it for it in seats if (it.seat, it.against) == (more.seat, more.against)]
-    one = by_seat(more.seat, more.against, added(it.score for it in (*same, more)))
-    if parts := joined(part for it in (*same, more) for part in it.series):
+    same = [seat for seat in seats if (seat.seat, seat.against) == (more.seat, more.against)]
+    one = by_seat(more.seat, more.against, added(seat.score for seat in (*same, more)))
+    if parts := joined(part for seat in (*same, more) for part in seat.series):
         one = replace(one, series=parts)
-    return tuple(sorted([*(it for it in seats if it not in same), one], key=lambda it: (it.seat, it.against)))
+    return tuple(sorted([*(seat for seat in seats if seat not in same), one], key=lambda seat: (seat.seat, seat.against)))
 
 
 def series(battles: Sequence[Battle]) -> tuple[Series, ...]:
     """Matches in the same seats as series, in the order of their seeds and numbers."""
-    return joined(Series(it.seed, it.number, 1) for it in battles)
+    return joined(Series(battle.seed, battle.number, 1) for battle in battles)
 
 
 def joined(them: Iterable[Series]) -> tuple[Series, ...]:
     """Series of which none goes on where another one ends."""
     found: list[Series] = []
-    for it in sorted(them):
+    for series in sorted(them):
         before = found[-1] if found else None
-        if before and (before.seed, before.first + before.matches) == (it.seed, it.first):
-            found[-1] = before._replace(matches=before.matches + it.matches)
+        if before and (before.seed, before.first + before.matches) == (series.seed, series.first):
+            found[-1] = before._replace(matches=before.matches + series.matches)
         else:
-            found.append(it)
+            found.append(series)
     return tuple(found)

@@ -43,22 +43,22 @@ def grid(lookup: Lookup) -> Markup:
     """The map as a table."""
     standings = lookup.facts.standings[:MOST]
     is_dense = len(standings) >= DENSE
-    columns = (column(lookup, at, it) for at, it in enumerate(standings, 1))
+    columns = (column(lookup, at, standing) for at, standing in enumerate(standings, 1))
     head = tag("tr", tag("th", "Robot", scope="col", class_="text"), *columns)
-    rows = [tag("tr", row_head(lookup, at, it), *(cell(lookup, it, other, is_dense) for other in standings))
-            for at, it in enumerate(standings, 1)]
+    rows = [tag("tr", row_head(lookup, at, standing), *(cell(lookup, standing, other, is_dense) for other in standings))
+            for at, standing in enumerate(standings, 1)]
     caption = "Share of each robot against each other"
     whole = tag("table", tag("caption", caption), tag("thead", head), tag("tbody", *rows), data_map="" if is_dense else None)
     return scrolling(whole, caption, "scroll heat dense" if is_dense else "scroll heat")
 
 
-def column(lookup: Lookup, at: int, it: Standing) -> Markup:
+def column(lookup: Lookup, at: int, standing: Standing) -> Markup:
     """The head of a column: a robot's place, with its name for who asks."""
-    return tag("th", tag("abbr", str(at), title=named(lookup.robots[it.robot].name)), scope="col")
+    return tag("th", tag("abbr", str(at), title=named(lookup.robots[standing.robot].name)), scope="col")
 
 
-def row_head(lookup: Lookup, at: int, it: Standing) -> Markup:
-    return tag("th", tag("span", f"{at} ", class_="place"), lookup.robot_link(it.robot, ""), scope="row", class_="text")
+def row_head(lookup: Lookup, at: int, standing: Standing) -> Markup:
+    return tag("th", tag("span", f"{at} ", class_="place"), lookup.robot_link(standing.robot, ""), scope="row", class_="text")
 
 
 def cell(lookup: Lookup, one: Standing, other: Standing, is_dense: bool) -> Markup:
@@ -81,5 +81,5 @@ def bare(step: int) -> Markup:
 
 def told(lookup: Lookup, pair: Pair) -> str:
     """The same in words."""
-    one, other = (named(lookup.robots[it].name) for it in (pair.one, pair.other))
+    one, other = (named(lookup.robots[robot].name) for robot in (pair.one, pair.other))
     return f"{one} against {other}: {percent(pair.score.share)}"

@@ -40,8 +40,8 @@ def matches(lookup: Lookup) -> int:
     """How many matches were played, if each had robots of one size; else what the pairs played."""
     facts = lookup.facts
     if len(facts.settings.sizes) == 1:
-        return sum(it.score.played for it in facts.standings) // facts.settings.sizes[0]
-    return sum(it.score.played for it in facts.pairs)
+        return sum(standing.score.played for standing in facts.standings) // facts.settings.sizes[0]
+    return sum(pair.score.played for pair in facts.pairs)
 
 
 def standings(lookup: Lookup) -> list[Markup]:
@@ -52,10 +52,10 @@ def standings(lookup: Lookup) -> list[Markup]:
 
 def tables(lookup: Lookup, every: Sequence[Standing], divisions: int, before: Table | None = None, up: str = "") -> list[Markup]:
     """The table of each division that has robots, under its name if there are several."""
-    view = View(lookup, up, charts.rating_scale([it.rating for it in every]), before, True)
+    view = View(lookup, up, charts.rating_scale([standing.rating for standing in every]), before, True)
     found = []
     for division in range(1, divisions + 1):
-        there = [it for it in every if it.division == division or divisions == 1]
+        there = [standing for standing in every if standing.division == division or divisions == 1]
         title, caption = (f"Division {division}", f"Table of division {division}") if divisions > 1 else ("", "Table")
         if there:
             body = tabled(view, STANDINGS, caption, there)
@@ -66,7 +66,7 @@ def tables(lookup: Lookup, every: Sequence[Standing], divisions: int, before: Ta
 def reading(lookup: Lookup) -> Markup:
     """What the columns mean."""
     facts = lookup.facts
-    said = [it.help for it in STANDINGS]
+    said = [column.help for column in STANDINGS]
     if facts.divisions > 1:
         said.append(" Ranks are those of the robot's division.")
     if before := lookup.before():
@@ -76,18 +76,18 @@ def reading(lookup: Lookup) -> Markup:
 
 def others(lookup: Lookup) -> Markup:
     """The robots that have no row."""
-    found = [it for it in lookup.facts.robots if lookup.standing(it.id) is None]
+    found = [robot for robot in lookup.facts.robots if lookup.standing(robot.id) is None]
     if not found:
         return Markup("")
-    left = [f", withdrawn on {it.withdrawn}" if it.withdrawn else "" for it in found]
-    items = [tag("li", lookup.robot_link(it.id, ""), when) for it, when in zip(found, left)]
+    left = [f", withdrawn on {robot.withdrawn}" if robot.withdrawn else "" for robot in found]
+    items = [tag("li", lookup.robot_link(robot.id, ""), when) for robot, when in zip(found, left)]
     return section("Robots that are not in the table", tag("ul", *items, class_="links"))
 
 
 def past(lookup: Lookup) -> Markup:
     """The seasons that ended."""
-    items = [tag("li", tag("a", tag("bdi", named(it.name)), href=places.season_page(it.name)), f", {it.begun} to {it.ended}")
-             for it in reversed(lookup.facts.seasons)]
+    items = [tag("li", tag("a", tag("bdi", named(season.name)), href=places.season_page(season.name)), f", {season.begun} to {season.ended}")
+             for season in reversed(lookup.facts.seasons)]
     return section("Past seasons", tag("ul", *items, class_="links")) if items else Markup("")
 
 

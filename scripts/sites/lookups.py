@@ -15,15 +15,15 @@ class Lookup:
 
     def __init__(self, facts: Facts) -> None:
         self.facts = facts
-        self.robots = {it.id: it for it in facts.robots}
-        self.standings = {it.robot: it for it in facts.standings}
-        self._rows = {it.robot: row for row, it in enumerate(facts.standings)}
-        self._pairs = {(it.one, it.other): it for it in facts.pairs}
+        self.robots = {robot.id: robot for robot in facts.robots}
+        self.standings = {standing.robot: standing for standing in facts.standings}
+        self._rows = {standing.robot: row for row, standing in enumerate(facts.standings)}
+        self._pairs = {(pair.one, pair.other): pair for pair in facts.pairs}
         self._links: dict[tuple[RobotId, str], Markup] = {}
         self._opponents: dict[RobotId, list[RobotId]] = {}
-        for it in facts.pairs:
-            self._opponents.setdefault(it.one, []).append(it.other)
-            self._opponents.setdefault(it.other, []).append(it.one)
+        for pair in facts.pairs:
+            self._opponents.setdefault(pair.one, []).append(pair.other)
+            self._opponents.setdefault(pair.other, []).append(pair.one)
 
     def row(self, robot: RobotId) -> int:
         """A robot's row in the table; of one without a row that after the last one."""
@@ -39,7 +39,7 @@ class Lookup:
 
     def opponents(self, robot: RobotId) -> list[Pair]:
         """The pairs of a robot from its side, in the order of the table."""
-        others = sorted(self._opponents.get(robot, ()), key=lambda it: (self.row(it), it))
+        others = sorted(self._opponents.get(robot, ()), key=lambda other: (self.row(other), other))
         return [pair for other in others if (pair := self.pair(robot, other))]
 
     def versions(self, battle: Battle) -> list[Version]:
@@ -59,7 +59,7 @@ class Lookup:
 
     def files(self, battle: Battle) -> list[str]:
         """The files of a match's robots on the site."""
-        return [places.source_file(seat.robot, it) for seat, it in zip(battle.seats, self.versions(battle))]
+        return [places.source_file(seat.robot, version) for seat, version in zip(battle.seats, self.versions(battle))]
 
     def browser(self, battle: Battle) -> str:
         """The address that opens a match in the browser's page; nothing if there is none."""
@@ -76,11 +76,11 @@ class Lookup:
 
     def history(self, robot: RobotId) -> list[Stay]:
         """Where a robot was in all tables, this one last."""
-        found = [Stay(it.day, it.season, it.places[robot]) for it in self.facts.earlier if robot in it.places]
+        found = [Stay(table.day, table.season, table.places[robot]) for table in self.facts.earlier if robot in table.places]
         now = self.standing(robot)
         return found + ([Stay(self.facts.day, self.facts.season, now)] if now else [])
 
     def before(self) -> Table | None:
         """The last earlier table of the same season, with which this one is compared."""
-        same = [it for it in self.facts.earlier if it.season == self.facts.season]
+        same = [table for table in self.facts.earlier if table.season == self.facts.season]
         return same[-1] if same else None

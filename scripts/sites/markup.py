@@ -42,8 +42,8 @@ def block(lines: Iterable[str]) -> Markup:
 
 def tag(element: str, *children: str, **attributes: str | int | float | None) -> Markup:
     """An element with its children. An attribute that is None is left out."""
-    found = "".join([f' {attribute(name)}="{escaped(it) if isinstance(it, str) else it}"'
-                     for name, it in attributes.items() if it is not None])
+    found = "".join([f' {attribute(name)}="{escaped(value) if isinstance(value, str) else value}"'
+                     for name, value in attributes.items() if value is not None])
     return Markup(f"<{element}{found}>" + ("" if element in VOID else f"{''.join(map(escaped, children))}</{element}>"))
 
 

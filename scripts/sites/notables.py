@@ -34,11 +34,11 @@ def notables(battles: Iterable[Battle], better: RobotId, worse: RobotId) -> tupl
     if not rows:
         return ()
     found = [
-        Notable("closest", min(rows, key=lambda it: (-it[1], *shortness(it[2])))[2]),
-        Notable("shortest", min((it for _, _, it in rows), key=shortness)),
-        Notable("longest", min((it for _, _, it in rows), key=lambda it: (-it.cycles, it.seed, it.number))),
+        Notable("closest", min(rows, key=lambda row: (-row[1], *shortness(row[2])))[2]),
+        Notable("shortest", min((battle for _, _, battle in rows), key=shortness)),
+        Notable("longest", min((battle for _, _, battle in rows), key=lambda battle: (-battle.cycles, battle.seed, battle.number))),
     ]
-    upsets = [it for it in rows if not it[0]]
+    upsets = [row for row in rows if not row[0]]
     if upsets:
-        found.append(Notable("greatest upset", min(upsets, key=lambda it: (it[1], *shortness(it[2])))[2]))
+        found.append(Notable("greatest upset", min(upsets, key=lambda row: (row[1], *shortness(row[2])))[2]))
     return tuple(found)

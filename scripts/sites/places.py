@@ -49,7 +49,7 @@ def replay_page(facts: Facts, battle: Battle, versions: Sequence[Version]) -> st
     """The page that plays a match. Its name says all that the page depends on, so that it has to be made only once."""
     settings = facts.settings
     said = [facts.program.sha256, settings.cycles, settings.profile, battle.number, battle.seed]
-    seats = [f"{file_name(seat.robot)} {it.sha256}" for seat, it in zip(battle.seats, versions)]
+    seats = [f"{file_name(seat.robot)} {version.sha256}" for seat, version in zip(battle.seats, versions)]
     return f"replays/{hashed(' '.join([*map(str, said), *seats]))[:20]}.html"
 
 

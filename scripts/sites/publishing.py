@@ -79,16 +79,16 @@ def chosen(lookup: Lookup, site: Folder, most: int) -> Wanted:
 def battles(lookup: Lookup) -> Iterator[Battle]:
     """All matches that the site names: lost ones in the order of the table, then those of pairs, the best first."""
     facts = lookup.facts
-    for robot in sorted(facts.robots, key=lambda it: lookup.row(it.id)):
+    for robot in sorted(facts.robots, key=lambda robot: lookup.row(robot.id)):
         yield from robot.lost
-    for pair in sorted(facts.pairs, key=lambda it: sorted(map(lookup.row, (it.one, it.other)), reverse=True)):
-        yield from (it.battle for it in pair.notable)
+    for pair in sorted(facts.pairs, key=lambda pair: sorted(map(lookup.row, (pair.one, pair.other)), reverse=True)):
+        yield from (notable.battle for notable in pair.notable)
 
 
 def older_archives(site: Folder, facts: Facts) -> list[str]:
     """The archives that were published before, which stay: whoever has one can see what was changed since."""
     now = places.archive_file(facts.archive) if facts.archive else ""
-    return sorted(it for it in site.before if it.startswith(places.ARCHIVES) and it != now and site.has(it))
+    return sorted(archive for archive in site.before if archive.startswith(places.ARCHIVES) and archive != now and site.has(archive))
 
 
 def files(lookup: Lookup, replays: set[str], older: Sequence[str]) -> dict[str, Content]:
@@ -98,8 +98,8 @@ def files(lookup: Lookup, replays: set[str], older: Sequence[str]) -> dict[str, 
         places.STYLE: style, places.TABLE: partial(data.table, lookup), places.PAIRS: partial(data.pairs, lookup),
         places.EVERYTHING: partial(data.everything, lookup), places.SETTINGS: partial(settings_page, lookup, older),
         **(data_pages(lookup, replays) if facts.pairs else {}),
-        **{places.robot_page(it.id): partial(robot_page, lookup, replays, it) for it in facts.robots},
-        **{places.season_page(it.name): partial(season_page, lookup, it) for it in facts.seasons},
+        **{places.robot_page(robot.id): partial(robot_page, lookup, replays, robot) for robot in facts.robots},
+        **{places.season_page(season.name): partial(season_page, lookup, season) for season in facts.seasons},
         places.MAP: partial(heat_map, lookup), places.INDEX: partial(index, lookup),
     }
     return {**sources(facts), **archive(facts), **{place: partial(encoded, make) for place, make in pages.items()}}
@@ -107,15 +107,15 @@ def files(lookup: Lookup, replays: set[str], older: Sequence[str]) -> dict[str, 
 
 def data_pages(lookup: Lookup, replays: set[str]) -> dict[str, Callable[[], str]]:
     """The page of all pairs, its script, and the data that this shows."""
-    data = {places.data_file(it.id): partial(robot_data.robot_data, lookup, replays, it) for it in lookup.facts.robots}
+    data = {places.data_file(robot.id): partial(robot_data.robot_data, lookup, replays, robot) for robot in lookup.facts.robots}
     return {places.SCRIPT: partial(text_of, "site.js"), **data, places.NAMES: partial(robot_data.names, lookup),
             places.PAIR: partial(pair_page, lookup)}
 
 
 def sources(facts: Facts) -> dict[str, Content]:
     """The sources of all versions that are known."""
-    return {places.source_file(robot.id, it): partial(bytes, it.source)
-            for robot in facts.robots for it in robot.versions if it.source is not None}
+    return {places.source_file(robot.id, version): partial(bytes, version.source)
+            for robot in facts.robots for version in robot.versions if version.source is not None}
 
 
 def archive(facts: Facts) -> dict[str, Content]:

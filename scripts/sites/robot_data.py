@@ -35,7 +35,7 @@ def names(lookup: Lookup) -> str:
     """The robots in the order of the table, those without a row last; and what all matches have in common."""
     facts = lookup.facts
     said = {"limit": facts.settings.cycles, "profile": facts.settings.profile, "page": facts.page if is_page(facts.page) else ""}
-    rows = [written([file_name(it.id), named(it.name)]) for it in sorted(facts.robots, key=lambda it: (lookup.row(it.id), it.id))]
+    rows = [written([file_name(robot.id), named(robot.name)]) for robot in sorted(facts.robots, key=lambda robot: (lookup.row(robot.id), robot.id))]
     return handed("", f'{written(said)[:-1]},"robots":[\n{lines(rows)}]}}')
 
 
@@ -44,13 +44,13 @@ def lines(rows: Sequence[str]) -> str:
     return ",\n".join(rows) + "\n" * bool(rows)
 
 
-def robot_data(lookup: Lookup, replays: Replays, it: Robot) -> str:
+def robot_data(lookup: Lookup, replays: Replays, robot: Robot) -> str:
     """A robot's data: its source, and its pairs by the other robots' files."""
-    last = it.versions[-1] if it.versions else None
+    last = robot.versions[-1] if robot.versions else None
     source = sources.text(last.source) if last and last.source is not None else None
-    head = {"file": places.source_file(it.id, last) if last else "", "name": shown(it.name), "source": source}
-    rows = sorted(f"{written(file_name(pair.other))}:{written([*of_pair(lookup, replays, pair)])}" for pair in lookup.opponents(it.id))
-    return handed(file_name(it.id), f'{written(head)[:-1]},"pairs":{{\n{lines(rows)}}}}}')
+    head = {"file": places.source_file(robot.id, last) if last else "", "name": shown(robot.name), "source": source}
+    rows = sorted(f"{written(file_name(pair.other))}:{written([*of_pair(lookup, replays, pair)])}" for pair in lookup.opponents(robot.id))
+    return handed(file_name(robot.id), f'{written(head)[:-1]},"pairs":{{\n{lines(rows)}}}}}')
 
 
 def of_pair(lookup: Lookup, replays: Replays, pair: Pair) -> Iterator[Any]:
@@ -60,37 +60,37 @@ def of_pair(lookup: Lookup, replays: Replays, pair: Pair) -> Iterator[Any]:
     yield [round(pair.low, 4), round(pair.high, 4)]
     yield [said.what, said.matches] if said.matches else [said.what]
     if places.has_details(pair.one, pair.other):
-        yield [of_seats(it) for it in sorted(pair.seats, key=lambda it: (it.seat, it.against))]
+        yield [of_seats(seat) for seat in sorted(pair.seats, key=lambda seat: (seat.seat, seat.against))]
         yield [[bits, *of_battle(lookup, replays, battle, (pair.one, pair.other))] for bits, battle in merged(pair.notable)]
 
 
-def of_seats(it: BySeat) -> list[int | str]:
+def of_seats(seat: BySeat) -> list[int | str]:
     """The seats of a pair's robots, the first one's score from there, and of each series the seed, the first number and how many it has."""
     series: list[int | str] = []
-    for one in it.series:
+    for one in seat.series:
         series += [str(one.seed), one.first, one.matches]
-    return [it.seat, it.against, *numbers(it.score), *series]
+    return [seat.seat, seat.against, *numbers(seat.score), *series]
 
 
-def numbers(it: Score) -> list[int]:
-    return [it.won, it.tied, it.lost, it.both]
+def numbers(score: Score) -> list[int]:
+    return [score.won, score.tied, score.lost, score.both]
 
 
-def merged(notable: Sequence[Notable]) -> list[tuple[int, Battle]]:
+def merged(notables: Sequence[Notable]) -> list[tuple[int, Battle]]:
     """Each match once, with all that it is."""
     found: dict[Battle, int] = {}
-    for it in notable:
-        found[it.battle] = found.get(it.battle, 0) | 1 << WHAT.index(it.what)
+    for notable in notables:
+        found[notable.battle] = found.get(notable.battle, 0) | 1 << WHAT.index(notable.what)
     return [(bits, battle) for battle, bits in found.items()]
 
 
-def of_battle(lookup: Lookup, replays: Replays, it: Battle, pair: tuple[RobotId, RobotId]) -> Iterator[Any]:
+def of_battle(lookup: Lookup, replays: Replays, battle: Battle, pair: tuple[RobotId, RobotId]) -> Iterator[Any]:
     """A match: its robots with their damages, its number, seed and cycles, and its replay if there is one.
 
     The robots of the pair are 0 and 1, others are named by their files. A seed is a text: numbers of scripts are too short for it."""
-    yield [part for seat in it.seats for part in (seated(seat.robot, pair), seat.damage)]
-    yield from (it.number, str(it.seed), it.cycles)
-    if replays and (place := lookup.replay(it)) in replays:
+    yield [part for seat in battle.seats for part in (seated(seat.robot, pair), seat.damage)]
+    yield from (battle.number, str(battle.seed), battle.cycles)
+    if replays and (place := lookup.replay(battle)) in replays:
         yield place
 
 

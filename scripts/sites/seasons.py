@@ -13,9 +13,9 @@ from .numbers import counted
 from .tables import listed
 
 
-def season_page(lookup: Lookup, it: Season) -> str:
+def season_page(lookup: Lookup, season: Season) -> str:
     """The page of a season."""
-    place, title = places.season_page(it.name), f"Season {named(it.name)}"
-    lead = tag("p", f"{it.begun} to {it.ended} · {counted(len(it.standings), 'robot')}", class_="lead")
-    shown = tables(lookup, it.standings, it.divisions, None, above(place)) if it.standings else []
-    return page(lookup, place, title, tag("h1", "Season ", tag("bdi", named(it.name))), lead, *shown, section("Rules", listed(it.rules)))
+    place, title = places.season_page(season.name), f"Season {named(season.name)}"
+    lead = tag("p", f"{season.begun} to {season.ended} · {counted(len(season.standings), 'robot')}", class_="lead")
+    shown = tables(lookup, season.standings, season.divisions, None, above(place)) if season.standings else []
+    return page(lookup, place, title, tag("h1", "Season ", tag("bdi", named(season.name))), lead, *shown, section("Rules", listed(season.rules)))

@@ -27,22 +27,22 @@ def settings_page(lookup: Lookup, older: Sequence[str] = ()) -> str:
 
 def before(older: Sequence[str]) -> Markup:
     """Links to the archives that were published before, the last one first."""
-    items = [tag("li", tag("a", it.rpartition("/")[2], href=it, download=it.rpartition("/")[2])) for it in reversed(older)]
+    items = [tag("li", tag("a", archive.rpartition("/")[2], href=archive, download=archive.rpartition("/")[2])) for archive in reversed(older)]
     return section("Older archives", tag("ul", *items, class_="links")) if items else Markup("")
 
 
 def rules(lookup: Lookup) -> Markup:
-    it = lookup.facts.settings
+    settings = lookup.facts.settings
     return section("Matches", listed([
-        ("Played as", ", ".join(SIZE_NAMES[size] for size in it.sizes)), ("Matches of a group", count(it.matches)),
-        ("Cycles of a match, at most", count(it.cycles)), ("Seed", str(it.seed)),
-        ("Language profile", str(it.profile)), *it.more]))
+        ("Played as", ", ".join(SIZE_NAMES[size] for size in settings.sizes)), ("Matches of a group", count(settings.matches)),
+        ("Cycles of a match, at most", count(settings.cycles)), ("Seed", str(settings.seed)),
+        ("Language profile", str(settings.profile)), *settings.more]))
 
 
 def program(lookup: Lookup) -> Markup:
     """The program that played."""
-    it = lookup.facts.program
-    return section("Program", listed([("Version", shown(it.version)), ("SHA-256 of its file", tag("code", it.sha256))]))
+    program = lookup.facts.program
+    return section("Program", listed([("Version", shown(program.version)), ("SHA-256 of its file", tag("code", program.sha256))]))
 
 
 def archive(lookup: Lookup) -> Markup:

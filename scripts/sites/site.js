@@ -34,10 +34,10 @@ const site = (() => {
     }
 
     /** Puts attributes and children into an element. Children may be texts; one that is null is left out. */
-    function filled(it, attributes, children) {
-        Object.entries(attributes).forEach(([name, value]) => it.setAttribute(name, value));
-        it.append(...children.filter(child => child !== null));
-        return it;
+    function filled(element, attributes, children) {
+        Object.entries(attributes).forEach(([name, value]) => element.setAttribute(name, value));
+        element.append(...children.filter(child => child !== null));
+        return element;
     }
 
     function made(name, attributes = {}, ...children) {
@@ -94,8 +94,8 @@ const site = (() => {
     function shareRow(low, value, high, label) {
         const at = part => tenth(12 + 336 * part);
         const ticks = [0, 25, 50, 75, 100];
-        const lines = ticks.map(it => drawn("line", {x1: at(it / 100), x2: at(it / 100), y1: 4, y2: 30, class: it === 50 ? "even" : "grid"}));
-        const numbers = ticks.map(it => drawn("text", {x: at(it / 100), y: 44, "text-anchor": "middle"}, it ? `${it} %` : "0"));
+        const lines = ticks.map(tick => drawn("line", {x1: at(tick / 100), x2: at(tick / 100), y1: 4, y2: 30, class: tick === 50 ? "even" : "grid"}));
+        const numbers = ticks.map(tick => drawn("text", {x: at(tick / 100), y: 44, "text-anchor": "middle"}, tick ? `${tick} %` : "0"));
         const wide = Math.max(tenth(at(high) - at(low)), 1);
         const span = drawn("rect", {x: at(low), y: 13, width: wide, height: 8, rx: 4, class: "interval"});
         const dot = drawn("circle", {cx: at(value), cy: 17, r: 4.5, class: "value"});
@@ -164,30 +164,30 @@ const site = (() => {
         return {one: second, other: first, score: turned(score), ...ends, verdict: [exchanged, matches], seats: other, notable, names: [first, second]};
     }
 
-    function scoreOf(it, one, other) {
-        const [won, tied, lost, both] = it.score;
+    function scoreOf(pair, one, other) {
+        const [won, tied, lost, both] = pair.score;
         const said = `${count(won)} won, ${count(tied)} tied, ${count(lost)} lost`;
-        const value = percent(share(it.score));
-        const within = `${percent(it.low)} to ${percent(it.high)}`;
+        const value = percent(share(pair.score));
+        const within = `${percent(pair.low)} to ${percent(pair.high)}`;
         const keys = [["won", won], ["tied", tied], ["lost", lost]].map(([what, many]) =>
             made("span", {class: `key ${what}`}, `${count(many)} ${what}`));
-        const bar = made("div", {}, parts(it.score, 360, 22, said), made("p", {class: "keys", "aria-hidden": "true"}, ...keys));
-        const axis = shareRow(it.low, share(it.score), it.high, `Share ${value}, from ${within}`);
+        const bar = made("div", {}, parts(pair.score, 360, 22, said), made("p", {class: "keys", "aria-hidden": "true"}, ...keys));
+        const axis = shareRow(pair.low, share(pair.score), pair.high, `Share ${value}, from ${within}`);
         return section("Score", made("p", {}, "From the side of ", bdi(one), ":"), made("div", {class: "bars"}, bar, axis), listed([
             ["Matches", count(won + tied + lost)],
             ["Won, tied, lost", said + (both ? `, of which both lost ${count(both)}` : "")],
             ["Share", `${value}, ${INTERVAL} ${within}`],
-            ["Verdict", verdict(it.verdict, one, other)],
+            ["Verdict", verdict(pair.verdict, one, other)],
         ]));
     }
 
-    function bySeat(it, one, other) {
-        if (!it.seats.length) {
+    function bySeat(pair, one, other) {
+        if (!pair.seats.length) {
             return null;
         }
         const of = name => made("span", {}, "Seat of ", bdi(name));
         const numbers = ["Played", "Won", "Tied", "Lost", "Share"].map(title => [title, "number"]);
-        const rows = it.seats.map(([seat, against, won, tied, lost, both]) => [
+        const rows = pair.seats.map(([seat, against, won, tied, lost, both]) => [
             ...[seat, against, won + tied + lost, won, tied, lost].map(count), percent(share([won, tied, lost, both])),
             parts([won, tied, lost])]);
         return section("By seat", table("Score by seat", [[of(one), "number"], [of(other), "number"], ...numbers, ["Results", ""]], rows));
@@ -199,13 +199,13 @@ const site = (() => {
     }
 
     function outcome(seats, {damage}) {
-        return damage >= DEAD ? "lost" : seats.filter(it => it.damage < DEAD).length === 1 ? "won" : "tied";
+        return damage >= DEAD ? "lost" : seats.filter(seat => seat.damage < DEAD).length === 1 ? "won" : "tied";
     }
 
-    function seatRow(seats, it, rows) {
-        const did = outcome(seats, it);
-        return made("li", {}, made("span", {}, robotLink(it.file, rows.get(it.file).name)), made("span", {class: `did ${did}`}, did),
-            made("span", {class: "hurt"}, damageBar(it.damage), ` ${it.damage} % damage`));
+    function seatRow(seats, seat, rows) {
+        const did = outcome(seats, seat);
+        return made("li", {}, made("span", {}, robotLink(seat.file, rows.get(seat.file).name)), made("span", {class: `did ${did}`}, did),
+            made("span", {class: "hurt"}, damageBar(seat.damage), ` ${seat.damage} % damage`));
     }
 
     /** Returns a text, deflated, as a link carries it. */
@@ -233,15 +233,15 @@ const site = (() => {
 
     /** Returns the command line that plays matches again. */
     function commandLine(all, seated, [seed, first, matches]) {
-        const words = ["crobots", `-f${first}`, `-m${matches}`, `-l${all.limit}`, `-s${seed}`, `-p${all.profile}`, ...seated.map(it => it.file)];
+        const words = ["crobots", `-f${first}`, `-m${matches}`, `-l${all.limit}`, `-s${seed}`, `-p${all.profile}`, ...seated.map(robot => robot.file)];
         const command = words.flatMap((word, at) => [at ? " " : null, made("span", {}, word)]);
         return made("pre", {class: "command"}, made("code", {}, ...command));
     }
 
     /** Returns the ways to all matches of a pair that nobody else was in: of each series of them what plays it again. */
-    function allMatches(all, data, it) {
-        const two = [it.one, it.other].map(file => data.get(file));
-        return two.some(one => one.source === null) ? [] : it.seats.flatMap(([seat, , , , , , ...series]) => {
+    function allMatches(all, data, pair) {
+        const two = [pair.one, pair.other].map(file => data.get(file));
+        return two.some(one => one.source === null) ? [] : pair.seats.flatMap(([seat, , , , , , ...series]) => {
             const seated = seat === 1 ? two : [...two].reverse();
             return Array.from({length: series.length / 3}, (_, at) => series.slice(3 * at, 3 * at + 3)).map(one => {
                 const [, first, matches] = one;
@@ -254,23 +254,23 @@ const site = (() => {
 
     function card(all, data, rows, names, [bits, flat, number, seed, cycles, replay]) {
         const seats = seatsOf(flat, names);
-        const seated = seats.map(it => data.get(it.file));
+        const seated = seats.map(seat => data.get(seat.file));
         const what = WHAT.filter((_, bit) => bits & 1 << bit).join(", ");
         const part = cycles > MOST_CYCLES ? `Watch its last ${count(MOST_CYCLES)} cycles` : "Watch the replay";
-        const areShown = seated.every(it => it.source !== null);
+        const areShown = seated.every(robot => robot.source !== null);
         const ways = [replay ? made("a", {href: up + replay, class: "button"}, part) : null,
             areShown ? browserLink(all, seated, [seed, number, 1], "Open it in the browser's page") : null];
         return made("article", {class: "battle"}, made("h3", {}, what.charAt(0).toUpperCase() + what.slice(1)),
             made("p", {class: "ended"}, `Match ${number}, ${count(cycles)} cycles`),
-            made("ol", {class: "seats"}, ...seats.map(it => seatRow(seats, it, rows))),
-            ways.some(it => it) ? made("p", {class: "ways"}, ...ways) : null,
+            made("ol", {class: "seats"}, ...seats.map(seat => seatRow(seats, seat, rows))),
+            ways.some(way => way) ? made("p", {class: "ways"}, ...ways) : null,
             areShown ? commandLine(all, seated, [seed, number, 1]) : null);
     }
 
     /** Returns the matches that are worth a look, and the ways to all others. */
-    function matches(all, data, rows, it) {
-        const cards = it.notable.map(one => card(all, data, rows, it.names, one)), series = allMatches(all, data, it);
-        const [won, tied, lost] = it.score, played = won + tied + lost, left = played - cards.length;
+    function matches(all, data, rows, pair) {
+        const cards = pair.notable.map(one => card(all, data, rows, pair.names, one)), series = allMatches(all, data, pair);
+        const [won, tied, lost] = pair.score, played = won + tied + lost, left = played - cards.length;
         const others = !cards.length ? "None of these matches was decided."
             : left ? `These are ${count(cards.length)} of ${count(played)} matches. The table above counts how the other ${count(left)} ended, too.` : "";
         const plays = "A command line plays its matches again, in a folder that has the site's folder ";
@@ -287,7 +287,7 @@ const site = (() => {
     /** Returns the two robots that the address names, in the order of their files; null if it names none. */
     function asked() {
         const files = location.hash.slice(1).split("/");
-        return files.length === 2 && files.every(it => FILE.test(it)) ? files.sort((a, b) => a < b ? -1 : 1) : null;
+        return files.length === 2 && files.every(file => FILE.test(file)) ? files.sort((a, b) => a < b ? -1 : 1) : null;
     }
 
     /** Returns the parts of the page of a pair; null if there is no such pair. */
@@ -296,14 +296,14 @@ const site = (() => {
         if (!Object.hasOwn(details.pairs, second)) {
             return null;
         }
-        const it = between(first, second, details, rows);
-        const others = it.notable.flatMap(one => seatsOf(one[1], it.names).map(seat => seat.file));
+        const pair = between(first, second, details, rows);
+        const others = pair.notable.flatMap(one => seatsOf(one[1], pair.names).map(seat => seat.file));
         const files = [...new Set([first, second, ...others])];
         const data = new Map(await Promise.all(files.map(async file => [file, await load(file)])));
-        const [one, other] = [it.one, it.other].map(file => rows.get(file).name);
+        const [one, other] = [pair.one, pair.other].map(file => rows.get(file).name);
         document.title = `${one} against ${other}${document.title.slice(document.title.indexOf(" · "))}`;
-        const heading = made("h1", {}, robotLink(it.one, one), " against ", robotLink(it.other, other));
-        return [heading, scoreOf(it, one, other), bySeat(it, one, other), matches(all, data, rows, it)].filter(part => part);
+        const heading = made("h1", {}, robotLink(pair.one, one), " against ", robotLink(pair.other, other));
+        return [heading, scoreOf(pair, one, other), bySeat(pair, one, other), matches(all, data, rows, pair)].filter(part => part);
     }
 
     /** Shows the pair that the address names. */
@@ -311,7 +311,7 @@ const site = (() => {
         const files = asked();
         const all = await load("");
         const rows = byFile(all);
-        const found = files && files.every(it => rows.has(it)) ? await pairParts(all, rows, ...files) : null;
+        const found = files && files.every(file => rows.has(file)) ? await pairParts(all, rows, ...files) : null;
         const links = made("a", {href: `${up}map.html`}, "All pairs");
         place.replaceChildren(...found ?? [made("h1", {}, "Pair"), made("p", {}, "There is no such pair on this site. ", links)]);
         place.dataset.shown = location.hash;
@@ -341,7 +341,7 @@ const site = (() => {
     function ofCell(cell) {
         const heads = [...cell.closest("tbody").rows].map(row => row.cells[0].querySelector("a"));
         const two = [heads[cell.parentNode.sectionRowIndex], heads[cell.cellIndex - 1]];
-        return two.map(it => ({file: it.getAttribute("href").replace(/^.*\/|\.html$/g, ""), name: it.textContent}));
+        return two.map(link => ({file: link.getAttribute("href").replace(/^.*\/|\.html$/g, ""), name: link.textContent}));
     }
 
     /** Lets each cell of the map lead to its pair, and name it. */
@@ -350,13 +350,13 @@ const site = (() => {
         map.addEventListener("click", event => {
             const cell = cellOf(event);
             if (cell) {
-                location.href = pairPage(...ofCell(cell).map(it => it.file));
+                location.href = pairPage(...ofCell(cell).map(robot => robot.file));
             }
         });
         map.addEventListener("mouseover", event => {
             const cell = cellOf(event);
             if (cell && !cell.title) {
-                cell.title = ofCell(cell).map(it => it.name).join(" against ");
+                cell.title = ofCell(cell).map(robot => robot.name).join(" against ");
             }
         });
     }
@@ -372,8 +372,8 @@ const site = (() => {
         addEventListener("hashchange", show);
         show();
     }
-    document.querySelectorAll("[data-opponents]").forEach(it => {
-        it.closest("details").addEventListener("toggle", () => showOpponents(it).catch(why => it.replaceChildren(`${why.message}.`)), {once: true});
+    document.querySelectorAll("[data-opponents]").forEach(place => {
+        place.closest("details").addEventListener("toggle", () => showOpponents(place).catch(why => place.replaceChildren(`${why.message}.`)), {once: true});
     });
     document.querySelectorAll("[data-map]").forEach(leadCells);
     return {take, count, percent, share, turned};

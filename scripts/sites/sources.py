@@ -5,18 +5,12 @@ from __future__ import annotations
 import re
 from typing import Iterator
 
+from tools.rules import MOST_NAME_BYTES, WORDS
+
 from .markup import Markup, block, escaped, joined, tag
 
-WORDS = {
-    "keyword": "if else while return",
-    "type": "int long auto register",
-    "builtin": "scan cannon drive damage speed loc_x loc_y rand sqrt sin cos tan atan",
-    "error": "for do break continue switch case default goto struct union typedef char float double static extern "
-             "short unsigned sizeof void",
-    "def": "main",
-}
-KINDS = {word: kind for kind, words in WORDS.items() for word in words.split()}
-MOST_NAME = 31
+STYLES = {"keyword": "keyword", "type": "type", "intrinsic": "builtin", "reserved": "error"}
+KINDS = {word: STYLES[kind] for kind, words in WORDS.items() for word in words.split()} | {"main": "def"}
 # What is after this byte isn't read.
 END = b"\x1a"
 TOKEN = re.compile(r"(?s)(?P<comment>/\*.*?(?:\*/|\Z))|(?P<number>[0-9]+)|(?P<name>[A-Za-z_][A-Za-z0-9_]*)|"
@@ -34,7 +28,7 @@ def tokens(source: bytes) -> Iterator[tuple[str, str]]:
     for found in TOKEN.finditer(text(read)):
         kind, piece = found.lastgroup or "", found[0]
         if kind == "name":
-            kind = "error" if len(piece) > MOST_NAME else KINDS.get(piece, "")
+            kind = "error" if len(piece) > MOST_NAME_BYTES else KINDS.get(piece, "")
         yield ("" if kind == "other" else kind), piece
     if end:
         yield "comment", text(end + rest)

@@ -16,11 +16,11 @@ def added(objects: str) -> Counter[str]:
     """The sums by what is summed up, of objects of which each is of a match and of one robot."""
     found: Counter[str] = Counter()
     for line in objects.splitlines():
-        for it in json.loads(line)["robots"]:
-            by = it["lost_by_shots_of"]
-            own = by[it["robot"] - 1]
-            found.update(fired=it["fired"], hit=it["hit"], took=sum(it["took_from"]), shots=sum(by) - own, own=own,
-                         walls=it["lost_by_walls"], collisions=it["lost_by_collisions"])
+        for robot in json.loads(line)["robots"]:
+            by = robot["lost_by_shots_of"]
+            own = by[robot["robot"] - 1]
+            found.update(fired=robot["fired"], hit=robot["hit"], took=sum(robot["took_from"]), shots=sum(by) - own, own=own,
+                         walls=robot["lost_by_walls"], collisions=robot["lost_by_collisions"])
     return found
 
 

@@ -27,17 +27,17 @@ def facts_of_tournament(
         sources: Mapping[str, bytes], standings: Sequence[Standing], records: Iterable[Record],
         page: str = "") -> Facts:
     """What the site of a tournament shows. The sources of robots are found by their hashes."""
-    names = {it.place: it.robot for it in standings}
-    places = {it.robot: row for row, it in enumerate(standings)}
+    names = {standing.place: standing.robot for standing in standings}
+    places = {standing.robot: row for row, standing in enumerate(standings)}
     gathering, losses = Gathering(places), Losses(places)
     for record in records:
         fought = [*battles(record, names)]
         gathering.add(fought)
         for battle in fought:
             losses.add(battle)
-    versions = [Version(it.sha256, sources.get(it.sha256)) for it in among]
-    robots = [SiteRobot(names[at], names[at], (it,), lost=losses.of(names[at], LOST))
-              for at, it in enumerate(versions)]
+    versions = [Version(robot.sha256, sources.get(robot.sha256)) for robot in among]
+    robots = [SiteRobot(names[at], names[at], (version,), lost=losses.of(names[at], LOST))
+              for at, version in enumerate(versions)]
     return Facts(
         title, rules(settings, scoring), Program(version(settings.program), settings.program), tuple(robots), tuple(standings),
         tuple(gathering.pairs()), points="points" if scoring.weights else "points a match", page=page)
@@ -66,10 +66,10 @@ def rules(settings: TournamentSettings, scoring: Weighed) -> Settings:
 def kept_sources(among: Iterable[Robot], folder: str = "") -> dict[str, bytes]:
     """The sources by their hashes: from the folder of copies, or from the robots' files that have still these bytes."""
     found: dict[str, bytes] = {}
-    for it in among:
-        source = read(os.path.join(folder, it.sha256) if folder else it.path)
-        if source is not None and hashlib.sha256(source).hexdigest() == it.sha256:
-            found[it.sha256] = source
+    for robot in among:
+        source = read(os.path.join(folder, robot.sha256) if folder else robot.path)
+        if source is not None and hashlib.sha256(source).hexdigest() == robot.sha256:
+            found[robot.sha256] = source
     return found
 
 

@@ -87,8 +87,8 @@ def happening(session: Session, mark: Mark) -> str:
     if mark.text == "hurt":
         return f", damage from {before.damage(session.robot)}% to {now.damage(session.robot)}%"
     if mark.text == "hit":
-        others = [it.number for it in now.robots if it.number != session.robot and it.damage > before.damage(it.number)]
-        return "".join(f", damage of {it} from {before.damage(it)}% to {now.damage(it)}%" for it in others)
+        others = [robot.number for robot in now.robots if robot.number != session.robot and robot.damage > before.damage(robot.number)]
+        return "".join(f", damage of {number} from {before.damage(number)}% to {now.damage(number)}%" for number in others)
     return ""
 
 

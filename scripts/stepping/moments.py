@@ -63,7 +63,7 @@ class Moment:
         """The value of a variable that the robot sees: of the innermost call, an external, or `FUNCTION.NAME`."""
         function, _, variable = name.rpartition(".")
         if function:
-            call = next((it for it in self.calls if it.function == function), None)
+            call = next((call for call in self.calls if call.function == function), None)
             return call.variables.get(variable) if call else None
         return self.locals().get(name, self.externals.get(name))
 
@@ -83,37 +83,37 @@ class Moment:
         """How many frames are open with the innermost call."""
         return self.calls[0].frames if self.calls else 1
 
-    def damage(self, robot: int) -> int:
+    def damage(self, number: int) -> int:
         """The damage of a robot."""
-        return next((it.damage for it in self.robots if it.number == robot), 0)
+        return next((robot.damage for robot in self.robots if robot.number == number), 0)
 
 
 def moment_of(rows: list[Row]) -> Moment:
     """The moment that rows say."""
-    it = Moment()
+    moment = Moment()
     for kind, *fields in rows:
-        take_row(it, kind, fields)
-    return it
+        take_row(moment, kind, fields)
+    return moment
 
 
-def take_row(it: Moment, kind: str, fields: Row) -> None:
+def take_row(moment: Moment, kind: str, fields: Row) -> None:
     """Takes a row: its kind, and the fields after it."""
     if kind == "cycle":
-        it.cycle, it.is_alive, it.is_over = int(fields[0]), fields[1] == "alive", fields[2] == "over"
+        moment.cycle, moment.is_alive, moment.is_over = int(fields[0]), fields[1] == "alive", fields[2] == "over"
     elif kind == "at":
-        it.line, it.column, it.function = int(fields[1]), int(fields[2]), fields[3]
+        moment.line, moment.column, moment.function = int(fields[1]), int(fields[2]), fields[3]
     elif kind == "instruction":
-        it.instruction = " ".join(fields).rstrip()
+        moment.instruction = " ".join(fields).rstrip()
     elif kind in ("asks", "restarts"):
-        setattr(it, kind, fields[0])
+        setattr(moment, kind, fields[0])
     elif kind == "asked":
-        it.asked = Question(int(fields[0]), fields[1], int(fields[2]))
+        moment.asked = Question(int(fields[0]), fields[1], int(fields[2]))
     elif kind == "stack":
-        it.stack = [int(word) for word in fields[0].split()]
+        moment.stack = [int(word) for word in fields[0].split()]
     elif kind == "robot":
-        it.robots.append(robot_of(fields))
+        moment.robots.append(robot_of(fields))
     else:
-        take_variable(it, kind, fields)
+        take_variable(moment, kind, fields)
 
 
 def robot_of(fields: Row) -> Robot:
@@ -122,11 +122,11 @@ def robot_of(fields: Row) -> Robot:
     return Robot(number, x, y, heading, speed, damage, fields[6] == "alive")
 
 
-def take_variable(it: Moment, kind: str, fields: Row) -> None:
+def take_variable(moment: Moment, kind: str, fields: Row) -> None:
     """Takes a row of a call, or of a variable."""
     if kind == "call":
-        it.calls.append(Call(int(fields[0]), int(fields[1]), fields[2]))
+        moment.calls.append(Call(int(fields[0]), int(fields[1]), fields[2]))
     elif kind == "local":
-        it.calls[-1].variables[fields[0]] = int(fields[1])
+        moment.calls[-1].variables[fields[0]] = int(fields[1])
     elif kind == "external":
-        it.externals[fields[0]] = int(fields[1])
+        moment.externals[fields[0]] = int(fields[1])

@@ -106,7 +106,7 @@ class Terminal:
             self._place = len(self._before)
             told = answer(self._session, line)
             # where the robot is stands above
-            self._said = [it for it in told if it not in telling.stop(self._session)]
+            self._said = [line for line in told if line not in telling.stop(self._session)]
 
 
 def show(session: Session) -> None:

@@ -50,5 +50,5 @@ class Asked:
 
 def read(words: list[str]) -> Asked:
     """Reads the words. What is wrong with values and files `crobots-debug` says."""
-    it = given(words, OPTIONS).some_files()
-    return Asked(it, it.once("-x"))
+    found = given(words, OPTIONS).some_files()
+    return Asked(found, found.once("-x"))

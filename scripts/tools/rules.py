@@ -1,4 +1,4 @@
-"""The rules of the game in numbers. Made by dev/rules of what crates/rules writes, and not changed by hand."""
+"""The rules of the game: numbers, and words. Made by dev/rules of what crates/rules writes, and not changed by hand."""
 
 MOST_FILES = 4
 MOST_MATCHES = 1000000
@@ -25,3 +25,22 @@ WALL_DAMAGE = 2
 KNOCK_DAMAGE = 2
 MOST_RANGE = 700
 LAST_RING = 400
+LAST_RING_DAMAGE = 3
+MIDDLE_RING = 200
+MIDDLE_RING_DAMAGE = 5
+INNER_RING = 50
+INNER_RING_DAMAGE = 10
+MOST_SPEED = 100
+TURNING_SPEED = 50
+ACCELERATION = 10
+NEAR = 10
+MOST_RESOLUTION = 10
+MISSILE_SPEED = 50
+MOST_MISSILES = 2
+MOST_RANDOM_LIMIT = 32767
+WORDS = {
+    "keyword": "else if return while",
+    "type": "auto int long register",
+    "reserved": "break case char continue default do double extern float for goto short sizeof static struct switch typedef union unsigned void",
+    "intrinsic": "scan cannon drive damage speed loc_x loc_y rand sqrt sin cos tan atan",
+}

@@ -29,7 +29,7 @@ def ladder() -> list[tuple[str, int]]:
 
 def of_level(level: int) -> list[str]:
     """The samples of a level."""
-    found = [path for path, it in ladder() if it == level]
+    found = [path for path, rung in ladder() if rung == level]
     if not found:
-        raise Fault(f"no sample is of level {level}; there are {', '.join(map(str, sorted({it for _, it in ladder()})))}")
+        raise Fault(f"no sample is of level {level}; there are {', '.join(map(str, sorted({rung for _, rung in ladder()})))}")
     return found

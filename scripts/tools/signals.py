@@ -44,10 +44,10 @@ class Watch:
 @contextlib.contextmanager
 def watch() -> Iterator[Watch]:
     """Takes the signals that aren't ignored, until what is done inside has ended."""
-    it = Watch()
-    before = {number: signal.signal(number, it.take) for number in heeded()}
+    watching = Watch()
+    before = {number: signal.signal(number, watching.take) for number in heeded()}
     try:
-        yield it
+        yield watching
     finally:
         for number, action in before.items():
             signal.signal(number, action)

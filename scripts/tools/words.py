@@ -61,34 +61,34 @@ class Given:
 
 def given(words: list[str], valued: Collection[str], flags: Collection[str] = ()) -> Given:
     """Reads the words; these options have values, and these don't."""
-    it, rest = Given(), [*words]
+    found, rest = Given(), [*words]
     while rest:
         word = rest.pop(0)
         if word == "--":
-            it.files += rest
-            return it
+            found.files += rest
+            return found
         if word.startswith("-") and word != "-":
-            take_option(it, word, rest, valued, (*FLAGS, *flags))
+            take_option(found, word, rest, valued, (*FLAGS, *flags))
         else:
-            it.files.append(word)
-    return it
+            found.files.append(word)
+    return found
 
 
-def take_option(it: Given, word: str, rest: list[str], valued: Collection[str], flags: Collection[str]) -> None:
+def take_option(given: Given, word: str, rest: list[str], valued: Collection[str], flags: Collection[str]) -> None:
     """Takes the word of an option, and the next one if that is its value."""
     name, value = parted(word)
     if name in flags and value is None:
-        if name in it.flags and name not in FLAGS:
+        if name in given.flags and name not in FLAGS:
             raise Misuse(f"{name} is given twice")
-        it.flags.add(name)
+        given.flags.add(name)
     elif name not in valued:
         raise Misuse(f"unknown option {word}{' (the match is -k)' if name == '-m' else ''}")
     elif value is None and not rest:
         raise Misuse(f"{name} lacks its value")
     else:
         words = (word,) if value is not None else (word, rest.pop(0))
-        it.options.append(Option(name, words[-1] if value is None else value, words))
-        if not it.options[-1].value:
+        given.options.append(Option(name, words[-1] if value is None else value, words))
+        if not given.options[-1].value:
             raise Misuse(f"{name} has an empty value")
 
 

@@ -64,11 +64,11 @@ def signed(value: float) -> str:
 def series_of_both(settings: Settings, among: list[Robot]) -> Iterator[Series]:
     """All matches of both versions with each other robot, and with each other."""
     each = settings.each(2)
-    for opponent, key in enumerate(keys([it.sha256 for it in among[2:]]), 2):
+    for opponent, key in enumerate(keys([robot.sha256 for robot in among[2:]]), 2):
         for seating in seatings(settings.seed, [CHALLENGER, key]):
             for version in (NEW, OLD):
                 yield Series(tuple((version, opponent)[at] for at in seating.order), seating.seed, 1, each)
-    for seating in seatings(settings.seed, keys([it.sha256 for it in among[:2]])):
+    for seating in seatings(settings.seed, keys([robot.sha256 for robot in among[:2]])):
         yield Series(seating.order, seating.seed, 1, each)
 
 
@@ -77,50 +77,50 @@ class Challenge:
 
     def __init__(self, given: argparse.Namespace, paths: list[str]) -> None:
         self._all = given.all
-        self._it = Versions(given, paths)
+        self._versions = Versions(given, paths)
 
     def add(self, record: Record) -> None:
-        self._it.add(record)
+        self._versions.add(record)
 
     def text(self, form: str) -> str:
         """The answer in a form."""
-        worth = {opponent: self._worth(opponent) for opponent in self._it.opponents}
-        best_first = dict(sorted(worth.items(), key=lambda it: -it[1].change().value))
-        whole = Worth([both for it in worth.values() for both in it.of_each])
+        worth = {opponent: self._worth(opponent) for opponent in self._versions.opponents}
+        best_first = dict(sorted(worth.items(), key=lambda item: -item[1].change().value))
+        whole = Worth([both for of_one in worth.values() for both in of_one.of_each])
         return {"csv": self._comma_separated, "json": self._everything, "table": self._told}[form](best_first, whole)
 
     def _told(self, worth: dict[int, Worth], whole: Worth) -> str:
         """What the change is worth, on which opponents, how both played each other, what was lost, and what changed if that is
         asked for."""
-        names = self._it.names
-        rows = [[names[opponent], *it.cells()] for opponent, it in worth.items()]
+        names = self._versions.names
+        rows = [[names[opponent], *of_one.cells()] for opponent, of_one in worth.items()]
         table = aligned([[AGAINST, *whole.values()], *rows, ["all", *whole.cells()]], (0,))
         changed = self._changed() if self._all else ""
         return table + self._said(worth, whole) + self._both() + self._lost() + changed
 
     def _comma_separated(self, worth: dict[int, Worth], whole: Worth) -> str:
         """The rows as comma-separated values, that of all opponents last."""
-        rows = [*((self._it.full_names[opponent], it) for opponent, it in worth.items()), ("all", whole)]
-        return comma_separated([[AGAINST, *whole.values()], *([name, *it.values().values()] for name, it in rows)])
+        rows = [*((self._versions.full_names[opponent], of_one) for opponent, of_one in worth.items()), ("all", whole)]
+        return comma_separated([[AGAINST, *whole.values()], *([name, *of_one.values().values()] for name, of_one in rows)])
 
     def _everything(self, worth: dict[int, Worth], whole: Worth) -> str:
         """All of it as JSON."""
-        it, did = self._it, [self._it.did(NEW, OLD, place) for place in self._it.places(OLD)]
-        names = it.full_names
+        versions, did = self._versions, [self._versions.did(NEW, OLD, place) for place in self._versions.places(OLD)]
+        names = versions.full_names
         said: dict[str, Any] = {
             "new": names[NEW], "old": names[OLD], "matches": len(whole.of_each[0][NEW]),
             "opponents": [{AGAINST: names[opponent], **of_one.values()} for opponent, of_one in worth.items()],
             "all": whole.values(), "each_other": {how: did.count(how) for how in DID.values()},
         }
         if self._all:
-            said["changed"] = [{AGAINST: names[opponent], **it.row(opponent, place)} for _, opponent, place in self._changes()]
+            said["changed"] = [{AGAINST: names[opponent], **versions.row(opponent, place)} for _, opponent, place in self._changes()]
         return json.dumps(said, indent=1) + "\n"
 
     def _said(self, worth: dict[int, Worth], whole: Worth) -> str:
         """The same in words."""
-        names = self._it.names
-        changes = sorted((it.change().value, names[opponent]) for opponent, it in worth.items() if it.change().is_sure)
-        gained = [name for change, name in sorted(changes, key=lambda it: (-it[0], it[1])) if change > 0]
+        names = self._versions.names
+        changes = sorted((of_one.change().value, names[opponent]) for opponent, of_one in worth.items() if of_one.change().is_sure)
+        gained = [name for change, name in sorted(changes, key=lambda row: (-row[0], row[1])) if change > 0]
         lost = [name for change, name in changes if change < 0]
         _, _, change, low, high = whole.cells()
         matches = len(whole.of_each[0][NEW])
@@ -131,44 +131,45 @@ class Challenge:
         )
 
     def _worth(self, opponent: int) -> Worth:
-        places = sorted(self._it.places(opponent))
-        new, old = ([self._it.points(version, opponent, place) for place in places] for version in (NEW, OLD))
+        places = sorted(self._versions.places(opponent))
+        new, old = ([self._versions.points(version, opponent, place) for place in places] for version in (NEW, OLD))
         return Worth([(new, old)])
 
     def _both(self) -> str:
         """What both versions did against each other."""
-        did = [self._it.did(NEW, OLD, place) for place in self._it.places(OLD)]
+        did = [self._versions.did(NEW, OLD, place) for place in self._versions.places(OLD)]
         counts = ", ".join(f"{how} {did.count(how)}" for how in DID.values())
-        return f"{self._it.names[NEW]} against {self._it.names[OLD]}: {counts} of {len(did)} matches\n"
+        return f"{self._versions.names[NEW]} against {self._versions.names[OLD]}: {counts} of {len(did)} matches\n"
 
     def _lost(self) -> str:
         """The match that the new version lost and in which the old one did best, of these the shortest, with a command that
         draws it."""
-        it, names = self._it, self._it.names
-        lost = [(-it.points(OLD, *match), it.cycles(NEW, *match), *match) for match in it.matches() if it.did(NEW, *match) == "lost"]
+        versions, names = self._versions, self._versions.names
+        lost = [(-versions.points(OLD, *match), versions.cycles(NEW, *match), *match)
+                for match in versions.matches() if versions.did(NEW, *match) == "lost"]
         if not lost:
             return f"{names[NEW]} lost no match\n"
         _, cycles, opponent, place = min(lost)
-        said = f"{it.called(opponent, place)}, in {cycles} cycles; {names[OLD]} {it.did(OLD, opponent, place)} it"
-        return f"worst lost match: {said}\n{it.showing('crobots-tracks', opponent, place)} > match.svg\n"
+        said = f"{versions.called(opponent, place)}, in {cycles} cycles; {names[OLD]} {versions.did(OLD, opponent, place)} it"
+        return f"worst lost match: {said}\n{versions.showing('crobots-tracks', opponent, place)} > match.svg\n"
 
     def _changed(self) -> str:
         """All matches that changed, those first that cost most, each with the commands that show it."""
-        matches, changed = self._it.matches(), self._changes()
+        matches, changed = self._versions.matches(), self._changes()
         lines = [line for number, (_, opponent, place) in enumerate(changed, 1) for line in self._change(number, opponent, place)]
         return "\n".join([f"{len(changed)} of {len(matches)} matches changed", *lines, ""])
 
     def _changes(self) -> list[tuple[float, int, Place]]:
         """The matches that changed, each with its gain, those first that cost most."""
-        return sorted((self._it.gain(*match), *match) for match in self._it.matches() if self._it.has_changed(*match))
+        return sorted((self._versions.gain(*match), *match) for match in self._versions.matches() if self._versions.has_changed(*match))
 
     def _change(self, number: int, opponent: int, place: Place) -> list[str]:
         """A match that changed, in words, and the commands that play it with both versions, compare these, and show it."""
-        it, match = self._it, (opponent, place)
-        did = [f"{it.names[version]} {it.did(version, *match)} it in {it.cycles(version, *match)} cycles" for version in (OLD, NEW)]
+        versions, match = self._versions, (opponent, place)
+        did = [f"{versions.names[version]} {versions.did(version, *match)} it in {versions.cycles(version, *match)} cycles" for version in (OLD, NEW)]
         return [
-            f"changed match: {it.called(*match)}; {', '.join(did)}", *(it.again(version, *match) for version in (OLD, NEW)),
-            it.comparing(*match), f"{it.showing('crobots-replay', *match)} > changed{number}.html",
+            f"changed match: {versions.called(*match)}; {', '.join(did)}", *(versions.again(version, *match) for version in (OLD, NEW)),
+            versions.comparing(*match), f"{versions.showing('crobots-replay', *match)} > changed{number}.html",
         ]
 
 
@@ -177,7 +178,7 @@ def challenge(name: str, arguments: list[str]) -> None:
     given = words.challenge(name).read(arguments)
     words.settle(given)
     both = [given.new, given.old]
-    field = [path for path in given.field if os.path.abspath(path) not in {os.path.abspath(it) for it in both}]
+    field = [path for path in given.field if os.path.abspath(path) not in {os.path.abspath(version) for version in both}]
     if not field:
         alone = commands.line(["crobots-tournament", *map(commands.dashless, both)])
         raise Fault(f"NEW and OLD are the only robots: `{alone}` plays them against each other, and a challenge needs another one")
@@ -191,8 +192,8 @@ def challenge(name: str, arguments: list[str]) -> None:
         settings = Settings(given.matches, given.cycles, given.seed, given.profile, program.sha256, len(among), (2,))
         tell_rounded(given, settings.sizes)
         only = tuple(series_of_both(settings, among))
-        most = max(1, -(-sum(it.matches for it in only) // (8 * given.jobs)))
-        it = Challenge(given, [robot.path for robot in among])
-        done = session(given, Player(program, given.jobs, folder), plans.Plan(settings, among, most, only), it.add)
+        most = max(1, -(-sum(series.matches for series in only) // (8 * given.jobs)))
+        answer = Challenge(given, [robot.path for robot in among])
+        done = session(given, Player(program, given.jobs, folder), plans.Plan(settings, among, most, only), answer.add)
     with stopping(f"stopped while the answer was made: {done}"):
-        show([it.text(given.form)])
+        show([answer.text(given.form)])

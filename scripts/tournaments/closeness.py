@@ -66,5 +66,5 @@ def together(stratum: Counter[Ended], one: int, other: int, worth: Mapping[str, 
         ended, = stratum
         return max(worth.values()) ** 2 / 4 * (1 if one == other else -1 / (len(ended) - 1))
     both = [(worth[ended[one]], worth[ended[other]], many) for ended, many in stratum.items()]
-    mine, theirs = (sum(it[at] * it[2] for it in both) / played for at in (0, 1))
-    return sum((it - mine) * (its - theirs) * many for it, its, many in both) * played / (played - 1)
+    mine, theirs = (sum(row[at] * row[2] for row in both) / played for at in (0, 1))
+    return sum((of_one - mine) * (of_other - theirs) * many for of_one, of_other, many in both) * played / (played - 1)

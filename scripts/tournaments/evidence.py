@@ -53,9 +53,9 @@ class Spread:
         own = [weights[at] for at in self.group]
         variance = third = 0.0
         for scores, squares, thirds in self.changes:
-            it = product(own, scores)
-            variance += squares * it * it
-            third += thirds * it * it * it
+            weighed = product(own, scores)
+            variance += squares * weighed * weighed
+            third += thirds * weighed * weighed * weighed
         return variance, third
 
 
@@ -81,9 +81,9 @@ def share(pair: Score, alone: Sequence[Counter[Ended]]) -> Share:
     """The share of a pair by all of its matches, with what those of both alone show of how sure it is."""
     each = 1 / pair.played
     those = strata(alone)
-    parts = [moments(it["wl"], it.total() - it["wl"] - it["lw"], it["lw"]) for it in those]
+    parts = [moments(stratum["wl"], stratum.total() - stratum["wl"] - stratum["lw"], stratum["lw"]) for stratum in those]
     variance, third = (sum(part[at] for part in parts) for at in (0, 1))
-    return Share(pair.share, each**2 * variance, each**3 * third, each, sum(it.total() - 1 for it in those))
+    return Share(pair.share, each**2 * variance, each**3 * third, each, sum(stratum.total() - 1 for stratum in those))
 
 
 @functools.cache
@@ -103,7 +103,7 @@ def spread(group: Group, seatings: Sequence[Counter[Ended]], pairs: Mapping[Grou
     each = [[1 / pairs[min(one, other), max(one, other)].played if one != other else 0.0 for other in group] for one in group]
     those = strata(seatings)
     changes = tuple(change for stratum in those for change in differing(stratum, each))
-    return Spread(group, changes, sum(it.total() - 1 for it in those))
+    return Spread(group, changes, sum(stratum.total() - 1 for stratum in those))
 
 
 def differing(stratum: Counter[Ended], each: Matrix) -> Iterator[Change]:
@@ -129,4 +129,4 @@ def unknown(each: Matrix) -> Iterator[Change]:
 def scored(ended: Ended, each: Matrix) -> list[float]:
     """What a match is of its robots' scores: one that lived has beaten each that died."""
     lived = [letter != "l" for letter in ended]
-    return [sum(part * (0.5 + (it - other) / 2) for part, other in zip(row, lived)) for row, it in zip(each, lived)]
+    return [sum(part * (0.5 + (own - other) / 2) for part, other in zip(row, lived)) for row, own in zip(each, lived)]

@@ -47,8 +47,8 @@ def whole_series(settings: Settings, keys: Sequence[str]) -> Iterator[Series]:
 def series_of(settings: Settings, keys: Sequence[str], group: Group) -> Iterator[Series]:
     """All matches of each seating of a group."""
     matches = settings.each(len(group))
-    for it in seatings(settings.seed, [keys[at] for at in group]):
-        yield Series(tuple([group[at] for at in it.order]), it.seed, 1, matches)
+    for seating in seatings(settings.seed, [keys[at] for at in group]):
+        yield Series(tuple([group[at] for at in seating.order]), seating.seed, 1, matches)
 
 
 @lru_cache(1)
@@ -68,9 +68,9 @@ def numbered(seed: int, keys: Sequence[str], size: int, those: Group = ()) -> It
     for group in itertools.combinations(range(len(keys)), size):
         if side and not 0 < len(side.intersection(group)) < size:
             continue
-        it = begin.copy()
-        it.update(b"".join([parts[at] for at in group]))
-        yield it.digest()[:8], group
+        hashed = begin.copy()
+        hashed.update(b"".join([parts[at] for at in group]))
+        yield hashed.digest()[:8], group
 
 
 def check_sample(settings: Settings, keys: Sequence[str]) -> None:

@@ -32,14 +32,14 @@ def mean(classes: Sequence[Sequence[float]], weights: Sequence[float] = (), unse
     there are. So the variance may be that of the numbers and of two more that weren't seen: one that is so much more, and one that
     is as much less."""
     parts = [weight / sum(weights) for weight in weights] or [1 / len(classes)] * len(classes)
-    value = sum(part * statistics.fmean(it) for part, it in zip(parts, classes))
-    variances = [part**2 * variance(it) / len(it) for part, it in zip(parts, classes)]
-    counted = 1 / sum(part**2 / len(it) for part, it in zip(parts, classes))
+    value = sum(part * statistics.fmean(numbers) for part, numbers in zip(parts, classes))
+    variances = [part**2 * variance(numbers) / len(numbers) for part, numbers in zip(parts, classes)]
+    counted = 1 / sum(part**2 / len(numbers) for part, numbers in zip(parts, classes))
     upsets = 2 * (unseen / counted) ** 2
     whole = sum(variances) + upsets
     if not whole:
         return Mean(value, value, value)
-    freedom = whole**2 / (sum(it**2 / (len(them) - 1) for it, them in zip(variances, classes)) + upsets**2 / counted)
+    freedom = whole**2 / (sum(of_class**2 / (len(numbers) - 1) for of_class, numbers in zip(variances, classes)) + upsets**2 / counted)
     margin = quantile(freedom, level) * math.sqrt(whole)
     return Mean(value, value - margin, value + margin)
 

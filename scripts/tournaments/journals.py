@@ -75,10 +75,10 @@ def journal(path: str | None, settings: Settings, tell: Callable[[str], None]) -
     try:
         if not stat.S_ISREG(os.fstat(file).st_mode):
             raise Fault(f"{path} is no regular file", FILE)
-        it = Journal(path, file)
+        opened = Journal(path, file)
         lock(path, file)
-        load(it, path, file, settings, tell)
-        yield it
+        load(opened, path, file, settings, tell)
+        yield opened
         with contextlib.suppress(OSError):
             os.fsync(file)
     finally:

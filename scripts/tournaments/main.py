@@ -88,11 +88,11 @@ def planned(given: argparse.Namespace, program: Program, folder: str) -> plans.P
     copies = robots.copied([*given.robots, *given.those], folder)
     robots.compiled(program, given.profile, copies, folder)
     among = robots.in_order(copies)
-    those = tuple(at for at, it in enumerate(among) if it.path in given.those)
+    those = tuple(at for at, robot in enumerate(among) if robot.path in given.those)
     settings = Settings(given.matches, given.cycles, given.seed, given.profile, program.sha256, len(among), sizes(given), given.sample,
                         those)
     if given.sample:
-        check_sample(settings, keys([it.sha256 for it in among]))
+        check_sample(settings, keys([robot.sha256 for robot in among]))
     most = given.piece or plans.busy(settings, given.jobs)
     if given.plan:
         most = min(most, plans.one_write(settings, among))

@@ -23,7 +23,7 @@ def forms(matrix: Iterable[Vector]) -> list[Callable[[Vector], float]]:
 
 
 def form(row: Vector) -> Callable[[Vector], float]:
-    places = [at for at, it in enumerate(row) if it]
+    places = [at for at, number in enumerate(row) if number]
     if not 1 < len(places) <= len(row) // 2:
         return partial(product, row)
     numbers, chosen = [row[at] for at in places], itemgetter(*places)

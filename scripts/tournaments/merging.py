@@ -68,7 +68,7 @@ class Merger:
                 missing.add(series.seats, free)
                 twice.add(series.seats, more)
             strange += not few and self._seeds.get(series.seats, series.seed) != series.seed
-        said = [it.text(self._robots) for it in (missing, twice) if it.count]
+        said = [found.text(self._robots) for found in (missing, twice) if found.count]
         if self._runs or strange:
             said.append(f"{len(self._runs) + strange} seatings are not of this tournament")
         return "; ".join(said) or (lacking if few else "")
@@ -155,10 +155,10 @@ def numbered(path: str, merger: Merger) -> dict[Series, list[int]]:
 
 def against(path: str, merger: Merger) -> str:
     """Which lines of a plan were not played, or more than once, or what was played that no line has."""
-    plan, series = numbered(path, merger), Counter(merger.series)
-    missing = [number for it, numbers in plan.items() for number in numbers if it not in series]
-    twice = [numbers[0] for it, numbers in plan.items() if series[it] > len(numbers)]
-    strange = sum(it not in plan for it in series)
+    plan, counts = numbered(path, merger), Counter(merger.series)
+    missing = [number for series, numbers in plan.items() for number in numbers if series not in counts]
+    twice = [numbers[0] for series, numbers in plan.items() if counts[series] > len(numbers)]
+    strange = sum(series not in plan for series in counts)
     said = [f"{lines_of(numbers)} of {path} {'is' if len(numbers) == 1 else 'are'} {what}"
             for what, numbers in (("missing", missing), ("there twice or more", twice)) if numbers]
     return "; ".join(said + ([f"{strange} series are in no line of {path}"] if strange else []))

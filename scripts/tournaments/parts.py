@@ -63,20 +63,20 @@ class Rows:
         self.spreads = [[] for _ in range(self.many)]
         self.freedom = [0] * self.many
 
-    def add(self, one: int, other: int, it: Share) -> None:
+    def add(self, one: int, other: int, pair: Share) -> None:
         """Adds a pair."""
-        for mine, theirs, share, third in ((one, other, it.value, it.third), (other, one, 1 - it.value, -it.third)):
+        for mine, theirs, share, third in ((one, other, pair.value, pair.third), (other, one, 1 - pair.value, -pair.third)):
             self.met[mine][theirs] = 1.0
             self.shares[mine][theirs] = capped(share)
-            self.each[mine][theirs] = it.each
-            self.variances[mine][theirs] = it.variance
+            self.each[mine][theirs] = pair.each
+            self.variances[mine][theirs] = pair.variance
             self.thirds[mine][theirs] = third
-            self.freedom[mine] += it.freedom
+            self.freedom[mine] += pair.freedom
 
-    def add_spread(self, it: Spread) -> None:
+    def add_spread(self, spread: Spread) -> None:
         """Adds matches of more robots."""
-        for robot in it.group:
-            self.spreads[robot].append(it)
+        for robot in spread.group:
+            self.spreads[robot].append(spread)
 
     def scores(self) -> list[float]:
         """The sum of each robot's shares."""
@@ -92,16 +92,16 @@ class Rows:
 
     def size(self, robot: int) -> int:
         """The most robots of a match in which it was."""
-        return max([2, *(len(it.group) for it in self.spreads[robot])])
+        return max([2, *(len(spread.group) for spread in self.spreads[robot])])
 
 
 def rows(those: Evidence, part: Sequence[int]) -> Rows:
     """What is known of the robots of a part, by their places in it."""
     places = {robot: at for at, robot in enumerate(part)}
     found = Rows(len(part))
-    for (one, other), it in those.shares.items():
+    for (one, other), share in those.shares.items():
         if one in places:
-            found.add(places[one], places[other], it)
+            found.add(places[one], places[other], share)
     for spread in those.spreads:
         if spread.group[0] in places:
             found.add_spread(Spread(tuple(places[at] for at in spread.group), spread.changes, spread.freedom))

@@ -10,7 +10,7 @@ from itertools import groupby
 from typing import Iterable, Iterator
 
 from tools.faults import Fault
-from tools.rules import MOST_SEED
+from tools.rules import DEADLY, MOST_SEED
 
 from .groups import count, whole_series
 from .journals import Journal
@@ -62,7 +62,7 @@ class Plan:
                 if there:
                     yield True, self.record(part, ",".join(kept[number] for number in run))
                 else:
-                    yield from ((False, self.record(it)) for it in cut(part, self.most))
+                    yield from ((False, self.record(piece)) for piece in cut(part, self.most))
 
 
 def cut(series: Series, most: int) -> Iterator[Series]:
@@ -80,11 +80,11 @@ def busy(settings: Settings, jobs: int) -> int:
 def one_write(settings: Settings, robots: list[Robot]) -> int:
     """How many matches fit in a record that is one write into a pipe, whatever they come to."""
     size = max(settings.sizes)
-    longest = sorted(robots, key=lambda it: -len(encoded(it.path)))[:size]
+    longest = sorted(robots, key=lambda robot: -len(encoded(robot.path)))[:size]
     group = tuple(range(settings.robots - size, settings.robots))
     series = Series(group, MOST_SEED, settings.matches, settings.matches)
     begin = len(Record(settings, series, tuple(longest)).line())
-    most = (ONE_WRITE - begin) // (len(str(settings.cycles)) + len(":100") * size + 1)
+    most = (ONE_WRITE - begin) // (len(str(settings.cycles)) + len(f":{DEADLY}") * size + 1)
     if most < 1:
         raise Fault("the robots' names are too long for a plan")
     return most

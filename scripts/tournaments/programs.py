@@ -35,11 +35,11 @@ def program(given: str | None) -> Program:
     try:
         before = stamp(path)
         with open(path, "rb") as file:
-            it = Program(path, hashlib.file_digest(file, "sha256").hexdigest(), before)
+            chosen = Program(path, hashlib.file_digest(file, "sha256").hexdigest(), before)
     except OSError as why:
         unreadable(path, why)
-    it.check()
-    return it
+    chosen.check()
+    return chosen
 
 
 def version(sha256: str) -> str:
@@ -53,7 +53,7 @@ def version(sha256: str) -> str:
 def stamp(path: str) -> Stamp | None:
     """What changes if a file is replaced or written to; nothing if it is gone."""
     try:
-        it = os.stat(path)
+        status = os.stat(path)
     except OSError:
         return None
-    return it.st_dev, it.st_ino, it.st_size, it.st_mtime_ns
+    return status.st_dev, status.st_ino, status.st_size, status.st_mtime_ns

@@ -37,8 +37,8 @@ def ratings(those: Evidence, anchor: int | None = None) -> list[Rating]:
     for part in parts(those.shares):
         if anchor is None or anchor in part:
             rated = Part(rows(those, part)).ratings(None if anchor is None else part.index(anchor))
-            for robot, it in zip(part, rated):
-                found[robot] = it
+            for robot, rating in zip(part, rated):
+                found[robot] = rating
     return found
 
 
@@ -112,15 +112,16 @@ class Part:
         there one group may have nearly all of it."""
         those = self._rows
         far = [weights[robot] - weight for weight in weights]
-        squares = [it * it for it in far]
-        spreads = [it.moments(weights) for it in those.spreads[robot]]
+        squares = [distance * distance for distance in far]
+        spreads = [spread.moments(weights) for spread in those.spreads[robot]]
         more = sum(variance for variance, _ in spreads)
         of_pairs = product(squares, those.variances[robot])
-        freedom = together([(of_pairs, those.freedom[robot]), *((it, one.freedom) for (it, _), one in zip(spreads, those.spreads[robot]))])
-        third = product([*map(mul, squares, far)], those.thirds[robot]) + sum(it for _, it in spreads)
+        of_groups = ((variance, one.freedom) for (variance, _), one in zip(spreads, those.spreads[robot]))
+        freedom = together([(of_pairs, those.freedom[robot]), *of_groups])
+        third = product([*map(mul, squares, far)], those.thirds[robot]) + sum(moment for _, moment in spreads)
         half = those.size(robot) / 2
-        upsets = [half * abs(it) * each for it, each in zip(far, those.each[robot])]
-        unseen = [UNSEEN * it * it * part for it, part in zip(upsets, self._parts(robot, upsets))]
+        upsets = [half * abs(distance) * each for distance, each in zip(far, those.each[robot])]
+        unseen = [UNSEEN * upset * upset * part for upset, part in zip(upsets, self._parts(robot, upsets))]
         among_all = product(squares, self._variances[robot]) + more
         return Own(of_pairs + more, third, sum(unseen), product(unseen, upsets), among_all, freedom, self._sparse)
 
@@ -142,12 +143,12 @@ class Part:
     def _above(self, those: Sequence[Rating], anchor: int) -> Iterator[Rating]:
         """How far ratings are above that of the anchor. Squares add up; what both have in common counts where that is wider."""
         base, with_all = those[anchor], self._with_all(anchor)
-        for robot, it in enumerate(those):
+        for robot, rating in enumerate(those):
             common = min(0.0, product(self._fit.inverse[robot], with_all))
             both = 2 * (SCALE * REAL * NORMAL) ** 2 * common
-            value = it.value - base.value
-            low = math.sqrt((it.value - it.low) ** 2 + (base.high - base.value) ** 2 - both)
-            high = math.sqrt((it.high - it.value) ** 2 + (base.value - base.low) ** 2 - both)
+            value = rating.value - base.value
+            low = math.sqrt((rating.value - rating.low) ** 2 + (base.high - base.value) ** 2 - both)
+            high = math.sqrt((rating.high - rating.value) ** 2 + (base.value - base.low) ** 2 - both)
             yield Rating(0.0, 0.0, 0.0) if robot == anchor else Rating(value, value - low, value + high)
 
 
@@ -155,27 +156,27 @@ def doubted(those: Rows) -> Matrix:
     """The variances of shares with what unseen upsets of others do: where each has met all others, these hardly count."""
     all_others = 1 / (those.many - 1)
     few = [UNSEEN * (1 / those.opponents(robot) - all_others) for robot in range(those.many)]
-    return [[it + (mine + theirs) * part * part for it, part, theirs in zip(row, each, few)]
+    return [[variance + (mine + theirs) * part * part for variance, part, theirs in zip(row, each, few)]
             for mine, row, each in zip(few, those.variances, those.each)]
 
 
 def covariance(those: Rows, variances: Matrix) -> Matrix:
     """How the robots' scores vary together, by the variances of pairs and by matches of more robots."""
-    found = [[-it for it in row] for row in variances]
+    found = [[-variance for variance in row] for row in variances]
     for at, row in enumerate(variances):
         found[at][at] = sum(row)
     for robot, spreads in enumerate(those.spreads):
-        for it in spreads:
-            place = it.group.index(robot)
-            for scores, squares, _ in it.changes:
-                for other, score in zip(it.group, scores):
+        for spread in spreads:
+            place = spread.group.index(robot)
+            for scores, squares, _ in spread.changes:
+                for other, score in zip(spread.group, scores):
                     found[robot][other] += squares * scores[place] * score
     return found
 
 
 def alone(met: Vector, strengths: Vector, begin: float, wanted: float) -> float:
     """The strength by which a robot has the score that is wanted, if all others stay, by Newton's method."""
-    others = [math.exp(it) for it, is_met in zip(strengths, met) if is_met]
+    others = [math.exp(strength) for strength, is_met in zip(strengths, met) if is_met]
     for _ in range(STEPS_MAX):
         power = math.exp(begin)
         shares = [power / (power + other) for other in others]

@@ -6,25 +6,23 @@ import functools
 import hashlib
 import itertools
 import os
-import re
 from operator import ge
-from typing import Iterator, NamedTuple, Sequence
+from typing import Iterator, NamedTuple
 from urllib.parse import quote, unquote_to_bytes
 
 from results.battles import Group, Match, endings, match
 from results.tallies import group_of
+from tools.rules import UPDATE_CYCLES
 
 from . import settings as setting
 from .robots import Robot
-from .settings import NUMBER, Settings
+from .settings import Settings
 
 # The number is that of the format.
 BEGIN, OLDER = "series 2 ", "series m="
-HEAD = re.compile(rf"{BEGIN}({setting.PATTERN}) seats=(\d{{1,9}}(?:,\d{{1,9}}){{1,3}}) seed=({NUMBER}) "
-                  rf"first=({NUMBER}) count=({NUMBER}) sha256=([0-9a-f,]+) files=([^\s']+)")
-RESULT = r"\d{1,10}(?::\d{1,3})+"
-WHOLE = re.compile(rf"({HEAD.pattern} results=({RESULT}(?:,{RESULT})*)) sum=([0-9a-f]{{16}})\n")
-UPDATE = 15
+FILES = " files="
+# What results are made of, and hashes.
+RESULTS, HASHES = frozenset("0123456789:,"), frozenset("0123456789abcdef,")
 
 
 class NoRecord(Exception):
@@ -58,12 +56,12 @@ class Record(NamedTuple):
 
     def head(self) -> str:
         """The record's line as far as it is known before the series is played. It has no quote and no line break."""
-        it = self.series
-        seats = ",".join(str(at + 1) for at in it.seats)
+        series = self.series
+        seats = ",".join(str(at + 1) for at in series.seats)
         hashes = ",".join(robot.sha256 for robot in self.robots)
         files = ",".join(encoded(robot.path) for robot in self.robots)
-        return (f"{BEGIN}{self.settings.text} seats={seats} seed={it.seed} first={it.first} count={it.matches} "
-                f"sha256={hashes} files={files}")
+        return (f"{BEGIN}{self.settings.text} seats={seats} seed={series.seed} first={series.first} count={series.matches} "
+                f"sha256={hashes}{FILES}{files}")
 
     def line(self) -> str:
         text = f"{self.head()} results={self.results}"
@@ -76,7 +74,7 @@ class Record(NamedTuple):
 
     def matches(self) -> Iterator[tuple[int, Match]]:
         """The matches with their numbers."""
-        return ((self.series.first + at, match(it)) for at, it in enumerate(self.results.split(",")))
+        return ((self.series.first + at, match(result)) for at, result in enumerate(self.results.split(",")))
 
 
 def checksum(text: str) -> str:
@@ -96,26 +94,34 @@ def robot(file: str, sha256: str) -> Robot:
     return Robot(os.fsdecode(unquote_to_bytes(file)), sha256)
 
 
-def planned(text: str) -> Record | None:
+def planned(line: str) -> Record | None:
     """The record whose head stands somewhere in a line."""
-    found = HEAD.search(text)
-    return record(found.groups()) if found else None
+    _, begin, rest = line.partition(BEGIN)
+    head, files, behind = rest.partition(FILES)
+    # in a command line a quote stands behind it
+    named, *_ = behind.replace("'", " ").split() or [""]
+    try:
+        return fitting(record(f"{begin}{head}{files}{named}"))
+    except ValueError:
+        return None
 
 
 def played(line: str) -> Record:
     """The record that is a whole line, with its line feed."""
-    whole = WHOLE.fullmatch(line)
-    if not whole:
+    text, _, wanted = line.rpartition(" sum=")
+    try:
+        found = record(text)
+        if not found.results or len(wanted) != len(checksum(text)) + 1:
+            raise ValueError("not whole")
+    except ValueError as why:
         older = line.startswith(OLDER)
-        raise NoRecord("is a record of an older format" if older else "is cut short, or is no record of a series")
-    text, *head, results, wanted = whole.groups()
-    if checksum(text) != wanted:
+        raise NoRecord("is a record of an older format" if older else "is cut short, or is no record of a series") from why
+    if wanted != f"{checksum(text)}\n":
         raise NoRecord("was changed: its checksum is another")
-    it = record(head, results)
-    if it is None:
+    if not fitting(found):
         raise NoRecord("is no record of a series: its fields don't fit each other")
-    check_results(it)
-    return it
+    check_results(found)
+    return found
 
 
 def check_results(record: Record) -> None:
@@ -126,24 +132,32 @@ def check_results(record: Record) -> None:
     if len(each) != record.series.matches:
         raise NoRecord(f"has {len(each)} results of {record.series.matches} matches")
     for number, result, ended in zip(itertools.count(record.series.first), each, record.ended):
-        cycles = int(result.partition(":")[0])
-        early = 0 < cycles < limit and cycles % UPDATE == 0 and "t" not in ended
+        cycles = int(result.partition(":")[0] or 0)
+        early = 0 < cycles < limit and cycles % UPDATE_CYCLES == 0 and "t" not in ended
         if len(ended) != robots or not (cycles == limit or early):
             raise NoRecord(f"has a result that can't be: {result} of match {number}")
 
 
-def record(head: Sequence[str], results: str = "") -> Record | None:
-    """The record of the fields of a head, if they fit each other."""
-    by, seated, seed, first, count, hashes, files = head
-    settings, seats = setting.parsed(by), tuple([*map(position, seated.split(","))])
-    series = Series(seats, int(seed), int(first), int(count))
+def record(text: str) -> Record:
+    """The record that a text is: it writes the same text. Another one is a ValueError."""
+    by, _, rest = text.removeprefix(BEGIN).partition(" seats=")
+    seated, *fields = rest.split(" ")
+    seed, first, count, hashes, files, *results = (field.partition("=")[2] for field in fields)
+    series = Series(tuple([*map(position, seated.split(","))]), int(seed), int(first), int(count))
     robots = tuple([*map(robot, files.split(","), hashes.split(","))])
-    many = len(seats)
-    if not many == files.count(",") + 1 == hashes.count(",") + 1 or many not in settings.sizes:
-        return None
-    if not is_seating(seats, settings.robots) or not 1 <= series.first <= series.last <= settings.each(many):
-        return None
-    return Record(settings, series, robots, results)
+    found = Record(setting.parsed(by), series, robots, "".join(results))
+    ours = "".join((found.head(), *(f" results={result}" for result in results)))
+    if ours != text or not HASHES.issuperset(hashes) or not RESULTS.issuperset(found.results):
+        raise ValueError(text)
+    return found
+
+
+def fitting(record: Record) -> Record | None:
+    """A record, if its fields fit each other."""
+    settings, series, many = record.settings, record.series, len(record.robots)
+    fits = (len(series.seats) == many in settings.sizes and is_seating(series.seats, settings.robots)
+            and 1 <= series.first <= series.last <= settings.each(many))
+    return record if fits else None
 
 
 @functools.cache

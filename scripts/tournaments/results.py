@@ -88,7 +88,7 @@ class Forms:
         self._robots = among
         self._tally = tally
         self._spool = spool
-        self._names = robots.names([it.path for it in among])
+        self._names = robots.names([robot.path for robot in among])
 
     @cached_property
     def _standings(self) -> list[Standing]:
@@ -96,10 +96,10 @@ class Forms:
 
     def write_site(self, sources: dict[str, bytes]) -> None:
         """Writes the site, with these sources by their hashes."""
-        it, replays = self._given, REPLAYS if self._given.replays is None else self._given.replays
-        facts = facts_of_tournament(it.title or "Tournament", self._settings, self._scoring, self._robots, sources, self._standings,
-                                    self._records(), it.page or "")
-        published(facts, it.html, replays, it.jobs)
+        given, replays = self._given, REPLAYS if self._given.replays is None else self._given.replays
+        facts = facts_of_tournament(given.title or "Tournament", self._settings, self._scoring, self._robots, sources, self._standings,
+                                    self._records(), given.page or "")
+        published(facts, given.html, replays, given.jobs)
 
     def pieces(self, form: str) -> Iterable[str]:
         """A form, piece by piece."""

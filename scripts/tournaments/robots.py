@@ -72,19 +72,19 @@ def copy(path: str, folder: str) -> Robot:
 
 def laid(path: str, source: bytes, folder: str) -> Robot:
     """A robot with these bytes, which are put into a folder under their hash."""
-    it = Robot(path, hashlib.sha256(source).hexdigest())
-    place = os.path.join(folder, it.sha256)
+    robot = Robot(path, hashlib.sha256(source).hexdigest())
+    place = os.path.join(folder, robot.sha256)
     try:
         with open(place, "wb") as file:
             file.write(source)
     except OSError as why:
         unwritable(place, why)
-    return it
+    return robot
 
 
 def in_order(robots: Iterable[Robot]) -> list[Robot]:
     """The order of a tournament, which doesn't depend on that of the words."""
-    return sorted(robots, key=lambda it: (it.sha256, os.fsencode(it.path)))
+    return sorted(robots, key=lambda robot: (robot.sha256, os.fsencode(robot.path)))
 
 
 def names(paths: list[str]) -> list[str]:

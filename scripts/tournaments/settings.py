@@ -6,12 +6,12 @@ from dataclasses import dataclass
 from functools import cache, cached_property
 
 from results.battles import Group
-from tools.rules import MOST_ROBOTS
 
 from .seats import rounded
 
 SIZE_NAMES = {2: "pairs", 3: "threes", 4: "fours"}
-SIZE = rf"[2-{MOST_ROBOTS}]"
+# How long a hash is.
+HASH_BYTES = 32
 
 
 @dataclass(frozen=True)
@@ -53,18 +53,16 @@ class Settings:
         return [f"-m{count}", f"-l{self.cycles}", f"-s{seed}", f"-p{self.profile}", f"-f{first}", "--"]
 
 
-NUMBER = r"\d{1,20}"
-PATTERN = (rf"m={NUMBER} l={NUMBER} s={NUMBER} p={NUMBER} program=[0-9a-f]{{64}} "
-           rf"robots={NUMBER} sizes={SIZE}(?:,{SIZE}){{0,{len(SIZE_NAMES) - 1}}} sample={NUMBER}(?: those=[0-9a-f]+)?")
-
-
 @cache
 def parsed(text: str) -> Settings:
-    """The settings of a text that PATTERN finds."""
+    """The settings that a text is: they write the same text. Another one is a ValueError."""
     m, l, s, p, program, robots, sizes, sample, *sides = (field.partition("=")[2] for field in text.split(" "))
-    several, those = tuple(map(int, sizes.split(","))), int(sides[0], 16) if sides else 0
+    several, those = tuple(map(int, sizes.split(","))), int("".join(sides) or "0", 16)
     places = tuple(at for at in range(those.bit_length()) if those >> at & 1)
-    return Settings(int(m), int(l), int(s), int(p), program, int(robots), several, int(sample), places)
+    found = Settings(int(m), int(l), int(s), int(p), program, int(robots), several, int(sample), places)
+    if found.text != text or len(bytes.fromhex(program)) != HASH_BYTES or not {*several} <= SIZE_NAMES.keys():
+        raise ValueError(text)
+    return found
 
 
 NAMES = {"matches": "matches", "cycles": "limit", "seed": "seed", "profile": "profile", "program": "program",

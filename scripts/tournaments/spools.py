@@ -28,7 +28,7 @@ class Spool:
             unwritable(tempfile.gettempdir(), why)
 
     def records(self) -> Iterator[Record]:
-        for _, place in sorted(self._places, key=lambda it: order(it[0])):
+        for _, place in sorted(self._places, key=lambda entry: order(entry[0])):
             self._file.seek(place)
             yield played(self._file.readline().decode())
 

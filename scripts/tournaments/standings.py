@@ -34,7 +34,7 @@ def standings(tally: Tally, names: list[str], scoring: Weighed) -> list[Standing
     scores, rated = tally.scores(len), ratings(evidence(tally, len(names)))
     closeness = Closeness(tally, scoring.worth, weights(scores, scoring))
     unranked = [unplaced(scores, robot, name, scoring, rated[robot]) for robot, name in enumerate(names)]
-    rows = [*ranked(sorted(unranked, key=lambda it: (-it.points, it.robot)))]
+    rows = [*ranked(sorted(unranked, key=lambda row: (-row.points, row.robot)))]
     return [*marked(rows, closeness.are_close)]
 
 

@@ -38,15 +38,15 @@ def fitted(met: Sequence[Vector], scores: Vector) -> Fit:
     """The strengths by which each robot's capped shares add up to its score, by Newton's method with steps of limited length.
 
     A row of `met` has 1 for each robot that was met, and else 0."""
-    strengths = [math.log(it / (sum(row) - it)) for it, row in zip(scores, met)]
+    strengths = [math.log(score / (sum(row) - score)) for score, row in zip(scores, met)]
     longest = math.inf
     for _ in range(STEPS_MAX):
         if longest > NEAR:
             factor = factored(curvature(met, strengths))
-        step = solved(factor, [it - expected(row, strengths, at) for at, (it, row) in enumerate(zip(scores, met))])
-        longest = max(abs(it) for it in step)
+        step = solved(factor, [score - expected(row, strengths, at) for at, (score, row) in enumerate(zip(scores, met))])
+        longest = max(abs(change) for change in step)
         part = min(1.0, STEP_MAX / longest) if longest else 1.0
-        strengths = [it + part * more for it, more in zip(strengths, step)]
+        strengths = [strength + part * more for strength, more in zip(strengths, step)]
         if longest < EXACT:
             break
     mean = sum(strengths) / len(strengths)
@@ -69,7 +69,7 @@ def curvature(met: Sequence[Vector], strengths: Vector) -> Matrix:
     one = 1 / len(met)
     found = []
     for at, row in enumerate(met):
-        bends = [it * chance * (1 - chance) for it, chance in zip(row, chances(strengths, at))]
+        bends = [meets * chance * (1 - chance) for meets, chance in zip(row, chances(strengths, at))]
         own = sum(bends)
         bends = [one - bend for bend in bends]
         bends[at] = own + one

@@ -54,7 +54,7 @@ def decimals(count: int) -> Callable[[str], list[Decimal]]:
         one = r"[0-9]{1,6}(?:\.[0-9]{1,3})?"
         if not re.fullmatch(",".join([one] * count), text):
             raise argparse.ArgumentTypeError(f"'{text}' is not {count} numbers with commas between them")
-        return [Decimal(it) for it in text.split(",")]
+        return [Decimal(part) for part in text.split(",")]
 
     return read
 
@@ -168,64 +168,66 @@ class Parser(argparse.ArgumentParser):
         show([self.format_help()])
 
 
-def of_match(it: argparse._ActionsContainer, cycles: str = "cycles of a match", seed: str = "seed (default 1)") -> None:
+def of_match(parser: argparse._ActionsContainer, cycles: str = "cycles of a match", seed: str = "seed (default 1)") -> None:
     """The words on which a match depends beside its robots, with what is said of two of them."""
     for name, word, limits, said in (("cycles", "CYCLES", (1, MOST_CYCLES), f"{cycles} (default {DEFAULTS['cycles']})"), ("seed", "SEED", (0, MOST_SEED), seed),
                                      ("profile", "PROFILE", (1, MOST_PROFILE), PROFILE_HELP)):
-        it.add_argument(WORDS[name], dest=name, metavar=word, type=within(*limits), help=said)
+        parser.add_argument(WORDS[name], dest=name, metavar=word, type=within(*limits), help=said)
 
 
-def common(name: str, does: str) -> Parser:
-    """The words that both scripts take."""
-    it = Parser(prog=name, description=does, allow_abbrev=False)
-    it.set_defaults(script=name)
-    it.add_version()
-    it.add_argument("-j", dest="jobs", metavar="JOBS", type=within(1, 1024), default=os.cpu_count() or 1, help="series at a time (default: the processors)")
-    it.add_argument("-m", dest="matches", metavar="MATCHES", type=within(1, MOST_MATCHES), help="matches of each group, rounded up to a multiple of its size (default 100)")
-    of_match(it)
-    it.add_argument("--points", metavar="WIN,TIE", type=decimals(2), default=[Decimal(3), Decimal(1)], help="what a win and a tie count (default 3,1)")
-    it.add_argument("--journal", metavar="FILE", help="keep what was played in this file, and go on from it")
-    it.add_argument("--quiet", action="store_true", help="don't say how far it is")
-    it.add_argument("--crobots", metavar="PROGRAM",
-                    help="the program (default: crobots on the path, or the one installed or built with this script)")
-    return it
+def common(name: str, does: str, matches: str = "matches of each group, rounded up to a multiple of its size") -> Parser:
+    """The words that these scripts take."""
+    parser = Parser(prog=name, description=does, allow_abbrev=False)
+    add = parser.add_argument
+    parser.set_defaults(script=name)
+    parser.add_version()
+    add("-j", dest="jobs", metavar="JOBS", type=within(1, 1024), default=os.cpu_count() or 1, help="series at a time (default: the processors)")
+    add("-m", dest="matches", metavar="MATCHES", type=within(1, MOST_MATCHES), help=f"{matches} (default 100)")
+    of_match(parser)
+    add("--points", metavar="WIN,TIE", type=decimals(2), default=[Decimal(3), Decimal(1)], help="what a win and a tie count (default 3,1)")
+    add("--journal", metavar="FILE", help="keep what was played in this file, and go on from it")
+    add("--quiet", action="store_true", help="don't say how far it is")
+    add("--crobots", metavar="PROGRAM", help="the program (default: crobots on the path, or the one installed or built with this script)")
+    return parser
 
 
 def tournament(name: str) -> Parser:
     """The words of `tournament`, under the name by which it was called."""
-    it = common(name, "Plays every pair of robots (or every three, or four), and prints a table.")
-    it.add_argument("--size", metavar="|".join(map(str, SIZES)), type=within(SIZES[0], SIZES[-1]), help="robots of a match (default 2)")
-    it.add_argument("--by-size", metavar="A,B,C", type=decimals(3), help="play pairs, threes and fours, and add up their points a match with these weights")
-    it.add_argument("--sample", metavar="N", type=within(1, 10_000_000), help="play only N groups, drawn by the seed")
-    it.add_argument("--those", metavar="ROBOT", nargs="+", help="one side: only groups with robots of both sides play")
-    it.add_argument("--piece", metavar="MATCHES", type=within(1, MOST_MATCHES), help="most matches of one series (default: so that all processors are busy)")
-    it.add_argument("--plan", action="store_true", help="print the command lines of all series, one a line, and play nothing")
-    it.add_argument("--merge", action="store_true", help="read what such command lines wrote from files, or from standard input")
-    it.add_argument("--against", metavar="PLAN", help="with --merge: name the lines of the plan that are missing or twice")
-    forms = it.add_mutually_exclusive_group()
+    parser = common(name, "Plays every pair of robots (or every three, or four), and prints a table.")
+    add = parser.add_argument
+    add("--size", metavar="|".join(map(str, SIZES)), type=within(SIZES[0], SIZES[-1]), help="robots of a match (default 2)")
+    add("--by-size", metavar="A,B,C", type=decimals(3), help="play pairs, threes and fours, and add up their points a match with these weights")
+    add("--sample", metavar="N", type=within(1, 10_000_000), help="play only N groups, drawn by the seed")
+    add("--those", metavar="ROBOT", nargs="+", help="one side: only groups with robots of both sides play")
+    add("--piece", metavar="MATCHES", type=within(1, MOST_MATCHES), help="most matches of one series (default: so that all processors are busy)")
+    add("--plan", action="store_true", help="print the command lines of all series, one a line, and play nothing")
+    add("--merge", action="store_true", help="read what such command lines wrote from files, or from standard input")
+    add("--against", metavar="PLAN", help="with --merge: name the lines of the plan that are missing or twice")
+    forms = parser.add_mutually_exclusive_group()
     for form, does in {"csv": "the table as comma-separated values", "matrix": "what each robot won, tied and lost against each other",
                        "long": "comma-separated values, a row for each match and robot", "json": "everything as JSON"}.items():
         forms.add_argument(f"--{form}", dest="form", action="store_const", const=form, default="table", help=f"print {does}")
-    it.add_argument("--write", metavar="FORM=FILE", type=target, action="append", default=[],
-                    help="write a form (table, csv, matrix, long, json) into a file, too; may be given often")
-    it.add_argument("--html", metavar="FOLDER", help="write a site into this folder: the table, pairs, robots and matches")
-    it.add_argument("--title", metavar="TEXT", help="with --html: the site's title (default Tournament)")
-    it.add_argument("--page", metavar="URL", type=address, help="with --html: the page that plays battles in a browser")
-    it.add_argument("--replays", metavar="N", type=within(0, 100_000),
-                    help="with --html: make at most N new pages of matches, if crobots-trace is there (default 100)")
-    it.add_argument("robots", metavar="ROBOT", nargs="*", help="source files; with --merge, outputs")
-    return it
+    add("--write", metavar="FORM=FILE", type=target, action="append", default=[],
+        help="write a form (table, csv, matrix, long, json) into a file, too; may be given often")
+    add("--html", metavar="FOLDER", help="write a site into this folder: the table, pairs, robots and matches")
+    add("--title", metavar="TEXT", help="with --html: the site's title (default Tournament)")
+    add("--page", metavar="URL", type=address, help="with --html: the page that plays battles in a browser")
+    add("--replays", metavar="N", type=within(0, 100_000),
+        help="with --html: make at most N new pages of matches, if crobots-trace is there (default 100)")
+    add("robots", metavar="ROBOT", nargs="*", help="source files; with --merge, outputs")
+    return parser
 
 
 def challenge(name: str) -> Parser:
     """The words of `challenge`, under the name by which it was called."""
-    it = common(name, "Plays a robot and its older version against the same robots in the same matches, "
-                      "and says what the change is worth.")
-    it.add_argument("--old", metavar="OLD", required=True, help="the older version")
-    it.add_argument("--all", action="store_true", help="list all matches that changed, with the commands that show them")
-    forms = it.add_mutually_exclusive_group()
+    parser = common(name, "Plays a robot and its older version against the same robots in the same matches, "
+                          "and says what the change is worth.")
+    add = parser.add_argument
+    add("--old", metavar="OLD", required=True, help="the older version")
+    add("--all", action="store_true", help="list all matches that changed, with the commands that show them")
+    forms = parser.add_mutually_exclusive_group()
     for form, does in {"csv": "the rows as comma-separated values", "json": "everything as JSON"}.items():
         forms.add_argument(f"--{form}", dest="form", action="store_const", const=form, default="table", help=f"print {does}")
-    it.add_argument("new", metavar="NEW", help="the newer version")
-    it.add_argument("field", metavar="ROBOT", nargs="+", help="the robots that they play against")
-    return it
+    add("new", metavar="NEW", help="the newer version")
+    add("field", metavar="ROBOT", nargs="+", help="the robots that they play against")
+    return parser

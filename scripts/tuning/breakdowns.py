@@ -4,24 +4,28 @@ from __future__ import annotations
 
 from dataclasses import dataclass
 from fractions import Fraction
-from typing import Any
+from typing import Any, Mapping
 
 from tournaments import robots
-from tournaments.intervals import Mean
+from tournaments.intervals import LEVEL, Mean
 
-from .games import Games
+from . import figures
+from .games import Games, Values
 
 # What stands for all opponents in a column of them.
 ALL = "all"
+NONE = Mean(0, 0, 0)
 
 
 @dataclass(frozen=True)
 class Against:
-    """What a variant did against one opponent: its points a match, what they are more than today's, and in how many matches."""
+    """What a variant did against one opponent, or against all: its points a match, what they are more than today's, the 95 % interval of
+    that, and in how many matches."""
 
     name: str
     points: Mean
     change: Mean
+    alone: Mean
     matches: int
 
     def data(self) -> dict[str, Any]:
@@ -45,11 +49,14 @@ def listed(games: Games) -> list[str]:
     return [name if is_even else f"{name} (weight {weight:g})" for name, _, weight in them]
 
 
-def breakdown(games: Games, values: tuple[int, ...]) -> list[Against]:
-    """What a variant did, by opponent."""
-    mine, today = (games.variant(it).sha256 for it in (values, games.today))
-    found = []
-    for name, other, _ in distinct(games):
-        change = games.scores.change(mine, today, {other: Fraction(1)}) if mine != today else Mean(0, 0, 0)
-        found.append(Against(name, games.scores.points(mine, {other: Fraction(1)}), change, len(games.scores.of[mine, other])))
-    return found
+def breakdown(games: Games, values: Values, level: float) -> list[Against]:
+    """What a variant did, by opponent, with intervals of this level."""
+    return [against(games, name, values, {other: Fraction(1)}, level, level) for name, other, _ in distinct(games)]
+
+
+def against(games: Games, name: str, values: Values, weights: Mapping[str, Fraction], level: float, of_points: float) -> Against:
+    """What a variant did against some opponents that have a name together, with intervals of these levels. Their ends are as they are written."""
+    mine, today = (games.variant(one).sha256 for one in (values, games.today))
+    change, alone = (figures.outward(games.scores.change(mine, today, weights, wide)) if mine != today else NONE for wide in (level, LEVEL))
+    points = figures.outward(games.scores.points(mine, weights, of_points))
+    return Against(name, points, change, alone, sum(len(games.scores.of[mine, other]) for other in weights))

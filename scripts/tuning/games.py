@@ -14,19 +14,22 @@ from tournaments.journals import Journal
 from tournaments.plans import Plan
 from tournaments.playing import Player
 from tournaments.programs import Program
-from tournaments.progress import Progress
 from tournaments.records import Record, Series
 from tournaments.robots import Robot, laid
 from tournaments.seats import keys, seatings
 from tournaments.sessions import play
 from tournaments.settings import Settings
 
+from .far import Far
 from .marks import Number, changed
 from .opponents import Opponent
 from .scoring import Scores
 
 # In how many parts the matches of a round are cut for each job.
 PARTS = 4
+
+# Values of the numbers, in their order.
+Values = tuple[int, ...]
 
 
 @dataclass(frozen=True)
@@ -59,11 +62,12 @@ class Games:
     settings: Settings
     kept: Journal
     scores: Scores
-    progress: Progress
-    variants: dict[tuple[int, ...], Robot] = field(default_factory=dict)
+    progress: Far
+    judges: Sequence[Opponent] = ()
+    variants: dict[Values, Robot] = field(default_factory=dict)
 
     @property
-    def today(self) -> tuple[int, ...]:
+    def today(self) -> Values:
         return tuple(it.value for it in self.numbers)
 
     def weights(self, among: Sequence[Opponent] | None = None) -> Mapping[str, Fraction]:
@@ -73,14 +77,14 @@ class Games:
             found[it.robot.sha256] = found.get(it.robot.sha256, Fraction(0)) + it.weight
         return found
 
-    def variant(self, values: tuple[int, ...]) -> Robot:
+    def variant(self, values: Values) -> Robot:
         """The robot with these values, as a copy in the folder."""
         if values not in self.variants:
-            named = ",".join(f"{it.name}={value}" for it, value in zip(self.numbers, values))
-            self.variants[values] = laid(f"{self.name}[{named}]", changed(self.source, self.numbers, values), self.folder)
+            name = f"{self.name}[{named(self.numbers, values, ',')}]"
+            self.variants[values] = laid(name, changed(self.source, self.numbers, values), self.folder)
         return self.variants[values]
 
-    def play(self, several: Sequence[tuple[int, ...]], starts: Starts, stretch: Stretch, among: Sequence[Opponent] | None = None) -> None:
+    def play(self, several: Sequence[Values], starts: Starts, stretch: Stretch, among: Sequence[Opponent] | None = None) -> None:
         """Plays these variants against the opponents, or some of them, in a stretch of matches from these starts."""
         plan = self.plan(several, starts, stretch, self.opponents if among is None else among)
         hashes = {self.variant(it).sha256 for it in several}
@@ -91,11 +95,11 @@ class Games:
         parts = [*plan.resumed(self.kept)]
         for record in (record for there, record in parts if there):
             add(record)
+            self.progress.keep(record.series.matches)
         missing = [record for there, record in parts if not there]
-        self.progress.series = self.progress.done + len(missing)
         play(Player(self.program, self.given.jobs, self.folder), iter(missing), self.kept, add, self.progress)
 
-    def plan(self, several: Sequence[tuple[int, ...]], starts: Starts, stretch: Stretch, among: Sequence[Opponent]) -> Plan:
+    def plan(self, several: Sequence[Values], starts: Starts, stretch: Stretch, among: Sequence[Opponent]) -> Plan:
         """All series of these matches."""
         variants = list({robot.sha256: robot for robot in map(self.variant, several)}.values())
         others = list({it.robot.sha256: it.robot for it in among}.values())
@@ -116,6 +120,11 @@ def series_of(variants: int, others: Sequence[str], starts: Starts, stretch: Str
 def matches_of(stretch: Stretch, variants: int, others: int) -> int:
     """How many matches a round has."""
     return 2 * stretch.count * variants * others
+
+
+def named(numbers: Sequence[Number], values: Values, between: str = ", ") -> str:
+    """Values with the names of their numbers."""
+    return between.join(f"{it.name}={value}" for it, value in zip(numbers, values))
 
 
 def readable(path: str) -> str:

@@ -8,9 +8,11 @@ from typing import Iterator
 from tools.faults import plain
 from tournaments.versions import CHALLENGER
 
+from . import figures
 from .breakdowns import listed
-from .games import Games, Starts, Stretch
-from .sweeps import BETTER, MISTAKEN, Row, Values, row
+from .games import Games, Starts, Stretch, Values
+from .sweeps import Row, row
+from .verdicts import BETTER, levels
 
 
 # The judgement has this part of the budget besides, if no number of matches was given.
@@ -44,8 +46,8 @@ def judge(games: Games, values: Values, each: int) -> Judged:
     """Plays the values and today's in matches that the search hasn't seen: those of `crobots-challenge`."""
     games.scores.of.clear()
     games.play([values, games.today], Starts(games.given.seed, CHALLENGER), Stretch(1, each))
-    today, tuned = (row(games, it, 1 - MISTAKEN) for it in (games.today, values))
-    return Judged(today, tuned)
+    wide = levels(2, len(games.weights()))
+    return Judged(*(row(games, one, wide) for one in (games.today, values)))
 
 
 def said(games: Games, judged: Judged) -> Iterator[str]:
@@ -53,7 +55,8 @@ def said(games: Games, judged: Judged) -> Iterator[str]:
     if judged.tuned.values == games.today:
         yield "the search came back to today's values: nothing is surely better\n"
         return
-    it = judged.tuned.change
-    yield (f"tuned in place of today's: {it.value:+.3f} points a match, 95 % interval {it.low:+.3f} to {it.high:+.3f}, "
+    points, before = (figures.points(one.points.value) for one in (judged.tuned, judged.today))
+    change = judged.tuned.change
+    yield (f"points a match: tuned {points}, today's {before}; change {figures.difference(change.value)}, 99 % interval {figures.interval(change)}, "
            f"by {games.given.matches} fresh matches against each of {plain(', '.join(listed(games)))}\n")
     yield "surely better\n" if judged.is_better else "nothing is surely better\n"

@@ -4,6 +4,9 @@ from __future__ import annotations
 
 import argparse
 import os
+import shlex
+import shutil
+import sys
 from functools import partial
 from typing import Iterable, Sequence
 
@@ -12,16 +15,16 @@ from tools.output import replaced, say, show
 from tools.signals import Stopped, stopping
 from tournaments import plans, programs, robots
 from tournaments.journals import Journal, journal
-from tournaments.progress import Progress
 from tournaments.seats import rounded
-from tournaments.sessions import done, tell_rounded
+from tournaments.sessions import tell_rounded
 from tournaments.settings import Settings
 from tournaments.versions import CHALLENGER
 
 from . import judging, pictures, sweeps, tables, words
-from .games import Games, Starts, Stretch, readable
-from .marks import Number, changed, numbers, tokens
-from .opponents import Opponent, opponents
+from .far import Far
+from .games import Games, Starts, Stretch, matches_of, readable
+from .marks import Number, but_numbers, changed, constants, numbers, tokens
+from .opponents import Itself, Opponent, opponents, without
 from .scoring import Scores
 from .searching import Search
 
@@ -29,33 +32,36 @@ from .searching import Search
 SWEPT = 2
 
 
-def chosen(given: argparse.Namespace, found: list[Number]) -> list[Number]:
-    """The numbers that are meant."""
+def chosen(given: argparse.Namespace, found: list[Number], there: str) -> list[Number]:
+    """The numbers that are meant. If there is none, it says which constants are there."""
     names = [it.name for it in found]
     strange = [name for name in given.only if name not in names]
     if strange:
         raise Fault(f"{given.robot} has no number {strange[0]}; it has {', '.join(names) or 'none'}")
     them = [it for it in found if not given.only or it.name in given.only]
     if not them:
-        raise Fault(f"{given.robot} has no marked number; a mark is a comment as /* tune 100..900 */ behind it, or --number gives one")
+        raise Fault(f"{given.robot} has no marked number; a mark is a comment as /* tune 100..900 */ behind it, or --number gives one by its place: {there}")
     if given.sweep and len(them) > SWEPT:
         raise Fault(f"a sweep is of one number, or of two, and {given.robot} has {len(them)}; --only NAME chooses")
     return them
 
 
-def prepared(given: argparse.Namespace, folder: str, kept: Journal, program: programs.Program, field: Sequence[str]) -> Games:
-    """All that is needed to play: the robot, its numbers, its opponents. All compile."""
+def prepared(given: argparse.Namespace, folder: str, kept: Journal, program: programs.Program) -> Games:
+    """All that is needed to play: the robot, its numbers, its opponents, and those of the judgement. All compile."""
     robot, = robots.copied([given.robot], folder)
-    others = [it for it in opponents(field, given.league, given.weight, folder, given.level) if it.robot.sha256 != robot.sha256]
-    robots.compiled(program, given.profile, [robot, *compilable(others)], folder)
+    others = opponents(given.field, given.league, given.weight, folder, given.level)
+    robots.compiled(program, given.profile, [robot, *(it.robot for it in others)], folder)
     place = os.path.join(folder, robot.sha256)
     with open(place, "rb") as file:
         source = file.read()
-    found = numbers(source, tokens(place, given.robot, source, given.profile, given.stages), given.robot, given.number)
+    seen = tokens(place, given.robot, source, given.profile, given.stages)
+    found = numbers(source, seen, given.robot, given.number)
+    itself = Itself(robot.sha256, but_numbers(source, found))
+    others = met(given, others, itself, folder)
     settings = Settings(words_matches(given), given.cycles, given.seed, given.profile, program.sha256, 2, (2,))
     scores = Scores(dict(zip("wtl", map(float, (*given.points, 0)))))
-    progress = Progress(0, given.quiet, given.script)
-    return Games(given, program, folder, readable(given.robot), source, chosen(given, found), others, settings, kept, scores, progress)
+    return Games(given, program, folder, readable(given.robot), source, chosen(given, found, constants(source, seen)), others, settings, kept, scores,
+                 Far(0, given.quiet, given.script), judges(given, others, itself, program, folder))
 
 
 def words_matches(given: argparse.Namespace) -> int:
@@ -64,21 +70,22 @@ def words_matches(given: argparse.Namespace) -> int:
     return rounded(most, 2)
 
 
-def compilable(found: Sequence[Opponent]) -> list[robots.Robot]:
-    """The robots of opponents, of which there has to be one."""
-    if not found:
+def met(given: argparse.Namespace, found: Sequence[Opponent], itself: Itself, folder: str) -> list[Opponent]:
+    """The opponents but the robot itself; says so. There has to be one."""
+    others, left_out = without(found, itself, folder)
+    if left_out:
+        say(given.script, f"left out: {', '.join(left_out)} ({given.robot} itself, or a copy with other numbers)")
+    if not others:
         raise Fault("there is no robot to play against")
-    return [it.robot for it in found]
+    return others
 
 
-def judges(games: Games) -> Sequence[Opponent]:
+def judges(given: argparse.Namespace, others: Sequence[Opponent], itself: Itself, program: programs.Program, folder: str) -> Sequence[Opponent]:
     """The robots of --judge without the robot itself, or those of the search if there are none. They compile."""
-    given = games.given
     if not given.judge:
-        return games.opponents
-    itself = games.variant(games.today).sha256
-    found = [it for it in opponents(given.judge, None, [], games.folder) if it.robot.sha256 != itself]
-    robots.compiled(games.program, given.profile, compilable(found), games.folder)
+        return others
+    found = met(given, opponents(given.judge, None, [], folder), itself, folder)
+    robots.compiled(program, given.profile, [it.robot for it in found], folder)
     return found
 
 
@@ -89,7 +96,8 @@ def sweep(games: Games) -> None:
     games.progress.clear()
     if given.output:
         write(given.output, pictures.picture(games, rows).encode("utf-8"))
-    show([tables.of_sweep(games, rows, given.form), *(sweeps.said(rows, games) if given.form == "table" else ())])
+    words = [*sweeps.said(rows, games), tables.legend(games, rows, "sweeps")] if given.form == "table" else []
+    show([tables.of_sweep(games, rows, given.form), *words])
 
 
 def plan(games: Games, program: programs.Program) -> None:
@@ -101,29 +109,38 @@ def plan(games: Games, program: programs.Program) -> None:
     show(plans.lines(plans.Plan(it.settings, files, most, it.only), program.path))
 
 
-def is_known(games: Games, judging_ones: Sequence[Opponent]) -> bool:
+def is_known(games: Games) -> bool:
     """Whether the judgement meets nobody that the search hasn't met, and the search nobody else."""
-    met, those = ({it.robot.sha256 for it in them} for them in (games.opponents, judging_ones))
-    return those <= met and not games.given.against_itself
+    searched, judging_ones = ({it.robot.sha256 for it in them} for them in (games.opponents, games.judges))
+    return judging_ones <= searched and not games.given.against_itself
 
 
-def tune(games: Games, judging_ones: Sequence[Opponent]) -> None:
+def tune(games: Games) -> None:
     """Searches, judges what was found, and writes it if it is surely better."""
     given = games.given
-    if is_known(games, judging_ones):
+    if is_known(games):
         say(given.script, "the tuned robot is judged against the robots that it was tuned against; --judge names others")
-    values = Search(games).run()
-    games.opponents = judging_ones
     if not given.has_matches:
-        given.matches = max(given.matches, judging.matches_of_budget(given.budget, len(games.opponents)))
-    it = judging.judge(games, values, rounded(given.matches, 2) // 2)
+        given.matches = max(given.matches, judging.matches_of_budget(given.budget, len(games.judges)))
+    each = rounded(given.matches, 2) // 2
+    judged = matches_of(Stretch(1, each), 2, len(games.weights(games.judges)))
+    games.progress.begin("search", given.budget, judged, 60 * given.minutes if given.minutes else None, is_most=True)
+    values = Search(games).run()
+    games.opponents = games.judges
+    games.progress.begin("judgement", judged, is_most=True)
+    it = judging.judge(games, values, each)
     games.progress.clear()
     if given.output and it.is_better:
         write(given.output, changed(games.source, games.numbers, it.tuned.values))
     shown = [tables.of_tuning(games, it, given.form), *(judging.said(games, it) if given.form == "table" else ())]
-    if given.output and given.form == "table":
-        shown.append(f"{given.output} is written\n" if it.is_better else f"{given.output} isn't written\n")
-    show(shown)
+    show([*shown, *(written(given.output, it.is_better) if given.form == "table" else ())])
+
+
+def written(output: str | None, is_better: bool) -> list[str]:
+    """What has become of the file."""
+    if output:
+        return [f"{output} is written\n" if is_better else f"{output} isn't written\n"]
+    return ["with -o FILE the robot is written with these numbers\n"] if is_better else []
 
 
 def write(path: str, text: bytes) -> None:
@@ -138,27 +155,42 @@ def write(path: str, text: bytes) -> None:
         unwritable(path, why)
 
 
+def goes_on(given: argparse.Namespace, words: Sequence[str]) -> str:
+    """What becomes of the matches that were played, if it is stopped."""
+    if not given.journal:
+        return "nothing of it is kept; with --journal FILE the same command goes on where it was stopped"
+    is_found = os.path.realpath(shutil.which(given.script) or "") == os.path.realpath(sys.argv[0])
+    return f"{given.journal} has what was played, and this goes on from there: {shlex.join([given.script if is_found else sys.argv[0], *words])}"
+
+
+def tell_journal(given: argparse.Namespace) -> None:
+    """Says what a journal is for: a kill leaves no time to say so."""
+    if given.journal and not given.quiet:
+        has_some = os.path.getsize(given.journal) > 0
+        say(given.script, f"{given.journal} has what was played before, and this goes on from there" if has_some else
+            f"{given.journal} keeps what is played: if this is stopped or killed, the same command goes on from there")
+
+
 def script(name: str, arguments: Iterable[str]) -> None:
     """Does what the words ask for."""
-    given = words.parser(name).read([*arguments])
+    words_given = [*arguments]
+    given = words.parser(name).read(words_given)
     words.check(given)
     program = programs.program(given.crobots)
     if given.plan:
         os.makedirs(given.plan, exist_ok=True)
-        plan(prepared(given, given.plan, Journal(), program, given.field), program)
+        plan(prepared(given, given.plan, Journal(), program), program)
         return
     tell_rounded(given, (2,))
     settings = Settings(given.matches, given.cycles, given.seed, given.profile, program.sha256, 2, (2,))
-    kept_there = f"; {given.journal} has what was played" if given.journal else ""
-    with stopping(f"stopped while no series was played{kept_there}"), robots.private() as folder, \
+    then = goes_on(given, words_given)
+    with stopping("stopped while no series was played" + (f"; {then}" if given.journal else "")), robots.private() as folder, \
             journal(given.journal, settings, partial(say, name)) as kept:
-        games = prepared(given, folder, kept, program, given.field)
+        tell_journal(given)
+        games = prepared(given, folder, kept, program)
         try:
-            if given.sweep:
-                sweep(games)
-            else:
-                tune(games, judges(games))
+            (sweep if given.sweep else tune)(games)
         except Stopped as why:
-            raise Stopped(why.number, f"stopped: {done(games.progress)}{kept_there}") from why
+            raise Stopped(why.number, f"stopped after {games.progress.counted}; {then}") from why
         finally:
             games.progress.clear()

@@ -17,6 +17,8 @@ STAGES = "crobots-stages"
 MOST = 2**31 - 1
 # So many values a sweep has at most if no step is given.
 VALUES = 20
+# How many constants are listed where none is meant.
+TOLD = 8
 NAME = re.compile(r"[A-Za-z_][A-Za-z0-9_]{0,30}")
 BOUNDS = re.compile(r"([0-9]{1,10})\.\.([0-9]{1,10})")
 
@@ -112,11 +114,11 @@ def tokens(path: str, shown: str, source: bytes, profile: int, program: str | No
 def numbers(source: bytes, found: Sequence[Token], shown: str, given: Sequence[tuple[Place, Range]] = ()) -> list[Number]:
     """The numbers of a source that have a mark, or are given with their place, in their order."""
     ranges = {token: text_range(text, at, shown) for token, text, at in marked(source, found, shown)}
-    constants = {it.place: it for it in found if it.kind == "constant"}
+    by_place = {it.place: it for it in found if it.kind == "constant"}
     for place, several in given:
-        token = constants.get(place)
+        token = by_place.get(place)
         if token is None:
-            raise Fault(f"{plain(shown)}:{place}: no number stands there")
+            raise Fault(f"{plain(shown)}:{place}: no number stands there; on that line {constants(source, found, place.line)}")
         ranges[token] = several
     them = [number(source, token, ranges[token], shown) for token in sorted(ranges, key=lambda it: it.begin)]
     names = [it.name for it in them]
@@ -124,6 +126,13 @@ def numbers(source: bytes, found: Sequence[Token], shown: str, given: Sequence[t
     if twice:
         raise Fault(f"{plain(shown)}: two numbers have the name {twice}")
     return them
+
+
+def constants(source: bytes, found: Sequence[Token], line: int | None = None) -> str:
+    """Which constants a source has, or a line of it: where they stand, and what they are."""
+    them = [f"{it.place} is {source[it.begin:it.end].decode('ascii')}" for it in found if it.kind == "constant" and line in (None, it.place.line)]
+    more = f", and {len(them) - TOLD} more" if len(them) > TOLD else ""
+    return ", ".join(them[:TOLD]) + more if them else "there is none"
 
 
 def marked(source: bytes, found: Sequence[Token], shown: str) -> Iterator[tuple[Token, str, str]]:
@@ -163,14 +172,13 @@ def text_range(text: str, where: str, shown: str) -> Range:
     options = dict(zip(words[1::2], words[2::2]))
     if len(words) % 2 == 0 or not {*options} <= {"step", "name"} or len(options) != len(words) // 2:
         raise Fault(f"{where}: a mark is 'tune LOW..HIGH', and perhaps 'step STEP' and 'name NAME', not '{text}'")
-    name = options.get("name", "")
-    if name and not NAME.fullmatch(name):
+    return ranged(words[0], options.get("step"), where, options.get("name"))
+
+
+def ranged(bounds: str, step: str | None, where: str, name: str | None = None) -> Range:
+    """The range of bounds as 100..900, a step and a name."""
+    if name is not None and not NAME.fullmatch(name):
         raise Fault(f"{where}: '{name}' is no name")
-    return ranged(words[0], options.get("step"), where, name)
-
-
-def ranged(bounds: str, step: str | None, where: str, name: str = "") -> Range:
-    """The range of bounds as 100..900 and a step."""
     found = BOUNDS.fullmatch(bounds)
     if not found:
         raise Fault(f"{where}: '{bounds}' is no range as 100..900")
@@ -178,18 +186,24 @@ def ranged(bounds: str, step: str | None, where: str, name: str = "") -> Range:
     if not low < high <= MOST:
         raise Fault(f"{where}: {bounds} has to rise, up to {MOST} at most")
     if step is None:
-        return Range(low, high, None, name)
+        return Range(low, high, None, name or "")
     if not step.isascii() or not step.isdigit() or not 1 <= int(step[:11]) <= high - low:
         raise Fault(f"{where}: '{step}' is no step from 1 to {high - low}")
-    return Range(low, high, int(step), name)
+    return Range(low, high, int(step), name or "")
 
 
 def number(source: bytes, token: Token, several: Range, shown: str) -> Number:
     """The number of a constant."""
     value = int(source[token.begin:token.end])
     if not several.low <= value <= several.high:
-        raise Fault(f"{plain(shown)}:{token.place}: {value} isn't from {several.low} to {several.high}")
+        raise Fault(f"{plain(shown)}:{token.place}: today's value is {value}, which {several.low}..{several.high} leaves out")
     return Number(token.place, token.begin, token.end, value, several)
+
+
+def but_numbers(source: bytes, them: Sequence[Number]) -> re.Pattern[bytes]:
+    """What a source has but for the digits of these numbers, which may be others."""
+    ends = [0, *(end for it in them for end in (it.begin, it.end)), len(source)]
+    return re.compile(b"[0-9]+".join(re.escape(source[begin:end]) for begin, end in zip(ends[::2], ends[1::2])))
 
 
 def changed(source: bytes, them: Sequence[Number], values: Sequence[int]) -> bytes:

@@ -1,9 +1,10 @@
-"""Whom a robot is tuned against: files, folders, samples of a level, and the best robots of a league, each with a weight."""
+"""Whom a robot is tuned against: files, folders, samples of a level, and the best robots of a league, each with a weight; never itself."""
 
 from __future__ import annotations
 
 import importlib
 import os
+import re
 from dataclasses import dataclass
 from fractions import Fraction
 from typing import Callable, Iterable, Sequence
@@ -23,6 +24,23 @@ class Opponent:
 
     robot: Robot
     weight: Fraction = Fraction(1)
+    is_of_folder: bool = False
+
+
+@dataclass(frozen=True)
+class Itself:
+    """The robot that is tuned: the hash of its bytes, and what these are but for its numbers."""
+
+    sha256: str
+    but_numbers: re.Pattern[bytes]
+
+    def is_met(self, other: Opponent, folder: str) -> bool:
+        """Whether an opponent, of which the folder has a copy, is the robot: it has the same bytes. One that was found in a folder of robots
+        may have other numbers: it is an earlier copy, or what a search wrote."""
+        if other.robot.sha256 == self.sha256:
+            return True
+        with open(os.path.join(folder, other.robot.sha256), "rb") as file:
+            return other.is_of_folder and bool(self.but_numbers.fullmatch(file.read()))
 
 
 @dataclass(frozen=True)
@@ -46,16 +64,23 @@ def opponents(paths: Sequence[str], league: League | None, weights: Sequence[tup
     """The robots of these words, copied into a folder, in an order that doesn't depend on that of the words."""
     samples = {path: it.weight for it in levels for path in of_level(it.number)}
     files = [*(file for path in paths for file in robots_of(path)), *samples]
+    of_folders = {*files} - {*paths, *samples}
     found = robots.copied(files, folder) + (of_league(league, folder) if league else [])
     unused = {path for path, _ in weights}
     them = []
     for robot in robots.in_order(found):
         weight, by = weight_of(robot.path, weights) or (samples.get(robot.path, Fraction(1)), "")
         unused -= {by}
-        them.append(Opponent(robot, weight))
+        them.append(Opponent(robot, weight, robot.path in of_folders))
     if unused:
         raise Fault(f"--weight names {min(unused)}, which isn't played against")
     return [it for it in them if it.weight]
+
+
+def without(found: Sequence[Opponent], itself: Itself, folder: str) -> tuple[list[Opponent], list[str]]:
+    """The opponents but the robot itself, and the files that are left out, by name."""
+    them = [(one, itself.is_met(one, folder)) for one in found]
+    return [one for one, is_itself in them if not is_itself], sorted(one.robot.path for one, is_itself in them if is_itself)
 
 
 def robots_of(path: str) -> list[str]:

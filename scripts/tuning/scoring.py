@@ -47,12 +47,17 @@ class Scores:
         mine, theirs = self.of[one, other], self.of[two, other]
         return [mine[place] - theirs[place] for place in sorted(mine.keys() & theirs.keys())]
 
-    def points(self, variant: str, weights: Mapping[str, Fraction]) -> Mean:
+    def points(self, variant: str, weights: Mapping[str, Fraction], level: float = LEVEL) -> Mean:
         """The points a match of a variant with their interval, which has nothing that no match can be worth."""
-        most = max(self.worth.values())
-        it = mean([[*self.of[variant, other].values()] for other in weights], [*map(float, weights.values())], most)
-        return Mean(it.value, max(it.low, 0.0), min(it.high, most))
+        it = mean([[*self.of[variant, other].values()] for other in weights], [*map(float, weights.values())], self._most, level)
+        return Mean(it.value, max(it.low, 0.0), min(it.high, self._most))
 
     def change(self, one: str, two: str, weights: Mapping[str, Fraction], level: float = LEVEL) -> Mean:
         """How many points a match one variant has more than the other, with what one match more or less of the most points would do."""
-        return mean([self.differences(one, two, other) for other in weights], [*map(float, weights.values())], max(self.worth.values()), level)
+        it = mean([self.differences(one, two, other) for other in weights], [*map(float, weights.values())], self._most, level)
+        return Mean(it.value, max(it.low, -self._most), min(it.high, self._most))
+
+    @property
+    def _most(self) -> float:
+        """What a match can be worth."""
+        return max(self.worth.values())

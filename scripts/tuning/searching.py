@@ -11,13 +11,10 @@ import statistics
 import time
 from typing import Sequence
 
-from tools.output import say
-
 from .evolution import Evolution, Point
-from .games import Games, Starts, Stretch, matches_of
+from .games import Games, Starts, Stretch, Values, matches_of, named
 from .marks import Number
 from .opponents import Opponent
-from .sweeps import Values
 
 # What stands for the robot in the starts of the search: those of the judgement are others.
 SEARCHED = "tuned"
@@ -142,15 +139,13 @@ class Search:
         return {it: games.scores.mean(games.variant(it).sha256, weights) for it in several}
 
     def _tell(self, found: Values) -> bool:
-        """Says how far the search is, if it is time; reports whether it was."""
+        """Takes what is best so far, and says how far the search is, if it is time; reports whether it was."""
         games = self._games
+        games.progress.lead(named(games.numbers, found))
         if self._played < self._told + EACH * games.given.budget:
             return False
         self._told = self._played
-        if not games.given.quiet:
-            said = ", ".join(f"{it.name}={value}" for it, value in zip(games.numbers, found))
-            games.progress.clear()
-            say(games.given.script, f"{self._played} of {games.given.budget} matches; so far {said}")
+        games.progress.say()
         return True
 
     def _meet(self, found: Values) -> None:

@@ -14,20 +14,20 @@ from .marks import STAGES, Place, Range, ranged
 from .opponents import BEST, League, Level
 
 BUDGET, ROUND = 100_000, 160
-PLACED = re.compile(r"([0-9]{1,9}):([0-9]{1,9})=([^/]*)(?:/([^/]*))?")
+PLACED = re.compile(r"([0-9]{1,9}):([0-9]{1,9})=([^/,]*)(?:/([^/,]*))?(?:,([^/,]*))?")
 WEIGHT = re.compile(r"(.+)=([0-9]{1,6}(?:\.[0-9]{1,3})?)")
 LEVEL = re.compile(r"([0-9]{1,3})(?:=([0-9]{1,6}(?:\.[0-9]{1,3})?))?")
 
 
 def numbered(text: str) -> tuple[Place, Range]:
-    """Reads LINE:COLUMN=LOW..HIGH/STEP."""
+    """Reads LINE:COLUMN=LOW..HIGH/STEP,NAME, of which step and name may lack."""
     found = PLACED.fullmatch(text)
     if not found:
-        raise argparse.ArgumentTypeError(f"'{text}' isn't LINE:COLUMN=LOW..HIGH or LINE:COLUMN=LOW..HIGH/STEP")
-    line, column, bounds, step = found.groups()
+        raise argparse.ArgumentTypeError(f"'{text}' isn't LINE:COLUMN=LOW..HIGH, which /STEP and ,NAME may follow")
+    line, column, bounds, step, name = found.groups()
     place = Place(int(line), int(column))
     try:
-        return place, ranged(bounds, step, f"--number {place}")
+        return place, ranged(bounds, step, f"--number {place}", name)
     except Fault as why:
         raise argparse.ArgumentTypeError(str(why)) from why
 
@@ -58,11 +58,11 @@ def level(text: str) -> Level:
 
 def parser(name: str) -> Parser:
     """The words of `tune`, under the name by which it was called."""
-    it = common(name, "Says what the numbers of a robot are worth, by a sweep, or tunes them.")
+    it = common(name, "Says what the numbers of a robot are worth, by a sweep, or tunes them.", "matches with each opponent, rounded up to an even number")
     it.add_argument("--sweep", action="store_true", help="play each value of one number, or of two, and print a table")
     it.add_argument("--until", metavar="sure", choices=["sure"], help="with --sweep: double the matches of values that aren't surely worse, up to -m")
     it.add_argument("--number", metavar="LINE:COLUMN=LOW..HIGH", type=numbered, action="append", default=[],
-                    help="a number without a mark, and its range; /STEP may follow; may be given often")
+                    help="a number without a mark, and its range; /STEP may follow, and ,NAME; may be given often")
     it.add_argument("--only", metavar="NAME", action="append", default=[], help="of the marked numbers take this one; may be given often")
     it.add_argument("--league", metavar="LEAGUE", type=league, help="play against the best 10 robots of a league, too; of LEAGUE=N the best N")
     it.add_argument("--level", metavar="N", type=level, action="append", default=[],
@@ -81,7 +81,7 @@ def parser(name: str) -> Parser:
         forms.add_argument(f"--{form}", dest="form", action="store_const", const=form, default="table", help=f"print {does}")
     it.add_argument("-o", dest="output", metavar="FILE", help="write the tuned robot into this file; with --sweep a picture, as SVG")
     it.add_argument("--stages", metavar="PROGRAM", help=f"the program that finds numbers (default: {STAGES} on the path, or the one installed or built with this script)")
-    it.add_argument("robot", metavar="ROBOT", help="the robot whose numbers are meant")
+    it.add_argument("robot", metavar="ROBOT", help="the robot; a comment as /* tune 100..900 */ behind a number marks it")
     it.add_argument("field", metavar="OPPONENT", nargs="*", help="robots to play against, and folders with robots")
     return it
 

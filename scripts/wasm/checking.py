@@ -152,19 +152,19 @@ def bulk(walk: Walk) -> Instruction:
     return BULK, kind
 
 
-def lowered(it: Instruction, first: int, second: int, wide: int) -> list[Instruction]:
+def lowered(instruction: Instruction, first: int, second: int, wide: int) -> list[Instruction]:
     """What has to stand in the lowered module for an instruction, with the numbers of the three locals."""
-    if it[0] in LOADS:
-        return [(WRAP,), it]
-    if it[0] in STORES_32:
-        return [(SET, first), (WRAP,), (GET, first), it]
-    if it[0] in STORES_64:
-        return [(SET, wide), (WRAP,), (GET, wide), it]
-    if it == (BULK, COPY):
-        return [(WRAP,), (SET, second), (WRAP,), (SET, first), (WRAP,), (GET, first), (GET, second), it]
-    if it == (BULK, FILL):
-        return [(WRAP,), (SET, second), (SET, first), (WRAP,), (GET, first), (GET, second), it]
-    return [it]
+    if instruction[0] in LOADS:
+        return [(WRAP,), instruction]
+    if instruction[0] in STORES_32:
+        return [(SET, first), (WRAP,), (GET, first), instruction]
+    if instruction[0] in STORES_64:
+        return [(SET, wide), (WRAP,), (GET, wide), instruction]
+    if instruction == (BULK, COPY):
+        return [(WRAP,), (SET, second), (WRAP,), (SET, first), (WRAP,), (GET, first), (GET, second), instruction]
+    if instruction == (BULK, FILL):
+        return [(WRAP,), (SET, second), (SET, first), (WRAP,), (GET, first), (GET, second), instruction]
+    return [instruction]
 
 
 def test(argument: int) -> list[Instruction]:
@@ -174,10 +174,10 @@ def test(argument: int) -> list[Instruction]:
 
 
 def expect(walk: Walk, wanted: list[Instruction]) -> None:
-    for it in wanted:
+    for expected in wanted:
         found = instruction(walk, False)
-        if found != it:
-            refuse(f"the instruction {found} at byte {walk.at}, and not {it}")
+        if found != expected:
+            refuse(f"the instruction {found} at byte {walk.at}, and not {expected}")
 
 
 def local_groups(walk: Walk) -> list[tuple[int, int]]:
@@ -192,10 +192,10 @@ def check_function(wide: Walk, low: Walk, parameters: bytes, is_exported: bool) 
         if is_exported and kind == I64:
             expect(low, test(argument))
     while not wide.is_over:
-        it = instruction(wide, True)
-        require(it[0] not in LOCALS or it[1] < count, "a local that isn't the function's own")
-        is_value = it[0] in VALUES and wide.is_before_store
-        expect(low, [(WRAP,), it, instruction(wide, True)] if is_value else lowered(it, count, count + 1, count + 2))
+        original = instruction(wide, True)
+        require(original[0] not in LOCALS or original[1] < count, "a local that isn't the function's own")
+        is_value = original[0] in VALUES and wide.is_before_store
+        expect(low, [(WRAP,), original, instruction(wide, True)] if is_value else lowered(original, count, count + 1, count + 2))
     require(low.is_over, "code after the end")
 
 
@@ -262,7 +262,7 @@ def check(wide: bytes, low: bytes) -> None:
     if DATA in ours:
         check_data(ours[DATA], theirs[DATA])
     for number in (MEMORIES, CODE, DATA):
-        require(all(number not in it or it[number].is_over for it in (ours, theirs)), f"section {number} goes on")
+        require(all(number not in sections or sections[number].is_over for sections in (ours, theirs)), f"section {number} goes on")
 
 
 def refusal(wide: bytes, low: bytes) -> str:

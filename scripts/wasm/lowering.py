@@ -156,25 +156,25 @@ def local(opcode: int, number: int) -> bytes:
     return bytes([opcode]) + unsigned(number)
 
 
-def lowered_instruction(it: Instruction, spare: Spare) -> bytes:
+def lowered_instruction(instruction: Instruction, spare: Spare) -> bytes:
     """An instruction, with its address wrapped if it has one."""
-    if it.opcode not in ACCESSES:
-        return it.written()
-    above = operands(it.opcode, spare)
+    if instruction.opcode not in ACCESSES:
+        return instruction.written()
+    above = operands(instruction.opcode, spare)
     away = [(WRAP if is_wide else b"") + local(LOCAL_SET, number) for number, is_wide in reversed(above)]
     back = [local(LOCAL_GET, number) for number, _ in above]
-    return b"".join([*away, WRAP, *back, it.written()])
+    return b"".join([*away, WRAP, *back, instruction.written()])
 
 
 def lowered_instructions(reader: Reader, spare: Spare) -> Iterator[bytes]:
     """A function's instructions, with addresses wrapped."""
-    it, is_wrapped = Instruction.read(reader), False
+    instruction, is_wrapped = Instruction.read(reader), False
     while not reader.is_at_end():
         after = Instruction.read(reader)
-        is_value = it.opcode in VALUES and after.opcode in STORES
-        yield WRAP + it.written() if is_value else it.written() if is_wrapped else lowered_instruction(it, spare)
-        it, is_wrapped = after, is_value
-    yield it.written()
+        is_value = instruction.opcode in VALUES and after.opcode in STORES
+        yield WRAP + instruction.written() if is_value else instruction.written() if is_wrapped else lowered_instruction(instruction, spare)
+        instruction, is_wrapped = after, is_value
+    yield instruction.written()
 
 
 def lowered_function(body: bytes, parameters: bytes, is_exported: bool) -> bytes:

@@ -24,14 +24,14 @@ ORDER = (16, 17, 18, 0, 8, 7, 9, 6, 10, 5, 11, 4, 12, 3, 13, 2, 14, 1, 15)
 
 def classes(first: int, extras: Sequence[int]) -> list[tuple[int, int]]:
     """The first value of each class, and how many bits say which of the class it is."""
-    return list(zip(accumulate((1 << it for it in extras), initial=first), extras))
+    return list(zip(accumulate((1 << bits for bits in extras), initial=first), extras))
 
 
 # The classes of lengths, of which the last has one alone, and those of distances.
-LENGTHS = [*classes(LEAST, [0] * 4 + [it for it in range(6) for _ in range(4)])[:28], (MOST, 0)]
-DISTANCES = classes(1, [0, 0] + [it for it in range(14) for _ in range(2)])
-LENGTH_CLASS = [max((at for at, (first, _) in enumerate(LENGTHS) if first <= it), default=0) for it in range(MOST + 1)]
-SHORT_DISTANCE = [max((at for at, (first, _) in enumerate(DISTANCES) if first <= it), default=0) for it in range(257)]
+LENGTHS = [*classes(LEAST, [0] * 4 + [bits for bits in range(6) for _ in range(4)])[:28], (MOST, 0)]
+DISTANCES = classes(1, [0, 0] + [bits for bits in range(14) for _ in range(2)])
+LENGTH_CLASS = [max((at for at, (first, _) in enumerate(LENGTHS) if first <= length), default=0) for length in range(MOST + 1)]
+SHORT_DISTANCE = [max((at for at, (first, _) in enumerate(DISTANCES) if first <= distance), default=0) for distance in range(257)]
 
 # A symbol is a byte with no distance, or the length of a copy with its distance.
 Symbol = tuple[int, int]
@@ -83,7 +83,7 @@ class Code:
 
     def lengths(self) -> list[float]:
         """What each length takes."""
-        return [self.symbols[END + 1 + it] + LENGTHS[it][1] for it in LENGTH_CLASS]
+        return [self.symbols[END + 1 + number] + LENGTHS[number][1] for number in LENGTH_CLASS]
 
     def distance(self) -> list[float]:
         """What each class of distances takes."""
@@ -153,13 +153,13 @@ def bits_of_each(counts: Counter[int], size: int) -> list[float]:
     """How many bits each symbol takes by the best codes, if a code may have any part of a bit. One that isn't there would take more than
     all that are."""
     whole = max(counts.total(), 1)
-    return [math.log2(whole / counts[it]) if counts[it] else math.log2(whole) + 1 for it in range(size)]
+    return [math.log2(whole / counts[symbol]) if counts[symbol] else math.log2(whole) + 1 for symbol in range(size)]
 
 
 def bits_of(counts: Counter[int]) -> float:
     """How many bits symbols take by the best codes, if a code may have any part of a bit."""
     whole = counts.total()
-    return whole * math.log2(whole) - sum(it * math.log2(it) for it in counts.values()) if whole else 0.0
+    return whole * math.log2(whole) - sum(count * math.log2(count) for count in counts.values()) if whole else 0.0
 
 
 def split(symbols: list[Symbol]) -> list[Block]:
@@ -241,7 +241,7 @@ def runs(lengths: list[int]) -> Iterator[tuple[int, int, int]]:
     at = 0
     while at < len(lengths):
         length = lengths[at]
-        end = next((it for it in range(at, len(lengths)) if lengths[it] != length), len(lengths))
+        end = next((place for place in range(at, len(lengths)) if lengths[place] != length), len(lengths))
         if length:
             yield length, 0, 0
             at += 1
@@ -257,12 +257,12 @@ def runs(lengths: list[int]) -> Iterator[tuple[int, int, int]]:
 
 def put_head(writer: Writer, symbols: list[int], distances: list[int]) -> None:
     """Writes the lengths of a block's codes."""
-    most = max((at for at, it in enumerate(symbols) if it), default=END) + 1
-    far = max((at for at, it in enumerate(distances) if it), default=0) + 1
+    most = max((at for at, bits in enumerate(symbols) if bits), default=END) + 1
+    far = max((at for at, bits in enumerate(distances) if bits), default=0) + 1
     told = list(runs(symbols[:most] + distances[:far]))
-    lengths = code_lengths(Counter(it for it, _, _ in told), 19, LONGEST_CODE_OF_LENGTHS)
-    codes, count = codes_of(lengths), max(at for at, it in enumerate(ORDER) if lengths[it]) + 1
-    for number, bits in ((most - 257, 5), (far - 1, 5), (max(count, 4) - 4, 4), *((lengths[it], 3) for it in ORDER[:max(count, 4)])):
+    lengths = code_lengths(Counter(symbol for symbol, _, _ in told), 19, LONGEST_CODE_OF_LENGTHS)
+    codes, count = codes_of(lengths), max(at for at, symbol in enumerate(ORDER) if lengths[symbol]) + 1
+    for number, bits in ((most - 257, 5), (far - 1, 5), (max(count, 4) - 4, 4), *((lengths[symbol], 3) for symbol in ORDER[:max(count, 4)])):
         writer.put(number, bits)
     for symbol, number, bits in told:
         writer.put(codes[symbol], lengths[symbol])
@@ -292,8 +292,8 @@ def deflated(data: bytes) -> bytes:
     begins, codes, blocks = [0], [PLAIN], [Block([])]
     for _ in range(ROUNDS + 1):
         blocks = split(cheapest(data, choices, begins, codes)) or [Block([])]
-        begins = [0, *accumulate(it.size for it in blocks)][:-1]
-        codes = [it.code() for it in blocks]
+        begins = [0, *accumulate(block.size for block in blocks)][:-1]
+        codes = [block.code() for block in blocks]
     writer = Writer()
     for number, block in enumerate(blocks, 1):
         put_block(writer, block, number == len(blocks))

@@ -79,7 +79,7 @@ class Reader:
             elif line.startswith(FENCE):
                 yield self.fenced()
             elif line.startswith("    "):
-                yield code(line[4:] for line in self.while_(lambda it: it.startswith("    ")))
+                yield code(line[4:] for line in self.while_(lambda line: line.startswith("    ")))
             elif line.startswith("|"):
                 yield self.table()
             elif line.startswith("- ") or ORDERED.match(line):
@@ -105,13 +105,13 @@ class Reader:
     def fenced(self) -> str:
         """Code between two fences."""
         self.at += 1
-        lines = self.while_(lambda it: not it.startswith(FENCE))
+        lines = self.while_(lambda line: not line.startswith(FENCE))
         self.at += 1
         return code(lines)
 
     def table(self) -> str:
         """A table, whose first row has its titles."""
-        head, *rows = [cells(row) for row in self.while_(lambda it: it.startswith("|")) if not RULE.fullmatch(row.replace(" ", ""))]
+        head, *rows = [cells(row) for row in self.while_(lambda line: line.startswith("|")) if not RULE.fullmatch(row.replace(" ", ""))]
         return "<table>\n" + self.row("th", head) + "".join(self.row("td", row) for row in rows) + "</table>\n"
 
     def row(self, tag: str, row: list[str]) -> str:
@@ -121,7 +121,7 @@ class Reader:
     def list_(self) -> str:
         """A list, numbered or not."""
         is_ordered = bool(ORDERED.match(self.lines[self.at]))
-        items = self.while_(lambda it: bool(ORDERED.match(it)) if is_ordered else it.startswith("- "))
+        items = self.while_(lambda line: bool(ORDERED.match(line)) if is_ordered else line.startswith("- "))
         tag = "ol" if is_ordered else "ul"
         return f"<{tag}>\n" + "".join(f"<li>{self.said(item.partition(' ')[2])}</li>\n" for item in items) + f"</{tag}>\n"
 

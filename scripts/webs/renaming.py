@@ -170,9 +170,9 @@ class Reader:
     def is_at_end(self) -> bool:
         return self.at >= len(self.items)
 
-    def within(self, it: Item, scope: Scope, form: int = VALUES) -> Reader:
+    def within(self, item: Item, scope: Scope, form: int = VALUES) -> Reader:
         """What reads a bracket in here."""
-        return Reader(it.items, scope, self.named, form)
+        return Reader(item.items, scope, self.named, form)
 
     def read(self) -> None:
         """Reads all of it."""
@@ -184,28 +184,28 @@ class Reader:
 
     def part(self) -> None:
         """Reads an item, and what belongs to it."""
-        it, before = self.item(), self.item(-1)
-        if before.ends_statement(it):
+        item, before = self.item(), self.item(-1)
+        if before.ends_statement(item):
             self.begins, self.declares = self.has_statements, None
         begins, self.begins = self.begins, False
         self.at += 1
         if self.item().is_sign("=>"):
-            self.arrow(it)
-        elif it.kind == "bracket":
-            self.bracket(it, it.text == "{" and (begins or before.is_bracket("(")))
-        elif it.kind == "word" and not self.is_member():
-            self.word(it, begins, before)
-        elif it.kind == "sign":
-            self.sign(it.text)
+            self.arrow(item)
+        elif item.kind == "bracket":
+            self.bracket(item, item.text == "{" and (begins or before.is_bracket("(")))
+        elif item.kind == "word" and not self.is_member():
+            self.word(item, begins, before)
+        elif item.kind == "sign":
+            self.sign(item.text)
 
     def is_member(self) -> bool:
         """Whether the word that was taken is a property's name, behind a dot; behind three it is none."""
         return self.item(-2).is_sign(".") and not self.item(-3).is_sign(".")
 
-    def bracket(self, it: Item, is_block: bool) -> None:
+    def bracket(self, item: Item, is_block: bool) -> None:
         """Reads what stands within another bracket."""
-        form = BLOCK if is_block else MEMBERS if it.text == "{" else VALUES
-        self.within(it, self.scope.inner(is_block=True) if is_block else self.scope, form).read()
+        form = BLOCK if is_block else MEMBERS if item.text == "{" else VALUES
+        self.within(item, self.scope.inner(is_block=True) if is_block else self.scope, form).read()
         self.begins = is_block
 
     def sign(self, text: str) -> None:
@@ -223,21 +223,21 @@ class Reader:
         if not self.goes_by("?") and (not self.item().is_sign(".") or self.item(1).text[:1].isdigit()):
             self.conditions += 1
 
-    def word(self, it: Item, begins: bool, before: Item) -> None:
+    def word(self, item: Item, begins: bool, before: Item) -> None:
         """Reads a word, and what begins with it."""
-        if it.text in REFUSED:
-            raise Unclear(it.text)
-        if it.text in DECLARING:
-            self.declares = self.scope.function() if it.text == "var" else self.scope
+        if item.text in REFUSED:
+            raise Unclear(item.text)
+        if item.text in DECLARING:
+            self.declares = self.scope.function() if item.text == "var" else self.scope
             self.target(self.declares)
-        elif it.text in ("for", "catch", "class", "function"):
-            self.begins_with(it.text, begins, not begins and before.kind == "sign" and not before.is_sign(":", ";"))
-        elif it.text == "in" or self.form == HEADER and it.text == "of" and self.declares:
+        elif item.text in ("for", "catch", "class", "function"):
+            self.begins_with(item.text, begins, not begins and before.kind == "sign" and not before.is_sign(":", ";"))
+        elif item.text == "in" or self.form == HEADER and item.text == "of" and self.declares:
             self.declares = None
-        elif it.is_name():
-            self.name(it, self.scope)
+        elif item.is_name():
+            self.name(item, self.scope)
         else:
-            self.begins = it.text in BEFORE_STATEMENT and self.has_statements
+            self.begins = item.text in BEFORE_STATEMENT and self.has_statements
 
     def begins_with(self, word: str, begins: bool, is_value: bool) -> None:
         """Reads what begins with a word that has a scope of its own."""
@@ -250,20 +250,20 @@ class Reader:
         else:
             self.function(begins and self.form == BODY, is_value)
 
-    def name(self, it: Item, scope: Scope, is_declared: bool = False, is_property: bool = False) -> None:
+    def name(self, item: Item, scope: Scope, is_declared: bool = False, is_property: bool = False) -> None:
         """Takes note of a name, and perhaps of its declaration."""
-        self.named.append((scope, it, is_property))
+        self.named.append((scope, item, is_property))
         if is_declared:
-            scope.places.setdefault(it.text, [])
+            scope.places.setdefault(item.text, [])
 
     def target(self, scope: Scope) -> None:
         """Reads what is declared in a scope: a name, or a pattern."""
-        it = self.take(self.item().is_name() or self.item().is_bracket("[", "{"))
-        if it.kind == "bracket":
-            reader = self.within(it, self.scope)
-            (reader.targets if it.text == "[" else reader.properties)(scope)
+        item = self.take(self.item().is_name() or self.item().is_bracket("[", "{"))
+        if item.kind == "bracket":
+            reader = self.within(item, self.scope)
+            (reader.targets if item.text == "[" else reader.properties)(scope)
         else:
-            self.name(it, scope, is_declared=True)
+            self.name(item, scope, is_declared=True)
 
     def targets(self, scope: Scope) -> None:
         """Reads a list of what is declared in a scope, as parameters are."""
@@ -302,18 +302,18 @@ class Reader:
         conditions, self.conditions = self.conditions, 0
         begin = self.at
         while not self.is_at_end():
-            it = self.item()
-            if it.is_sign(",", ";") or it.is_sign(":") and not self.conditions or self.at > begin and self.item(-1).ends_statement(it):
+            item = self.item()
+            if item.is_sign(",", ";") or item.is_sign(":") and not self.conditions or self.at > begin and self.item(-1).ends_statement(item):
                 break
             self.part()
         self.conditions = conditions
 
     def key(self) -> Item:
         """Reads the name of a property or of a method."""
-        it = self.take(self.item().kind in ("word", "text") or self.item().is_bracket("["))
-        if it.kind == "bracket":
-            self.within(it, self.scope).read()
-        return it
+        item = self.take(self.item().kind in ("word", "text") or self.item().is_bracket("["))
+        if item.kind == "bracket":
+            self.within(item, self.scope).read()
+        return item
 
     def alone(self, key: Item, scope: Scope, is_declared: bool = False) -> None:
         """A name that stands alone in an object or a pattern is a variable's and a property's."""
@@ -362,15 +362,15 @@ class Reader:
         self.within(self.take(self.item().is_bracket("(")), inner).targets(inner)
         self.within(self.take(self.item().is_bracket("{")), inner, BODY).read()
 
-    def arrow(self, it: Item) -> None:
+    def arrow(self, item: Item) -> None:
         """Reads an arrow function, whose parameters were taken: one name, or a bracket."""
         inner = self.scope.inner()
-        if it.is_name():
-            self.name(it, inner, is_declared=True)
-        elif it.is_bracket("("):
-            self.within(it, inner).targets(inner)
+        if item.is_name():
+            self.name(item, inner, is_declared=True)
+        elif item.is_bracket("("):
+            self.within(item, inner).targets(inner)
         else:
-            raise Unclear(it.text)
+            raise Unclear(item.text)
         self.at += 1
         if self.item().is_bracket("{"):
             self.within(self.take(True), inner, BODY).read()
@@ -441,18 +441,18 @@ def short_names(others: set[str]) -> Iterator[str]:
 
 def resolve(named: list[tuple[Scope, Item, bool]]) -> None:
     """Tells each scope where its variables are named, and which variables of scopes around it are named in it."""
-    for scope, it, is_property in named:
-        declaring = scope.declaring(it.text)
-        declaring.places.setdefault(it.text, []).append(Place(it.place, is_property))
+    for scope, item, is_property in named:
+        declaring = scope.declaring(item.text)
+        declaring.places.setdefault(item.text, []).append(Place(item.place, is_property))
         while scope is not declaring and scope.above:
-            scope.others.add((id(declaring), it.text))
+            scope.others.add((id(declaring), item.text))
             scope = scope.above
 
 
 def rename(scope: Scope, given: dict[tuple[int, str], str], kept: set[str], found: list[tuple[str, str]]) -> None:
     """Gives the variables of the scopes below one their names: the shortest that nothing else has that is named there."""
     for inner in scope.below:
-        names = short_names(kept | {given[it] for it in inner.others if it in given})
+        names = short_names(kept | {given[name] for name in inner.others if name in given})
         for (name, places), short in zip(inner.places.items(), names):
             given[id(inner), name] = short
             for at, is_property in places:

@@ -130,4 +130,4 @@ STYLE_PIECE = re.compile(r"""/\*(?:.|\n)*?\*/|("(?:\\.|[^"\\])*"|'(?:\\.|[^'\\])
 
 def short_style(style: str) -> str:
     """The style without comments and needless blanks."""
-    return STYLE_PIECE.sub(lambda it: it[1] or it[2] or (" " if it[0].isspace() else ""), style)
+    return STYLE_PIECE.sub(lambda found: found[1] or found[2] or (" " if found[0].isspace() else ""), style)

@@ -46,9 +46,9 @@ def entry(name: str, data: bytes) -> Entry:
 def put_together(entries: list[Entry]) -> bytes:
     """The zip of some entries."""
     made, rows = b"", b""
-    for it in entries:
-        rows += it.row(len(made))
-        made += it.file()
+    for entry in entries:
+        rows += entry.row(len(made))
+        made += entry.file()
     return made + rows + END + struct.pack("<4H2IH", 0, 0, len(entries), len(entries), len(rows), len(made), 0)
 
 

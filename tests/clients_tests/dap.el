@@ -1,4 +1,4 @@
-;; Emacs with dap-mode as a client of the debug adapter: a breakpoint, a step, and a step back.
+;; Emacs with dap-mode as a client of the debug adapter: a breakpoint with a condition, steps, and steps back.
 (require 'cl-lib)
 (require 'dap-mode)
 (require 'json)
@@ -35,6 +35,14 @@
 (stop-after 'again (lambda () (dap-next (dap--cur-session))))
 (stop-after 'back (lambda () (crobots-step-back)))
 (stop-after 'reverse (lambda () (crobots-reverse-continue)))
+(with-current-buffer "mine.r"
+  (goto-char (point-min))
+  (forward-line 4)
+  (dap-breakpoint-toggle)
+  (cl-letf (((symbol-function 'read-string) (lambda (&rest _) "heading == 20")))
+    (call-interactively #'dap-breakpoint-condition)))
+(stop-after 'stop (lambda () (call-interactively #'dap-continue)))
+(push (cons 'value (gethash "result" (answer-to "evaluate" (list :expression "heading * 2")))) found)
 (with-temp-file place (insert (json-encode found)))
 (set-buffer-modified-p nil)
 (kill-emacs 0)

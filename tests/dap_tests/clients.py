@@ -12,10 +12,10 @@ SERVER = str(TOP / "scripts" / "dap")
 class Debugging:
     """A client that looks into a match."""
 
-    def __init__(self, environment: dict[str, str], folder: str) -> None:
-        self.client = Client([SERVER], environment, folder)
+    def __init__(self, environment: dict[str, str], folder: str, server: str = SERVER, **more: Any) -> None:
+        self.client = Client([server], environment, folder)
         self._number = 0
-        self.capabilities = self.ask("initialize", {"adapterID": "crobots"})["body"]
+        self.capabilities = self.ask("initialize", {"adapterID": "crobots"} | more)["body"]
 
     def begin(self, command: str, arguments: Any = None) -> int:
         self._number += 1

@@ -7,7 +7,7 @@ const BASE = "https://host/sub/send.js";
 let count = 0;
 
 /** An answer as `fetch` gives one. */
-const answer = (text, type) => async () => ({text: async () => text, headers: new Map([["Content-Type", type]])});
+const answer = (text, type, status = 200) => async () => ({status, text: async () => text, headers: new Map([["Content-Type", type]])});
 
 /** An element that is nothing but what is put into it. */
 class Element {
@@ -46,7 +46,7 @@ async function answers(ask, wanted) {
 
 await answers(answer('{"taken": true, "words": "taken: r"}', "application/json"), {taken: true, words: "taken: r"});
 await answers(answer('{"taken": false, "words": "r.r:2: a\\nb"}', "application/json; charset=utf-8"), {taken: false, words: "r.r:2: a\nb"});
-await answers(answer("401: your link isn't one\n", "text/plain"), {taken: false, words: "your link isn't one"});
+await answers(answer("401: your link isn't one\n", "text/plain", 401), {taken: false, words: "your link isn't one"});
 await answers(answer("<html>", "text/html"), {taken: false, words: "<html>"});
 const silent = {taken: false, words: "The league doesn't answer. Your robot is still here: try again."};
 await answers(answer("", "text/plain"), silent);

@@ -8,17 +8,20 @@ import re
 import tempfile
 import time
 from dataclasses import fields, replace
-from typing import Iterator
+from decimal import Decimal
+from typing import Any, Iterator
 from unittest import mock
 
 from ladder import films, judging, serving
-from ladder.live import Fought, Live, Row
+from ladder.live import Fought, Live
 from ladder.organisers import climbed_by
 from ladder.reasons import lost_pairs
 from leagues import entries, seasons
 from leagues.results import keep
 from leagues.schedules import Schedule
 from leagues.store import opened
+from results.scores import Score
+from results.standings import NOTHING, Rating, Standing
 
 from .base import SHOOTER, TODAY, Base, Ladder, other
 
@@ -38,7 +41,7 @@ class Showing(Base):
         ladder = self._made("lost")
         self._fought(ladder, FOUGHT)
         with opened(ladder.folder) as store:
-            found = [(it.opponents, it.won, it.tied, it.lost, [(one.number, one.seat, one.cycles) for one in it.worst]) for it in lost_pairs(store, "mine")]
+            found = [(it.opponents, it.score.won, it.score.tied, it.score.lost, [(one.number, one.seat, one.cycles) for one in it.worst]) for it in lost_pairs(store, "mine")]
         wanted = [(("strongest",), 0, 0, 4, [(2, 0, 8), (1, 0, 9)]), (("strong",), 1, 0, 3, [(1, 0, 20), (1, 1, 40)])]
         if found != wanted:
             yield f"{found}, not {wanted}"
@@ -131,10 +134,13 @@ class Showing(Base):
             yield f"{found}"
 
     def the_tag_is_another_one_if_anything_is(self) -> Iterator[str]:
-        row = Row(1, 1, "a", 2, 1, 0, 1, "1.500", 3.0, 2.0, 4.0)
+        row = Standing("a", 1, Score(1, 0, 1), Decimal("1.5"), Rating(3.0, 2.0, 4.0))
         it = Live("1", 2, 3, (row,), (Fought("h", "1", 1, ("a", "b")),))
         others = [replace(it, **{one.name: value}) for one, value in zip(fields(it), ("2", 9, 9, (), ()))]
-        others += [replace(it, rows=(replace(row, **{one.name: "x" if isinstance(getattr(row, one.name), str) else 9}),)) for one in fields(row)]
+        changes: list[dict[str, Any]] = [
+            {"robot": "x"}, {"rank": 9}, {"division": 9}, {"points": Decimal("1.50001")}, *({"score": Score(*score)} for score in ((2, 0, 1), (1, 1, 1), (1, 0, 2))),
+            *({"rating": Rating(*rating)} for rating in ((3.5, 2.0, 4.0), (3.0, 2.5, 4.0), (3.0, 2.0, 4.5))), {"rating": NOTHING}]
+        others += [replace(it, rows=(replace(row, **change),)) for change in changes]
         tags = [one.tag for one in (it, *others)]
         if len({*tags}) != len(tags) or replace(it).tag != it.tag:
             yield f"{tags}"

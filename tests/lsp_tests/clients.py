@@ -13,8 +13,8 @@ OFFERS = {"textDocument": {"completion": {"completionItem": {"snippetSupport": T
 class Editor:
     """An editor with documents, that asks a server."""
 
-    def __init__(self, environment: dict[str, str], folder: str, options: Any = None, offers: Any = None) -> None:
-        self.client = Client([SERVER], environment, folder)
+    def __init__(self, environment: dict[str, str], folder: str, options: Any = None, offers: Any = None, words: list[str] | None = None) -> None:
+        self.client = Client(words or [SERVER], environment, folder)
         self._number = 0
         self.answer = self.ask("initialize", {"processId": None, "rootUri": None, "capabilities": offers or OFFERS,
                                               "initializationOptions": options})

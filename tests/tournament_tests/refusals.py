@@ -70,7 +70,7 @@ class Refusals(Base):
 
     def a_program_that_is_none(self) -> list[str]:
         """A program whose output isn't that of such a series, or that fails, ends the tournament in one line."""
-        report = "Match 1: cycles = {}; 1) alive damage 0% a; 2) alive damage 0% b;Totals: 1 matches; 1) won 0 tied 1 lost 0 a; 2) won 0 tied 1 lost 0 b"
+        report = "Match 1: cycles = {}; 1) alive damage   0% a; 2) alive damage   0% b;Totals: 1 matches; 1) won 0 tied 1 lost 0 a; 2) won 0 tied 1 lost 0 b"
         lines = report.replace("; ", "\\n  ").replace(";", "\\n")
         for name, does in {
             "silent": "exit 0", "failing": 'case $1 in -c) exit 0;; esac; echo "out of luck" >&2; exit 5',

@@ -13,7 +13,7 @@ from tuning.evolution import Evolution, mirrored
 from tuning.scoring import Scores
 from tuning.judging import judge
 from tuning.searching import Search, spread
-from tuning.sweeps import MISTAKEN
+from tuning.verdicts import MISTAKEN, levels
 
 from tune_tests import rates
 from tune_tests.simulated import Simulated, number, words
@@ -75,7 +75,7 @@ class Chances:
         for _ in range(500):
             wins = [rest.uniform(0.05, 0.9) for _ in OTHERS]
             scores = drawn(rest, {str(at): wins for at in range(20)}, 20)
-            level = 1 - MISTAKEN / 19
+            level = levels(20, len(OTHERS)).change
             called += any(scores.change(str(at), "0", dict.fromkeys(OTHERS, Fraction(1)), level).is_sure for at in range(1, 20))
         return [] if called <= 5 else [f"{called} of 500"]
 
@@ -118,9 +118,23 @@ class Chances:
         return [] if max(got) <= 1 else [f"{got}"]
 
     def the_best_value_is_hardly_ever_dropped(self) -> list[str]:
-        """Of robots of all kinds until sure: at most one in 20 is the promise; `bench/chances` tries more."""
+        """Of robots of all kinds until sure: at most one in 100 is the promise; `bench/chances` tries more."""
         gone, of = rates.dropped(40)
-        return [] if gone <= 2 and of >= 30 else [f"{gone} of {of}"]
+        return [] if gone <= 1 and of >= 30 else [f"{gone} of {of}"]
+
+    def what_is_claimed_is_so(self) -> list[str]:
+        """Of robots of all kinds, in one look and until sure: at most one sweep in 100 claims anything that isn't so, or has an interval without
+        the truth; `bench/chances` tries more."""
+        got = [rates.mistaken(40, until_sure) for until_sure in (False, True)]
+        return [] if all(claims <= 1 and intervals <= 1 and sure >= 20 for claims, intervals, sure in got) else [f"{got}"]
+
+    def levels_by_hand(self) -> list[str]:
+        """Of 21 values 20 are compared with today's: 0.01 / 20 each. At 5 looks, with a race, a half of the 0.01 is for 100 comparisons with
+        today's, and a half for the 210 pairs at each look, 1,050; points and changes of 21 values with 3 opponents and with all are 840."""
+        got = [levels(21, 3), levels(21, 3, 5, True), levels(2, 1)]
+        wanted = [(0.0005, 0.01 / 168), (0.00005, 0.01 / 840, 0.005 / 1050), (0.01, 0.01 / 8)]
+        told = [(1 - it.change, 1 - it.single, 1 - it.race) for it in got]
+        return [] if all(abs(one - other) < 1e-12 for row, right in zip(told, wanted) for one, other in zip(row, right)) else [f"{told}"]
 
     def a_search_keeps_to_its_budget(self) -> list[str]:
         """Whatever it is, and however many opponents there are; what can't pay one match of each seating comes back to today's values. No match
@@ -139,7 +153,8 @@ class Chances:
 
     def a_judgement_is_sure_by_99_of_100(self) -> list[str]:
         """Of 200 matches 7 are won in place of lost: 0.105 points, and a deviation of the root of 9 * 0.035 * 0.965 / 199 + 2 * (3 / 200)^2 =
-        0.0445. That is 2.36 deviations: more than the 1.97 that 95 of 100 ask for, less than the 2.60 of 99. Ten are 2.94."""
+        0.0445. That is 2.36 deviations: more than the 1.97 that 95 of 100 ask for, less than the 2.60 of 99. Ten are 2.94. The interval that is
+        told says the same."""
         class Won(Simulated):
             won = 0
 
@@ -152,7 +167,7 @@ class Chances:
         for Won.won in (7, 10):
             judged = judge(Won(words(1), [number(1)], lambda values: [0.3], [1]), (2,), 100)
             said.append((judged.is_better, judged.tuned.change.low > 0))
-        return [] if said == [(False, True), (True, True)] else [f"{said}"]
+        return [] if said == [(False, False), (True, True)] else [f"{said}"]
 
     def a_search_against_itself(self) -> list[str]:
         """A number decides nothing against others, and the greater one wins between two versions: so it rises only if they meet. At most four

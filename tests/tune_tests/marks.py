@@ -2,11 +2,14 @@
 
 from __future__ import annotations
 
+import argparse
 import random
 import re
+from itertools import product
 
 from tools.faults import Fault
-from tuning.marks import Number, Place, Range, Token, changed, coarse, numbers, place_of
+from tuning.marks import Number, Place, Range, Token, but_numbers, changed, coarse, constants, numbers, place_of
+from tuning.words import numbered
 
 # A source, and what its numbers are: place, value, low, high, step, name.
 RIGHT: list[tuple[str, list[tuple[str, int, int, int, int | None, str]]]] = [
@@ -40,7 +43,7 @@ WRONG = [
     ("main(){1 /* tune 0..9 step 2 step 3 */;}",
      "r:1:10: a mark is 'tune LOW..HIGH', and perhaps 'step STEP' and 'name NAME', not 'tune 0..9 step 2 step 3'"),
     ("main(){1 /* tune 0..9 name 1a */;}", "r:1:10: '1a' is no name"),
-    ("main(){1 /* tune 2..9 */;}", "r:1:8: 1 isn't from 2 to 9"),
+    ("main(){1 /* tune 2..9 */;}", "r:1:8: today's value is 1, which 2..9 leaves out"),
     ("main(){1 /* tune 0..9 name a */; 2 /* tune 0..9 name a */;}", "r: two numbers have the name a"),
 ]
 
@@ -79,7 +82,7 @@ class Marks:
         return wrong
 
     def ends_of_a_range(self) -> list[str]:
-        """A number may be both ends and all between, by a mark and by its place, and nothing beyond."""
+        """A number may be both ends and all between, by a mark and by its place, and nothing beyond. What is refused has today's value."""
         wrong = []
         for low, high in ((0, 1), (0, 3), (2, 5), (9, 11), (2**31 - 3, 2**31 - 1)):
             for value in range(max(low - 2, 0), min(high + 3, 2**31)):
@@ -89,7 +92,7 @@ class Marks:
                         got = f"{[*map(listed, numbers(source, read(source), 'r', given))]}"
                     except Fault as why:
                         got = str(why)
-                    wanted = f"{[('1:8', value, low, high, None, '1:8')]}" if low <= value <= high else f"r:1:8: {value} isn't from {low} to {high}"
+                    wanted = f"{[('1:8', value, low, high, None, '1:8')]}" if low <= value <= high else f"r:1:8: today's value is {value}, which {low}..{high} leaves out"
                     wrong += [] if got == wanted else [f"{source!r}: {got}"]
         return wrong
 
@@ -102,7 +105,47 @@ class Marks:
             try:
                 wrong.append(f"{numbers(source, read(source), 'r', [(place, Range(0, 9))])}")
             except Fault as why:
-                wrong += [] if str(why) == f"r:{place}: no number stands there" else [str(why)]
+                there = "there is none" if place.line == 2 else "1:8 is 1, 1:34 is 22"
+                wrong += [] if str(why) == f"r:{place}: no number stands there; on that line {there}" else [str(why)]
+        return wrong
+
+    def which_constants_are_there(self) -> list[str]:
+        """All of a source or of a line, in their order; of many the first eight, and how many more there are."""
+        source = b"main(){ a = 1; }\nf(){ 02; }\ng(){ }\nh(){ " + b"3; " * 9 + b"}"
+        got = [constants(source, read(source), line) for line in (1, 2, 3, 4, None)]
+        first, second, fourth = "1:13 is 1", "2:6 is 02", [f"4:{6 + 3 * at} is 3" for at in range(9)]
+        wanted = [first, second, "there is none", ", ".join(fourth[:8]) + ", and 1 more", ", ".join([first, second, *fourth[:6]]) + ", and 3 more"]
+        return [] if got == wanted else [f"{got}, not {wanted}"]
+
+    def words_of_a_number(self) -> list[str]:
+        """Its place and its range, and perhaps a step and a name, which have the limits that they have in a mark."""
+        wrong = []
+        for (step, stepped), (name, named) in product((("", None), ("/1", 1), ("/50", 50)), (("", ""), (",near", "near"), (",_a9", "_a9"))):
+            got = numbered(f"30:19=0..400{step}{name}")
+            wrong += [] if got == (Place(30, 19), Range(0, 400, stepped, named)) else [f"{step}{name}: {got}"]
+        no_place, in_step = "isn't LINE:COLUMN=LOW..HIGH, which /STEP and ,NAME may follow", "--number 1:1: '{}' is no step from 1 to 9"
+        for text, said in (("0..9", no_place), ("1:1=0..9,a,b", no_place), ("1:1=0..9,a/2", no_place), ("1=0..9", no_place),
+                           ("1:1=0..9,", "--number 1:1: '' is no name"), ("1:1=0..9,9a", "--number 1:1: '9a' is no name"), ("1:1=0..9/2,a b", "--number 1:1: 'a b' is no name"),
+                           ("1:1=0..9/", in_step.format("")), ("1:1=0..9/0", in_step.format("0")), ("1:1=,near", "--number 1:1: '' is no range as 100..900")):
+            try:
+                wrong.append(f"{text}: {numbered(text)}")
+            except argparse.ArgumentTypeError as why:
+                wrong += [] if str(why) == (f"'{text}' {said}" if said == no_place else said) else [f"{text}: {why}"]
+        return wrong
+
+    def a_robot_but_for_its_numbers(self) -> list[str]:
+        """Any other values of its numbers leave it itself, and any other byte makes it another one."""
+        wrong, rest = [], random.Random(9)
+        source = b"main(){ 12 /* tune 0..90 */; 5; 300 /* tune 0..900 */; }"
+        them = numbers(source, read(source), "r")
+        itself = but_numbers(source, them)
+        for _ in range(200):
+            other = changed(source, them, [rest.randint(0, 90), rest.randint(0, 900)])
+            wrong += [] if itself.fullmatch(other) else [f"{other!r} is another robot"]
+            at = rest.choice([at for at in range(len(source)) if not any(it.begin <= at < it.end for it in them)])
+            other = source[:at] + bytes([rest.choice([it for it in b"x7 ;/\xc3" if it != source[at]])]) + source[at + 1:]
+            is_longer = any(at in (it.begin - 1, it.end) and other[at:at + 1].isdigit() for it in them)
+            wrong += [] if not itself.fullmatch(other) or is_longer else [f"{other!r} is the same robot"]
         return wrong
 
     def only_the_numbers_bytes_change(self) -> list[str]:

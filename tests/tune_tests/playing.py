@@ -21,6 +21,7 @@ import xml.etree.ElementTree
 from collections import Counter
 from pathlib import Path
 from typing import Any, Sequence
+from urllib.parse import quote
 
 from harness import skip
 from packages import lacking
@@ -53,10 +54,25 @@ FILES = {"switch.r": SWITCH, "switched.r": SWITCH.replace("5 /*", "9 /*"), "dies
          "unused.r": UNUSED, "bad.r": "main(){\nbreak; }", "plain.r": "main(){int a; a = 7;}", "field/a.r": STILL + "/* a */",
          "field/b.r": "main(){while(1) cannon(0,0);}", "field/notes.txt": "no robot"}
 WORDS = ("-l400", "--quiet")
+# The texts of a picture that are beyond its edges, and pairs that overlap by more than a pixel.
+SEEN = """(() => {
+    const edges = document.documentElement.getBoundingClientRect();
+    const them = [...document.querySelectorAll("text")].map(it => ({said: it.textContent, at: it.getBoundingClientRect()}));
+    const isBeyond = ({at}) => at.left < edges.left || at.top < edges.top || at.right > edges.right || at.bottom > edges.bottom;
+    const overlap = (one, other) => Math.min(one.at.right, other.at.right) - Math.max(one.at.left, other.at.left) > 1
+        && Math.min(one.at.bottom, other.at.bottom) - Math.max(one.at.top, other.at.top) > 1;
+    const pairs = them.flatMap((one, at) => them.slice(at + 1).filter(other => overlap(one, other)).map(other => `${one.said} / ${other.said}`));
+    return [them.filter(isBeyond).map(({said}) => said), pairs];
+})()"""
 # So many seconds a script may take where a machine has much else to do.
 PATIENCE = 3000
 SAID = "tune: the tuned robot is judged against the robots that it was tuned against; --judge names others\n"
 Ran = subprocess.CompletedProcess[str]
+
+
+def itself(robot: str, *files: str) -> str:
+    """What is said of files that are the robot itself."""
+    return f"tune: left out: {', '.join(files)} ({robot} itself, or a copy with other numbers)\n"
 
 
 class Playing:
@@ -114,17 +130,24 @@ class Playing:
 
     def a_number_that_changes_nothing(self) -> list[str]:
         """It plays alike by each value, though its matches end by chance: so each difference is 0, and an interval is that of two matches of 80
-        that weren't seen, by Student's quantile of 80 degrees of freedom: 1.990 * 3 / 80 * the root of 2 = 0.1055."""
+        that weren't seen, by Student's quantile of 80 degrees of freedom: of 95 % 1.990 * 3 / 80 * the root of 2 = 0.1055, and of 20 values at
+        once, of a chance of 0.0005, 3.6288 in place of 1.990: 0.1925. Ends are moved outward to what is written."""
         rows = self._rows("-m40", "unused.r", "still.r", "other.r")
-        nothing = ("+0.000", "-0.106", "+0.106", "no difference that these matches could show")
-        got = [tuple(row[name] for name in ("change", "low", "high", "verdict")) for row in rows]
-        return [] if got == [nothing] * 5 + [("+0.000", "+0.000", "+0.000", "today's")] + [nothing] * 15 else [f"{got}"]
+        nothing = ("0.000", "-0.193", "+0.193", "-0.106", "+0.106", "no difference that these matches could show")
+        got = [tuple(row[name] for name in ("change", "low", "high", "low95", "high95", "verdict")) for row in rows]
+        return [] if got == [nothing] * 5 + [(*["0.000"] * 5, "today's")] + [nothing] * 15 else [f"{got}"]
 
     def until_sure_spends_matches_where_it_matters(self) -> list[str]:
-        """Today's value and the best one get all matches, the worst one only those of the first look."""
+        """Today's value and the best one get most matches, the worst one few. Each value that has fewer is called worse, by an interval that
+        has no 0; so is one that is better than today's, and worse than the best one."""
         rows = {row["lost"]: row for row in self._rows("-m320", "--until", "sure", "draws.r", "still.r", "other.r")}
-        counts = [int(rows[value]["matches"]) for value in ("0", "400", "1000")]
-        return [] if counts == [640, 640, 40] and rows["0"]["verdict"] == "better" else [f"{rows}"]
+        counts = {value: int(row["matches"]) for value, row in rows.items()}
+        wrong = [] if counts["0"] == counts["400"] == max(counts.values()) >= 160 and counts["1000"] <= 80 and rows["0"]["verdict"] == "better" else [f"{rows}"]
+        for value, row in rows.items():
+            said = f"{'better but ' if float(row['low']) > 0 else ''}worse than lost="
+            right = row["verdict"] == "worse" if float(row["high"]) < 0 else row["verdict"].startswith(said)
+            wrong += [] if right or counts[value] == counts["400"] else [f"{value}: {row}"]
+        return wrong
 
     def forms_have_the_same(self) -> list[str]:
         """The table, its comma-separated values and JSON, by the same matches."""
@@ -134,26 +157,31 @@ class Playing:
         wrong = [] if [[*map(str, it["values"]), f"{it['points']:.3f}", it["verdict"]] for it in made["sweep"]] == \
             [[row["lost"], row["points"], row["verdict"]] for row in rows] else [f"{made}"]
         wrong += [] if made["numbers"] == [{"name": "lost", "line": 1, "column": 25, "low": 0, "high": 1000, "today": 400}] else [f"{made['numbers']}"]
-        shown = [line.split(None, 6) for line in table[: len(rows) + 1]]
-        beside = [{name: value for name, value in row.items() if name != "against"} for row in rows]
-        wrong += [] if shown == [[*beside[0]], *([*row.values()] for row in beside)] else [f"{shown}"]
-        return wrong if table[len(rows) + 1].startswith("surely better than today's 400: ") else [*wrong, f"{table}"]
+        shown = [re.split(" {2,}", line.strip()) for line in table[: len(rows) + 1]]
+        beside = [[value for name, value in row.items() if name not in ("against", "low95", "high95")] for row in rows]
+        heads = ["lost", "points a match", "change from 400", "at least", "at most", "matches", "verdict"]
+        wrong += [] if shown == [heads, *beside] else [f"{shown}"]
+        begins = ("keep today's 400: ", "surely better than today's 400: ", "surely worse than today's 400: ", "against still.r", "(lost: ")
+        below = table[len(rows) + 1:]
+        return wrong if len(below) == len(begins) and all(map(str.startswith, below, begins)) else [*wrong, f"{below}"]
 
     def what_each_opponent_is_worth(self) -> list[str]:
         """Of 20 matches each: 5 ties with still.r and wins against dies.r, 9 loses and wins. Nothing differs among the matches of an
         opponent, so an interval is that of two matches that weren't seen: 3 points more and less of 20, by Student's quantile of 20
-        degrees of freedom: 2.086 * 3 / 20 * the root of 2 = 0.4425. Of both, with weights 1 and 3, there are 1 / ((1/16 + 9/16) / 20) = 32
-        counted matches: 2.037 * 3 / 32 * the root of 2 = 0.2701. No points are below 0 or above 3."""
+        degrees of freedom. Points and changes of 3 values with each and with both are 18, so their chance is 0.01 / 18: 4.1010 * 3 / 20 * the
+        root of 2 = 0.86995. Of both, with weights 1 and 3, there are 1 / ((1/16 + 9/16) / 20) = 32 counted matches: for points 3.8350 * 3 / 32
+        * the root of 2 = 0.50844, and for the two changes, by 0.01 / 2, 3.0150 in its place: 0.39972. No points are below 0 or above 3; ends
+        are moved outward to what is written."""
         rows = self._rows("-m20", "--by-opponent", "--weight", "dies.r=3", "switch.r", "still.r", "dies.r")
         got = [[row[name] for name in ("switch", "against", "points", "from", "to", "change", "low", "high", "matches", "verdict")] for row in rows]
-        still, dies, both = ["1.000", "0.558", "1.442"], ["3.000", "2.558", "3.000"], ["2.500", "2.230", "2.770"]
-        same, nothing = ["+0.000", "-0.442", "+0.442"], "no difference that these matches could show"
-        none = ["+0.000"] * 3
+        still, dies, both = ["1.000", "0.130", "1.870"], ["3.000", "2.130", "3.000"], ["2.500", "1.991", "3.000"]
+        same, nothing = ["0.000", "-0.870", "+0.870"], "no difference that these matches could show"
+        none = ["0.000"] * 3
         wanted = [
-            ["1", "dies.r", *dies, *same, "20", ""], ["1", "still.r", *still, *same, "20", ""], ["1", "all", *both, "+0.000", "-0.270", "+0.270", "40", nothing],
+            ["1", "dies.r", *dies, *same, "20", ""], ["1", "still.r", *still, *same, "20", ""], ["1", "all", *both, "0.000", "-0.400", "+0.400", "40", nothing],
             ["5", "dies.r", *dies, *none, "20", ""], ["5", "still.r", *still, *none, "20", ""], ["5", "all", *both, *none, "40", "today's"],
-            ["9", "dies.r", *dies, *same, "20", ""], ["9", "still.r", "0.000", "0.000", "0.442", "-1.000", "-1.442", "-0.558", "20", ""],
-            ["9", "all", "2.250", "1.980", "2.520", "-0.250", "-0.520", "+0.020", "40", nothing],
+            ["9", "dies.r", *dies, *same, "20", ""], ["9", "still.r", "0.000", "0.000", "0.870", "-1.000", "-1.870", "-0.130", "20", ""],
+            ["9", "all", "2.250", "1.741", "2.759", "-0.250", "-0.650", "+0.150", "40", nothing],
         ]
         wrong = [f"{one}, not {other}" for one, other in zip(got, wanted) if one != other] + ([] if len(got) == 9 else [f"{len(got)} rows"])
         made = json.loads(self._run("--sweep", "--json", "-m20", "--weight", "dies.r=3", "switch.r", "still.r", "dies.r").stdout)["sweep"]
@@ -168,7 +196,7 @@ class Playing:
         table = self._run("--sweep", "-o", "whom.svg", *words).stdout
         title, line = (xml.etree.ElementTree.parse(picture).findtext("{*}title"), "against {}\n")
         name = next((it for it in names if line.format(it) in table), "")
-        wrong = [] if name and (title or "").endswith(f", by switch; against {name}") else [table, f"{title}"]
+        wrong = [] if name and title == f"switch.r: what switch is worth; against {name}" else [table, f"{title}"]
         wrong += [] if f">against {name}</text>" in picture.read_text(encoding="utf-8") else ["the picture shows no opponents"]
         wrong += [] if {row["against"] for row in self._rows(*words)} == {name} else ["comma-separated values"]
         made = json.loads(self._run("--sweep", "--json", *words).stdout)
@@ -178,29 +206,39 @@ class Playing:
 
     def what_tuning_says_by_opponent(self) -> list[str]:
         """9 is today's value, and loses to still.r: any below is worth a point more against it. The comma-separated values have the
-        numbers as columns, and of both versions the rows that a sweep has; JSON has the same numbers of the tuned one."""
+        numbers as columns, and of both versions the rows that a sweep has; JSON has the same numbers of the tuned one. Intervals are those of
+        two matches that weren't seen: of 20 degrees of freedom and a chance of 0.01 / 12 3.9276 * 3 / 20 * the root of 2 = 0.83317, of 40 and
+        0.01 2.7045 * 3 / 40 * the root of 2 = 0.28686."""
         words = ("-m20", "--budget", "500", "--by-opponent", "switched.r", "still.r", "dies.r")
         rows = [*csv.DictReader(io.StringIO(self._run("--csv", *words).stdout))]
         got = [[row[name] for name in ("against", "points", "change", "low", "verdict")] for row in rows]
-        wanted = [["dies.r", "3.000", "+0.000", "+0.000", ""], ["still.r", "0.000", "+0.000", "+0.000", ""], ["all", "1.500", "+0.000", "+0.000", "today's"],
-                  ["dies.r", "3.000", "+0.000", "-0.442", ""], ["still.r", "1.000", "+1.000", "+0.558", ""], ["all", "2.000", "+0.500", "+0.286", "better"]]
+        wanted = [["dies.r", "3.000", "0.000", "0.000", ""], ["still.r", "0.000", "0.000", "0.000", ""], ["all", "1.500", "0.000", "0.000", "today's"],
+                  ["dies.r", "3.000", "0.000", "-0.834", ""], ["still.r", "1.000", "+1.000", "+0.166", ""], ["all", "2.000", "+0.500", "+0.213", "better"]]
         wrong = [] if got == wanted else [f"{got}"]
         made = json.loads(self._run("--json", *words).stdout)["by_opponent"]
-        told = [[it["robot"], f"{it['points']:.3f}", f"{it['change']:+.3f}", f"{it['low']:+.3f}"] for it in made]
-        wrong += [] if told == [row[:4] for row in wanted[3:5]] else [f"{made}"]
+        told = [(it["robot"], it["points"], it["change"], it["low"]) for it in made]
+        wrong += [] if told == [("dies.r", 3, 0, -0.834), ("still.r", 1, 1, 0.166)] else [f"{made}"]
         lines = self._run(*words).stdout.splitlines()
-        return wrong if [line.split()[1:3] for line in lines[3:9]] == [row[:2] for row in wanted] else [*wrong, f"{lines}"]
+        is_told = lines[9].startswith("(switch: ") and "99 % interval +0.213 to +0.787," in lines[10] and lines[11] == "surely better"
+        return wrong if [line.split()[1:3] for line in lines[3:9]] == [row[:2] for row in wanted] and is_told else [*wrong, f"{lines}"]
 
     def pictures_are_drawings(self) -> list[str]:
-        """Well-formed; a dot for each value with its row, and for two numbers a field for each pair."""
+        """Well-formed; a dot for each value with its row, and for two numbers a field for each pair. Axes have titles, and what is drawn has a
+        legend: a dot of each kind beside those of the values."""
         wrong = []
         self._run("--sweep", "-m4", "-o", "curve.svg", "draws.r", "still.r")
         self._run("--sweep", "-m2", "-o", "map.svg", "two.r", "still.r")
-        for name, shape, count in (("curve.svg", "circle", 11), ("map.svg", "rect", 49)):
+        band = ["change", "where all changes are at once, in 99 of 100 sweeps", "today's 400"]
+        names = {"curve.svg": ["value of lost", "points a match, more than with today's 400", *band],
+                 "map.svg": ["value of one", "value of two", "points a match more than with today's (100, 900), which is framed: blue is more, red is less"]}
+        for name, shape, count, signs in (("curve.svg", "circle", 11, 2), ("map.svg", "rect", 49, 0)):
             drawn = xml.etree.ElementTree.parse(self._folder / name)
             titles = [it.findtext("{*}title") or "" for it in drawn.iterfind(f".//{{*}}{shape}")]
-            wrong += [] if len(titles) == count and len({title.split(":")[0] for title in titles}) == count else [f"{name}: {titles}"]
+            wrong += [] if titles.count("") == signs and len(titles) == count + signs else [f"{name}: {titles}"]
+            wrong += [] if len({title.split(":")[0] for title in titles if title}) == count else [f"{name}: {titles}"]
             wrong += [] if sum("today's" in title for title in titles) == 1 else [f"{name}: {titles}"]
+            texts = [it.text for it in drawn.iterfind("{*}text")]
+            wrong += [f"{name}: '{it}' isn't in it" for it in names[name] if texts.count(it) != 1]
         return wrong
 
     def tuning_finds_what_is_better(self) -> list[str]:
@@ -246,13 +284,14 @@ class Playing:
         return [*wrong, "no.r is written"] if (self._folder / "no.r").exists() else wrong
 
     def killed_and_resumed(self) -> list[str]:
-        """At thirty moments, five of each journal: a search ends as one that wasn't stopped. So does a sweep."""
+        """At thirty moments, five of each journal: a search ends as one that wasn't stopped. So does a sweep, also until sure."""
         wrong, rest = [], random.Random(3)
-        for words in (("-m40", "--budget", "3000", "two.r", "still.r"), ("--sweep", "-m100", "draws.r", "still.r", "other.r")):
+        for words in (("-m40", "--budget", "3000", "two.r", "still.r"), ("--sweep", "-m100", "draws.r", "still.r", "other.r"),
+                      ("--sweep", "--until", "sure", "-m100", "draws.r", "still.r", "other.r")):
             begun = time.monotonic()
             wanted = self._run(*words).stdout
             taken = time.monotonic() - begun
-            for number in range(3):
+            for number in range(2):
                 journal = f"killed{number}{len(words)}"
                 for _ in range(5):
                     self._killed(rest.uniform(0.1, taken / 2), *words, "--journal", journal)
@@ -336,10 +375,30 @@ class Playing:
         right = ran.stderr == "" and "fresh matches against each of still.r\n" in ran.stdout and judged.stderr == "" and "against each of a.r, b.r, other.r\n" in judged.stdout
         wrong = [] if right else [f"{ran!r:.400} {judged!r:.400}"]
         shutil.copy(self._folder / "still.r", self._folder / "same.r")
-        for words, said in ((("--judge", "same.r"), SAID), (("--judge", "same.r", "--judge", "other.r"), ""), (("--judge", "same.r", "--judge", "two.r"), SAID)):
+        for words, said in ((("--judge", "same.r"), SAID), (("--judge", "same.r", "--judge", "other.r"), ""), (("--judge", "same.r", "--judge", "two.r"), itself("two.r", "two.r") + SAID)):
             told = self._run("-m2", "--budget", "100", *words, "two.r", "still.r").stderr
             wrong += [] if told == said else [f"{words}: {told}"]
-        return wrong + self._refused("tune: there is no robot to play against\n", "--judge", "two.r", "two.r", "still.r")
+        return wrong + self._refused(f"{itself('two.r', 'two.r')}tune: there is no robot to play against\n", "--judge", "two.r", "two.r", "still.r")
+
+    def the_robot_itself(self) -> list[str]:
+        """It is never met: neither as a file of the same bytes, nor in a folder as a copy with other numbers, whether these are marked or given.
+        A line says so. A file with other numbers that is named is met, and so is one in a folder that differs elsewhere."""
+        folder = self._folder / "mixed"
+        folder.mkdir()
+        for name, text in (("same.r", DRAWS), ("old.r", DRAWS.replace("400 /*", "77 /*")), ("other.r", DRAWS.replace("1000)", "999)")), ("still.r", STILL)):
+            (folder / name).write_text(text, encoding="utf-8")
+        (self._folder / "older.r").write_text(DRAWS.replace("400 /*", "399 /*"), encoding="utf-8")
+        wrong, both = [], [f"{it['robot']}: {it['weight']:g}" for it in ({"robot": "other.r", "weight": 1}, {"robot": "still.r", "weight": 1})]
+        cases = [
+            (("draws.r", "mixed"), ["mixed/old.r", "mixed/same.r"], both), (("draws.r", "draws.r", "still.r"), ["draws.r"], both[1:]),
+            (("draws.r", "older.r", "still.r"), [], ["older.r: 1", "still.r: 1"]), (("--level", "5", "--number", "1:26=0..1000/500", "draws.r", "mixed"), None, None),
+        ]
+        for words, left_out, met in cases:
+            ran = self._run("--sweep", "--json", "-m2", *words)
+            said = itself("draws.r", *left_out) if left_out else ""
+            got = [f"{it['robot']}: {it['weight']:g}" for it in json.loads(ran.stdout or '{"against": []}')["against"]]
+            wrong += [] if left_out is None or (got == met and ran.stderr == said) else [f"{words}: {got}, {ran.stderr}"]
+        return wrong
 
     def a_robot_that_is_edited_meanwhile(self) -> list[str]:
         """What is played, and written, is what was read first: here the first match edits the robot."""
@@ -355,10 +414,10 @@ class Playing:
 
     def wrong_words(self) -> list[str]:
         wrong = self._refused("tune: there is no robot to play against\n", "draws.r")
-        wrong += self._refused("tune: there is no robot to play against\n", "draws.r", "draws.r")
-        wrong += self._refused("tune: plain.r has no marked number; a mark is a comment as /* tune 100..900 */ behind it, or --number gives one\n",
+        wrong += self._refused(f"{itself('draws.r', 'draws.r')}tune: there is no robot to play against\n", "draws.r", "draws.r")
+        wrong += self._refused("tune: plain.r has no marked number; a mark is a comment as /* tune 100..900 */ behind it, or --number gives one by its place: 1:19 is 7\n",
                                "--sweep", "plain.r", "still.r")
-        wrong += self._refused("tune: plain.r:1:1: no number stands there\n", "--sweep", "--number", "1:1=0..9", "plain.r", "still.r")
+        wrong += self._refused("tune: plain.r:1:1: no number stands there; on that line 1:19 is 7\n", "--sweep", "--number", "1:1=0..9", "plain.r", "still.r")
         wrong += self._refused("tune: two.r has no number x; it has one, two\n", "--only", "x", "two.r", "still.r")
         wrong += self._refused("tune: --until goes with --sweep\n", "--until", "sure", "two.r", "still.r")
         wrong += self._refused("tune: --budget goes without --sweep\n", "--sweep", "--budget", "9", "two.r", "still.r")
@@ -367,7 +426,7 @@ class Playing:
         wrong += self._refused("tune: field/c has no robots, whose names end with '.r'\n", "two.r", "field/c")
         wrong += self._refused("bad.r:2: reserved word\n", "--sweep", "draws.r", "bad.r", status=1)
         wrong += self._refused("tune: cannot read gone.r: No such file or directory\n", "--sweep", "gone.r", "still.r", status=3)
-        wrong += self._refused("tune: argument --number: 'x' isn't LINE:COLUMN=LOW..HIGH or LINE:COLUMN=LOW..HIGH/STEP\n", "--number", "x", "a", "b")
+        wrong += self._refused("tune: argument --number: 'x' isn't LINE:COLUMN=LOW..HIGH, which /STEP and ,NAME may follow\n", "--number", "x", "a", "b")
         return wrong + self._refused("tune: argument --number: --number 1:1: '9' is no range as 100..900\n", "--number", "1:1=9", "a", "b")
 
     def outputs_that_can_t_be_written(self) -> list[str]:
@@ -419,20 +478,50 @@ class Playing:
         return wrong
 
     def a_signal_that_stops_it(self) -> list[str]:
-        """It says how far it was, and the journal has that: nothing of it is played again. Here the eighth series sends the signal."""
+        """It says how far it was, and which command goes on from there. That one gives the answer that there is without a stop, and plays nothing
+        again. Here the eighth series sends the signal."""
         wrong, stops = [], self._folder / "stops"
         stops.write_text(f"""#!/bin/sh\ncase $1 in -c) ;; *) echo >> calls; [ $(wc -l < calls) -ne 8 ] || kill -INT $PPID;; esac\nexec {self._crobots} "$@"\n""",
                          encoding="ascii")
         stops.chmod(0o755)
         for words in (("-m20", "--budget", "600", "--round", "20", "two.r", "still.r"), ("--sweep", "-m20", "draws.r", "still.r")):
             (self._folder / "calls").unlink(missing_ok=True)
-            journal = self._folder / f"stopped{len(words)}"
+            journal = self._folder / f"stopped {len(words)}"
             resumed = ("--crobots", str(stops), "-j1", *words, "--journal", journal.name)
             ran = self._run(*resumed)
             kept = journal.read_text(encoding="ascii")
-            said = re.fullmatch(rf"tune: stopped: 7 of \d+ series were played, \d+ matches; {journal.name} has what was played\n", ran.stderr.removeprefix(SAID))
-            wrong += [] if (ran.stdout, ran.returncode, kept.count("\n")) == ("", 130, 7) and said else [f"{words}: {ran!r:.400}"]
-            wrong += self._gone_on(journal, kept, resumed, words)
+            said = re.fullmatch(rf"tune: stopped after (\d+) of (?:at most )?(\d+) matches; {journal.name} has what was played, and this goes on from there: (.*)\n",
+                                ran.stderr.removeprefix(SAID))
+            played = sum(map(int, re.findall(r" count=(\d+) ", kept)))
+            is_right = said and (int(said[1]), said[3]) == (played, shlex.join(self._words(*resumed))) and int(said[2]) == (640 if words[0] == "-m20" else 220)
+            wrong += [] if (ran.stdout, ran.returncode, kept.count("\n")) == ("", 130, 7) and is_right else [f"{words}: {ran!r:.600}"]
+            wrong += self._gone_on(journal, kept, resumed, words) if not said or self._sh(said[3]).stdout == self._run(*words).stdout else ["the command that is said"]
+            (self._folder / "calls").unlink()
+            ran = self._run("--crobots", str(stops), "-j1", *words)
+            wrong += [] if "; nothing of it is kept; with --journal FILE the same command goes on where it was stopped\n" in ran.stderr else [f"{ran!r:.600}"]
+        return wrong
+
+    def what_a_journal_is_for(self) -> list[str]:
+        """It says so before anything is played, as a kill leaves no time to say so, and when it goes on. Quiet, it says nothing."""
+        words = [it for it in self._words("--sweep", "-m2", "--journal", "for", "draws.r", "still.r") if it != "--quiet"]
+        told = [subprocess.run(words, cwd=self._folder, capture_output=True, text=True, check=True).stderr for _ in range(2)]
+        wanted = ["tune: for keeps what is played: if this is stopped or killed, the same command goes on from there\n",
+                  "tune: for has what was played before, and this goes on from there\n"]
+        quiet = self._run("--sweep", "-m2", "--journal", "for", "draws.r", "still.r").stderr
+        return [] if told == wanted and quiet == "" else [f"{told} {quiet}"]
+
+    def a_number_that_has_a_name_on_the_command_line(self) -> list[str]:
+        """It is used in the table, the picture and the journal. Without one the place stands there."""
+        (self._folder / "bare.r").write_text(re.sub(r" /\*.*?\*/", "", DRAWS), encoding="utf-8")
+        wrong = []
+        for word, name in (("1:25=0..1000/500,lost", "lost"), ("1:25=0..1000/500", "1:25")):
+            (self._folder / "names").unlink(missing_ok=True)
+            table = self._run("--sweep", "-m2", "--number", word, "--journal", "names", "-o", "names.svg", "bare.r", "still.r").stdout
+            journal, picture = ((self._folder / it).read_text(encoding="utf-8") for it in ("names", "names.svg"))
+            is_there = table.startswith(f"{name}  points a match") or table.startswith(f"{name}  points")
+            files = {*re.findall(r"files=(?:still\.r,)?bare\.r(\S+?)(?:,still\.r)? ", journal)}
+            wrong += [] if is_there and f">value of {name}</text>" in picture else [table]
+            wrong += [] if files == {quote(f"[{name}={value}]") for value in (0, 400, 500, 1000)} else [f"{files}"]
         return wrong
 
     def _gone_on(self, journal: Path, kept: str, resumed: Sequence[str], words: Sequence[str]) -> list[str]:
@@ -449,14 +538,21 @@ class Playing:
         return subprocess.run(["bash", "-c", command], cwd=self._folder, stdin=subprocess.DEVNULL, capture_output=True, text=True, check=False, timeout=PATIENCE)
 
     def a_curve_as_it_is_seen(self) -> list[str]:
-        """In a browser no text of the picture is beyond its edges."""
+        """In a browser no text of a picture is beyond its edges, and none overlaps another one: also by great numbers and long names, and in a map."""
         if why := lacking(["chromium"]):
             skip("a curve in a browser", why)
             return []
         from browsers import Browser, chromium
-        self._run("--sweep", "-m4", "-o", "seen.svg", "draws.r", "still.r")
+        long = f"name {'n' * 31}"
+        (self._folder / "long.r").write_text(DRAWS.replace("400 /* tune 0..1000 step 100 name lost */", f"400 /* tune 0..2147483647 {long} */"), encoding="utf-8")
+        (self._folder / "map.r").write_text((TWO % (600, 2147483647)).replace("0..1000 name two", f"0..2147483647 {long}"), encoding="utf-8")
+        cases = (("-m4", "draws.r", "still.r"), ("-m320", "--until", "sure", "draws.r", "still.r"), ("-m20", "--until", "sure", "long.r", "still.r", "other.r"),
+                 ("-m2", "two.r", "still.r"), ("-m80", "--until", "sure", "map.r", "still.r"), ("-m80", "switch.r", "still.r"))
+        wrong = []
         with Browser(chromium() or "") as browser:
-            browser.load(str(self._folder / "seen.svg"))
-            beyond = browser.value("[...document.querySelectorAll('text')].filter(it => { const b = it.getBBox(); const v = document.documentElement.viewBox.baseVal;"
-                                   " return b.x < 0 || b.y < 0 || b.x + b.width > v.width || b.y + b.height > v.height; }).map(it => it.textContent)")
-        return [] if beyond == [] else [f"{beyond}"]
+            for words in cases:
+                self._run("--sweep", "-o", "seen.svg", *words)
+                browser.load(str(self._folder / "seen.svg"))
+                beyond, overlapping = browser.value(SEEN)
+                wrong += [f"{words}: {beyond} beyond, {overlapping} overlap"] if beyond or overlapping else []
+        return wrong

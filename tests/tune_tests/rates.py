@@ -6,13 +6,15 @@ from __future__ import annotations
 
 import math
 import random
+import re
 import statistics
 from typing import Callable, Sequence
 
 from tuning.games import Starts
 from tuning.judging import judge
 from tuning.searching import Search
-from tuning.sweeps import BETTER, WORSE, sweep
+from tuning.sweeps import Row, sweep
+from tuning.verdicts import BETTER, WORSE
 
 from tune_tests.simulated import Simulated, number, words
 
@@ -73,23 +75,45 @@ def found(land: str, many: int, seeds: Sequence[int], budget: int) -> list[float
 
 
 def held(seeds: int) -> tuple[int, int]:
-    """In how many rows of sweeps the interval of the change holds the truth, of how many."""
+    """In how many rows of sweeps the interval of 95 % holds the truth of the change, of how many."""
     found = []
     for seed in range(seeds):
         games = simulated(seed, [*CURVES][seed % len(CURVES)])
         for row in sweep(games, Starts(seed, "sweep"), games.given.matches // 2, False):
             truth = games.truth(row.values) - games.truth(games.today)
-            found += [row.change.low <= truth + 1e-9 and truth - 1e-9 <= row.change.high] if row.values != games.today else []
+            found += [row.whole.alone.low <= truth + 1e-9 and truth - 1e-9 <= row.whole.alone.high] if row.values != games.today else []
     return sum(found), len(found)
 
 
+def mistaken(seeds: int, until_sure: bool) -> tuple[int, int, int]:
+    """In how many sweeps of robots of all kinds anything is claimed that isn't so, in how many an interval doesn't hold the truth, and in
+    how many anything is claimed."""
+    claims, intervals, sure = 0, 0, 0
+    for seed in range(seeds):
+        games = simulated(seed, [*CURVES][seed % len(CURVES)], until="sure" if until_sure else None)
+        rows = sweep(games, Starts(seed, "sweep"), games.given.matches // 2, until_sure)
+        changes = [(row, games.truth(row.values) - games.truth(games.today)) for row in rows]
+        claims += any(is_wrong(games, row) for row in rows)
+        intervals += any(not row.change.low - 1e-9 <= truth <= row.change.high + 1e-9 for row, truth in changes)
+        sure += any(row.is_out or row.verdict == BETTER for row in rows)
+    return claims, intervals, sure
+
+
+def is_wrong(games: Simulated, row: Row) -> bool:
+    """Whether what is said of a value isn't so."""
+    change = games.truth(row.values) - games.truth(games.today)
+    other = tuple(map(int, re.findall("=([0-9]+)", row.beaten)))
+    return row.verdict == BETTER and change < 1e-9 or row.verdict == WORSE and change > -1e-9 or \
+        bool(other) and games.truth(row.values) > games.truth(other) - 1e-9
+
+
 def called(seeds: int, until_sure: bool) -> int:
-    """In how many sweeps of a number that does nothing any value is called better or worse."""
+    """In how many sweeps of a number that does nothing anything is said of any value."""
     found = 0
     for seed in range(seeds):
         games = simulated(seed, "nothing")
         rows = sweep(games, Starts(seed, "sweep"), games.given.matches // 2, until_sure)
-        found += any(row.verdict in (BETTER, WORSE) for row in rows)
+        found += any(row.is_out or row.verdict == BETTER for row in rows)
     return found
 
 

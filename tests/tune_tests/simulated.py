@@ -9,9 +9,9 @@ from typing import Callable, Sequence
 
 from tournaments.journals import Journal
 from tournaments.programs import Program
-from tournaments.progress import Progress
 from tournaments.robots import Robot
 from tournaments.settings import Settings
+from tuning.far import Far
 from tuning.games import Games, Starts, Stretch
 from tuning.marks import Number, Place, Range
 from tuning.opponents import Opponent
@@ -49,7 +49,7 @@ class Simulated(Games):
                  rivalry: Rivalry = lambda one, other: 0.3) -> None:
         settings = Settings(given.matches, 1, given.seed, 1, "", 2, (2,))
         super().__init__(given, Program("", "", None), "", "robot", b"", numbers, [Opponent(Robot(f"r{at}", f"r{at}"), Fraction(it)) for at, it in enumerate(weights)],
-                         settings, Journal(), Scores(WORTH), Progress(0, True))
+                         settings, Journal(), Scores(WORTH), Far(0, True))
         self._chances = chances
         self._rivalry = rivalry
         # whom each play was against, and which matches it had
@@ -89,6 +89,7 @@ class Simulated(Games):
         points = self.scores.of[self.variant(values).sha256, other]
         seat, first = place
         self.played += len(luck)
+        self.progress.count(len(luck))
         for count, common in enumerate(luck):
             it = own.random() if own.random() < OWN_LUCK else common
             points[seat, first + count] = 3.0 if it < wins else 1.0 if it < ties else 0.0

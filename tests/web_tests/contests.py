@@ -4,6 +4,7 @@ crobots-challenge and crobots-tune."""
 from __future__ import annotations
 
 import json
+import math
 import os
 import random
 import shutil
@@ -82,7 +83,10 @@ def like_python() -> list[str]:
     got = answers([("mean", it) for it in zip(several, unseen, levels)])
     right = [intervals.mean(them, (), most, level) for them, most, level in zip(several, unseen, levels)]
     wanted = [(it.value, it.low, it.high) for it in right]
-    return [f"{numbers}: {it}, not {known}" for numbers, it, known in zip(several, got, wanted) if not is_near(it, known)][:5]
+    wrong = [f"{numbers}: {it}, not {known}" for numbers, it, known in zip(several, got, wanted) if not is_near(it, known)][:5]
+    moved = answers([("outward", (it, 3)) for it in got])
+    known = [(it["value"], math.floor(max(it["low"], -3) * 1000) / 1000, math.ceil(min(it["high"], 3) * 1000) / 1000) for it in got]
+    return wrong + [f"{it}, not {right}" for it, right in zip(moved, known) if not is_near(it, right)][:5]
 
 
 def signed(value: float, digits: int) -> str:
@@ -90,12 +94,17 @@ def signed(value: float, digits: int) -> str:
     return f"{round(value, digits) + 0.0:+.{digits}f}"
 
 
+def difference(value: float) -> str:
+    """A difference in points with three digits, and a zero without a sign."""
+    return signed(value, 3) if round(value, 3) else "0.000"
+
+
 def written() -> list[str]:
     """Numbers are written as the scripts write them, those in the middle of two too."""
-    numbers = [at / 2**power for power in range(6) for at in range(-200, 200)] + [0.565, 1.005, 2.675, -0.001, -0.0049, -0.005, 0.285, 299 / 300, -1e-17]
+    numbers = [at / 2**power for power in range(6) for at in range(-200, 200)] + [0.565, 1.005, 2.675, -0.001, -0.0049, 0.0004, -0.0004, -0.0, -0.005, 0.285, 299 / 300, -1e-17]
     asked = [(number, digits) for number in numbers for digits in (2, 3)]
     got = answers([("written", it) for it in asked])
-    wanted = [[f"{round(abs(number), digits):.{digits}f}", signed(number, digits)] for number, digits in asked]
+    wanted = [[f"{round(abs(number), digits):.{digits}f}", signed(number, digits), difference(number)] for number, digits in asked]
     return [f"{it}: {mine}, not {right}" for it, mine, right in zip(asked, got, wanted) if mine != right][:5]
 
 

@@ -151,6 +151,7 @@ test("of values that all are alike in truth hardly a sweep calls one better or w
         const {call} = engineOf(it => it.startsWith("x"), () => ["won", "tied", "lost"][Math.floor(3 * next())]);
         const rows = await sweepOf({call, settings: SETTINGS, source: SWEPT, number, opponents: FACES, each: 20, onSlice() {}, onLook() {}});
         mistaken += Number(rows.some(({verdict}) => ["better", "worse"].includes(verdict)));
+        assert.ok(rows.every(({change, verdict}) => (verdict === "better") === change.low > 0 && (verdict === "worse") === change.high < 0));
     }
     // one in a hundred is stated; more than 7 of 200 come by chance once in 900 times
     assert.ok(mistaken <= 7, `${mistaken}`);

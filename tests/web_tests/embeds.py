@@ -11,9 +11,9 @@ import urllib.parse
 from typing import Iterator
 
 from .battles import Battle, Settings
+from .firsts import MOVES, PLAYER, STANDS, is_from
 from .pages import Page, fragment, served
 
-PLAYER = "document.getElementById('film').contentWindow?.player"
 BATTLE = Battle([("mover.r", b"main() { while (1) drive(90, 50); }"), ("still.r", b"main() { }")], Settings(limit=3_000, first=4))
 # frames as other pages have them
 SIZES = ((480, 560), (360, 480), (640, 360), (1000, 800))
@@ -33,23 +33,24 @@ def opened(page: Page, tail: str) -> Page:
     return other
 
 
-def shown(page: Page) -> list[object]:
-    """The heading of the match that plays, the robot that is followed, and whether it plays."""
-    page.wait(f"return {PLAYER}?.isPlaying && {PLAYER}.cycle > {PLAYER}.match.first")
-    return list(page.js(f"return [document.getElementById('film').contentDocument.getElementById('heading').textContent, {PLAYER}.chosen, {PLAYER}.cycle >= 600]"))
+def shown(page: Page) -> tuple[str, int, float, float]:
+    """The heading of the match that plays, the robot that is followed, the cycle, and the most cycles that can have been played."""
+    page.wait(MOVES)
+    heading, robot, cycle, most = page.js(STANDS)
+    return heading, robot, cycle, most
 
 
 def by_address(page: Page) -> list[str]:
     """The address names the battle, the moment and the robot that is followed; none names two samples. It may change later."""
     wrong = []
     link = fragment(BATTLE)
-    wanted = {"": ["Match 2: hunter.r and sniper.r", 0, False], link: ["Match 4: mover.r and still.r", 0, False],
-              f"{link}&match=2&cycle=900&robot=2": ["Match 2: mover.r and still.r", 2, True]}
-    for tail, right in wanted.items():
+    wanted = {"": ("Match 2: hunter.r and sniper.r", 0, 0), link: ("Match 4: mover.r and still.r", 0, 0),
+              f"{link}&match=2&cycle=900&robot=2": ("Match 2: mover.r and still.r", 2, 600)}
+    for tail, (heading, robot, begin) in wanted.items():
         other = opened(page, tail)
         got = shown(other)
         way = other.js("return document.getElementById('whole').href")
-        wrong += [] if got == right else [f"{tail[-30:]}: {got}"]
+        wrong += [] if got[:2] == (heading, robot) and is_from(begin, *got[2:]) else [f"{tail[-30:]}: {got}"]
         wrong += [] if way == urllib.parse.urljoin(page.address, f"index.html{tail}") else [f"the way to the page is {way[-60:]}"]
     other.js("location.hash = arguments[0]", link)
     other.wait("return document.getElementById('film').contentDocument?.getElementById('heading')?.textContent.startsWith('Match 4')")

@@ -9,6 +9,9 @@ from .pages import Page, fragment, is_in_time
 
 SIZES = ((1366, 768), (1920, 1080), (740, 360), (360, 740))
 PLAYER = "document.getElementById('film').contentWindow?.player"
+# of the match that plays: its heading, the robot that is followed, its cycle, and the most cycles that it has played since the page was opened
+STANDS = f"""const {{chosen, cycle, pace}} = {PLAYER};
+    return [document.getElementById('film').contentDocument.getElementById('heading').textContent, chosen, cycle, pace * performance.now() / 1000]"""
 MOVES = f"return {PLAYER}?.isPlaying && {PLAYER}.cycle > {PLAYER}.match.first"
 # where things are in the window, scrolled nowhere
 BOXES = """const film = document.getElementById('film'), top = film.getBoundingClientRect().top;
@@ -23,19 +26,28 @@ WATCH = """if (top === window) { const look = () => { const player = document.ge
 # the editor's script doesn't come
 NO_EDITOR = """const append = Element.prototype.append;
     Element.prototype.append = function (...parts) { if (!parts[0]?.src?.endsWith('/codemirror.js')) append.apply(this, parts); }"""
-# notes what listens, and which buttons and fields of the page that is first shown do nothing: neither they nor their form listens
+# notes what listens, and which buttons and fields of the page that is first shown do nothing: neither they nor their form listens. Each by its
+# name, or by the words on it
 LISTENING = """if (top === window) { const add = EventTarget.prototype.addEventListener, heard = new Map();
     EventTarget.prototype.addEventListener = function (kind, ...rest) { heard.set(this, [...heard.get(this) ?? [], kind]); add.call(this, kind, ...rest); };
     const hears = (it, kinds) => kinds.some(kind => heard.get(it)?.includes(kind));
     window.idle = () => [...document.querySelectorAll('#main button, #main input')].filter(it => !it.disabled && !it.closest('[hidden]')
-        && !hears(it, it.tagName === 'INPUT' ? ['input', 'change'] : ['click']) && !(it.form && hears(it.form, ['submit', 'input']))).map(it => it.id);
+        && !hears(it, it.tagName === 'INPUT' ? ['input', 'change'] : ['click']) && !(it.form && hears(it.form, ['submit', 'input'])))
+        .map(it => it.id || (it.labels?.[0] ?? it).textContent.trim());
     document.addEventListener('DOMContentLoaded', () => new MutationObserver(() => { window.firstIdle ??= window.idle(); })
         .observe(document.getElementById('main'), {attributeFilter: ['hidden']})); }"""
 # the most milliseconds until then, by hand, on a processor that is slowed down four times; and in any case the most that the page's thread
 # takes of one that isn't. Of some openings the fastest counts
 MOST, SLOWDOWN, MOST_BUSY, OPENINGS = 1000, 4, 400, 5
+# what is read when a button is pressed: how many matches 'Play both' plays, as tests/web_tests/worths.py has it
+READ_LATER = ["Matches against each"]
 MOVER = ("mover.r", b"main() { while (1) drive(90, 50); }")
 STILL = ("still.r", b"main() { }")
+
+
+def is_from(begin: int, cycle: float, most: float) -> bool:
+    """Whether a match may have been played from a cycle on, if it has come to this one, by at most so many since the page was opened."""
+    return begin <= cycle <= begin + most
 
 
 def in_sight(page: Page) -> list[str]:
@@ -64,6 +76,26 @@ def drawers(page: Page) -> list[str]:
     page.whole_window()
     beside = left[0][1] <= left[1][0] < left[1][1] <= left[2][0] and len({top for _, _, top in left}) == 1
     return [] if beside and not opened else [f"{left}, open: {opened}"]
+
+
+# the places that are seen, by the elements that are in them, and whether one that is seen answers nothing
+SEEN = """return [...document.querySelectorAll('.place')].filter(it => it.offsetWidth).map(it =>
+    `${[...it.classList].find(name => name !== 'place')}${it.inert ? ', which answers nothing' : ''}`)"""
+
+
+def places(page: Page) -> list[str]:
+    """In a narrow window one place is seen at a time, the one that is pressed, and in a wide one all of them; what is seen answers."""
+    wrong = []
+    for size in SIZES:
+        page.size(*size)
+        page.fresh()
+        page.wait(MOVES)
+        for name in ("write", "fight", "watch"):
+            page.click(f"to-{name}")
+            seen = set(page.js(SEEN))
+            wrong += [] if seen == ({"write", "fight", "watch"} if size[0] > 960 else {name}) else [f"{size}, {name}: {sorted(seen)}"]
+    page.whole_window()
+    return wrong
 
 
 def beat(page: Page) -> list[str]:
@@ -101,10 +133,9 @@ def by_link(page: Page) -> list[str]:
                                        ("&match=3&cycle=900&robot=3", 4, 0, 0)):
         page.fresh(fragment(battle) + tail)
         page.wait(MOVES)
-        cycle, chosen, heading = page.js(f"return [{PLAYER}.cycle, {PLAYER}.chosen, {PLAYER}.match && document.getElementById('film').contentDocument"
-                                         ".getElementById('heading').textContent]")
-        right = heading == f"Match {number}: mover.r and still.r" and cycle >= least and (cycle < 590) == (least == 0) and chosen == robot
-        wrong += [] if right and page.seen("welcome") == "" else [f"{tail}: {heading}, cycle {cycle}, robot {chosen}"]
+        heading, chosen, *cycles = page.js(STANDS)
+        right = heading == f"Match {number}: mover.r and still.r" and is_from(least, *cycles) and chosen == robot
+        wrong += [] if right and page.seen("welcome") == "" else [f"{tail}: {heading}, cycles {cycles}, robot {chosen}"]
     return wrong + sent(page)
 
 
@@ -197,7 +228,7 @@ def heard(page: Page) -> list[str]:
         page.driver.get(page.address)
         page.wait("return document.querySelector('.CodeMirror')")
         idle += page.js("return [firstIdle, idle(), [...document.querySelectorAll('#main button[disabled], #main input[disabled]')].map(it => it.id)]")
-    return [] if idle == [[], [], [], [], ["stop"]] else [f"{idle}"]
+    return [] if idle == [[], [], [], READ_LATER, ["stop"]] else [f"{idle}"]
 
 
 def samples_are_there(page: Page) -> list[str]:
@@ -209,7 +240,7 @@ def samples_are_there(page: Page) -> list[str]:
 
 # what each browser shows, and what only Chromium's driver can look at
 SHOWN: dict[str, Callable[[Page], list[str]]] = {
-    "in sight": in_sight, "drawers": drawers, "a robot that beats it": beat, "at once": at_once, "by a link": by_link, "a link that is faulty": faulty_link,
+    "in sight": in_sight, "drawers": drawers, "places": places, "a robot that beats it": beat, "at once": at_once, "by a link": by_link, "a link that is faulty": faulty_link,
     "coming back": back, "its robots": samples_are_there,
 }
 DRIVEN: dict[str, Callable[[Page], list[str]]] = {"no motion": calm, "before the editor": before_the_editor, "no press is lost": heard, "soon": soon}

@@ -129,6 +129,20 @@ def turned(page: Page) -> list[str]:
     return []
 
 
+def kept_focus(page: Page) -> list[str]:
+    """Who opens the panel by a key, and closes it, has the focus on it all the time, wherever the panel stands then."""
+    opened(page)
+    page.js("document.getElementById('inside').open = false")
+    page.wait("return document.getElementById('inside').closest('#right')")
+    page.js("document.querySelector('#inside summary').focus()")
+    for column in ("left", "right"):
+        page.press("ENTER")
+        page.wait("return document.getElementById('inside').closest(`#${arguments[0]}`)", column)
+        if wrong := differ(page.js("return document.activeElement.parentElement?.id"), "inside"):
+            return wrong
+    return []
+
+
 def results(page: Page) -> Iterator[tuple[str, list[str]]]:
     """The tests' names, and what is wrong."""
     yield "moments inside", moments(page)
@@ -136,3 +150,4 @@ def results(page: Page) -> Iterator[tuple[str, list[str]]]:
     yield "calls inside", calls(page)
     yield "steps inside", steps(page)
     yield "a turned screen inside", turned(page)
+    yield "the focus inside", kept_focus(page)

@@ -14,8 +14,6 @@ from typing import Any, Iterator
 
 # for an answer, and for the browser's start on a machine that has much else to do
 SECONDS, SECONDS_OF_A_START = 180, 300
-# what the browser says of a key that nothing got, and how often it is pressed again
-LOST_KEY, TRIES, SECONDS_BETWEEN = "NS_ERROR_FAILURE", 5, 0.1
 # a window is no narrower, so a narrower page is shown magnified by one of these
 LEAST_WIDTH, SCALES = 500, (1, 1.5, 2)
 ELEMENT = "element-6066-11e4-a52e-4f735466cecf"
@@ -118,31 +116,10 @@ class Firefox:
         """The element that has the focus."""
         return Field(self, self.ask("WebDriver:GetActiveElement")[ELEMENT])
 
-    def frame(self, number: int) -> None:
-        """Goes into a frame of the page."""
-        self.ask("WebDriver:SwitchToFrame", id=number)
-
-    def default_content(self) -> None:
-        """Goes back to the page."""
-        self.ask("WebDriver:SwitchToFrame")
-
     def perform(self, actions: list[dict[str, Any]]) -> None:
-        """Does what pointers do, or keys: of these one after another."""
-        keys = [{**it, "actions": [step]} for it in actions if it["type"] == "key" for step in it["actions"]]
-        for some in [[it] for it in keys] or [actions]:
-            self._perform(some)
+        """Does what pointers do, or keys."""
+        self.ask("WebDriver:PerformActions", actions=actions)
         self.ask("WebDriver:ReleaseActions")
-
-    def _perform(self, actions: list[dict[str, Any]]) -> None:
-        """Does it once more if the browser says that it didn't: it loses a key while it hands the focus from frame to frame."""
-        for tried in range(1, TRIES + 1):
-            try:
-                self.ask("WebDriver:PerformActions", actions=actions)
-                return
-            except RuntimeError as why:
-                if tried == TRIES or LOST_KEY not in str(why):
-                    raise
-                time.sleep(SECONDS_BETWEEN)
 
     def quit(self) -> None:
         """Ends the browser."""

@@ -38,6 +38,15 @@ const look = () => {
 };
 requestAnimationFrame(look);"""
 PICTURES = 4
+# follows a link to a battle, and empties the diagnostic as soon as its robots are shown: a robot from before that is compiled meanwhile says
+# nothing later
+FOLLOWS = """window.isShown = false;
+new MutationObserver((_, seen) => {
+    seen.disconnect();
+    document.getElementById("diagnostic").textContent = "";
+    window.isShown = true;
+}).observe(document.getElementById("tabs"), {childList: true});
+location.hash = arguments[0]"""
 
 
 def is_in_time(took: float, limit: float) -> bool:
@@ -160,9 +169,8 @@ class Page:
 
     def show(self, battle: Battle) -> None:
         """Follows a link to a battle in the open page, until the first robot is compiled."""
-        self.js("document.getElementById('seed').value = ''; document.getElementById('diagnostic').textContent = '';"
-                "location.hash = arguments[0]", fragment(battle))
-        self.wait("return document.getElementById('seed').value && document.getElementById('diagnostic').textContent")
+        self.js(FOLLOWS, fragment(battle))
+        self.wait("return window.isShown && document.getElementById('diagnostic').textContent")
 
     def js(self, code: str, *words: Any) -> Any:
         """Runs code in the page."""

@@ -13,16 +13,33 @@ from dataclasses import dataclass
 from typing import Any, Callable, Iterator
 
 from .battles import Battle
-from .pages import Page, fragment
+from .pages import SECONDS, Page, fragment
 
-LAPTOP, PHONE, SCREEN = (1366, 651), (360, 640), (1920, 1000)
+LAPTOP, SCREEN, LOW, PHONE = (1366, 768), (1920, 1080), (740, 360), (360, 740)
+# how often the tab key is pressed again, for as many stops as then lie between
 MOST_TABS = 200
-# how many keys a driver may lose, and how long a film takes to do what a key says
-MOST_LOST, SECONDS_OF_A_PRESS = 2, 10
+# how long it is waited for that a key is heard which does nothing, before it is pressed again
+SECONDS_OF_A_PROBE = 2
 FRIEND = "main() { while (1) drive(30, 40); }"
 MINE = "/* mine */"
 # keys as the protocol of drivers has them
-BACKSPACE, TAB, SHIFT, CONTROL, HOME, LEFT = "\ue003", "\ue004", "\ue008", "\ue009", "\ue011", "\ue012"
+BACKSPACE, TAB, ENTER, SHIFT, CONTROL, HOME, LEFT = "\ue003", "\ue004", "\ue007", "\ue008", "\ue009", "\ue011", "\ue012"
+# the tab key's stops from what has the focus to an element, in the order of the page and of the frames in it: how many, those before are
+# negative; 0 if the element has the focus. It is 1, or -1, if what has the focus is no stop
+STOPS = """const all = root => [...root.querySelectorAll('a[href], button, input, select, textarea, summary, iframe, [tabindex], [contenteditable]')]
+    .filter(it => it.tabIndex >= 0 && !it.disabled && (it.checkVisibility?.() ?? it.getClientRects().length) && !it.closest('[inert]')).flatMap(it => it.contentDocument ? all(it.contentDocument) : [it]);
+    const deepest = it => it.contentDocument ? deepest(it.contentDocument.activeElement ?? it.contentDocument.body) : it;
+    const it = ELEMENT, now = document.activeElement ?? document.body, stops = all(document);
+    const from = stops.indexOf(deepest(now)), to = stops.findIndex(stop => it.contains(stop));
+    return it.contains(now) ? 0 : from >= 0 && to >= 0 && from !== to ? to - from : now.compareDocumentPosition(it) & 2 ? -1 : 1"""
+# where a press on an element goes to, if that lies on top there
+PLACE = """const it = ELEMENT, box = it.getBoundingClientRect();
+    const place = [Math.round(box.left + box.width / 2), Math.round(box.top + Math.min(box.height, 60) / 2)];
+    return it.contains(document.elementFromPoint(...place)) && place"""
+# counts the keys that come to a window
+HEARS = """const it = WINDOW;
+    if (it.heard === undefined) { it.heard = 0; it.addEventListener('keydown', () => { it.heard += 1; }, true); }
+    return it.heard"""
 
 
 @dataclass(frozen=True)
@@ -53,15 +70,18 @@ WAYS = (
     Way("keys", SCREEN, AT, "form", "sample", "followed"),
     Way("touch", PHONE, BRACE, "report", "step", "looked at"),
     Way("mouse", PHONE, NAME, "form", "sample", "looked at"),
-    Way("mouse", SCREEN, NUMBER, "report", "step", "followed"),
     Way("keys", LAPTOP, TWICE, "report", "step", "looked at"),
+    Way("touch", LOW, NUMBER, "form", "step", "changed"),
+    Way("mouse", LAPTOP, BRACE, "form", "step", "changed", is_file=True),
     Way("keys", PHONE, BREAK, "form", "step", "changed"),
     Way("touch", LAPTOP, AT, "form", "sample", "changed"),
+    Way("mouse", SCREEN, NUMBER, "report", "step", "followed"),
+    Way("keys", LOW, NAME, "form", "step", "followed"),
     Way("touch", SCREEN, NAME, "report", "sample", "followed"),
-    Way("mouse", LAPTOP, BRACE, "form", "step", "changed", is_file=True),
+    Way("mouse", LOW, TWICE, "report", "sample", "looked at"),
 )
-# those of each browser at each run: one by mouse, by keys and by touch, each in a window of its own
-FEW = 3
+# who walks which of them at each run: all are walked, and by each browser some by mouse, by keys and by touch
+BROWSERS = ("chrome", "firefox", "MiniBrowser")
 
 
 class Reader:
@@ -87,32 +107,36 @@ class Reader:
         self.reach(element)
         if self.has_keys:
             self.tab(element)
-            self.page.press("ENTER")
+            self.awake()
+            self.chord(ENTER)
         else:
             self.point(element)
 
     def tab(self, element: str) -> None:
-        """Goes to an element by the tab key, and back with shift."""
+        """Goes to an element by the tab key, or back with shift: over as many stops at once as lie between."""
         for _ in range(MOST_TABS):
-            is_there, is_before = self.page.js(f"const [it, now] = [{element}, document.activeElement];"
-                                               "return [it.contains(now), (now.compareDocumentPosition(it) & 2) > 0]")
-            if is_there:
+            stops = int(self.page.js(STOPS.replace("ELEMENT", element)))
+            if not stops:
                 return
-            self.chord(*([SHIFT] if is_before else []), TAB)
+            self.keys([("keyDown", SHIFT)] * (stops < 0) + [("keyDown", TAB), ("keyUp", TAB)] * abs(stops) + [("keyUp", SHIFT)] * (stops < 0))
         raise TimeoutError(f"no way by the tab key to {element}")
 
     def point(self, element: str) -> None:
-        """Points at the middle of an element, once it is scrolled to and drawn there."""
-        self.scroll(element, "center")
-        place = self.page.js(f"const box = {element}.getBoundingClientRect();"
-                             "return [Math.round(box.left + box.width / 2), Math.round(box.top + Math.min(box.height, 60) / 2)]")
-        self.at(*place)
+        """Points at the middle of an element, once it is scrolled to and nothing lies over it; if something stays in sight above, it is
+        scrolled to the window's lower edge."""
+        end = time.monotonic() + SECONDS
+        while time.monotonic() < end:
+            for block in ("center", "end"):
+                self.scroll(element, block)
+                if place := self.page.js(PLACE.replace("ELEMENT", element)):
+                    self.at(*place)
+                    return
+        raise TimeoutError(f"something lies over {element}")
 
     def scroll(self, element: str, block: str) -> None:
-        """Scrolls to an element, until it is drawn."""
-        self.page.js(f"window.isDrawn = false; {element}.scrollIntoView({{block: arguments[0]}});"
-                     "requestAnimationFrame(() => requestAnimationFrame(() => setTimeout(() => { window.isDrawn = true; }, 100)))", block)
-        self.page.wait("return window.isDrawn")
+        """Scrolls to an element, once it is there, until all stands still."""
+        self.page.wait(f"const it = {element}; it?.scrollIntoView({{block: arguments[0]}}); return Boolean(it)", block)
+        self.page.settle()
 
     def at(self, x: int, y: int) -> None:
         """Presses at a place of the window."""
@@ -128,23 +152,26 @@ class Reader:
         return x, y, height
 
     def press_in_film(self, name: str, key: str, is_done: str) -> None:
-        """Presses a button of the film, or its key, until that is done. A driver may lose the first key after the focus went to a frame."""
-        for _ in range(MOST_LOST if self.has_keys else 0):
-            self._press_in_film(name, key)
-            with contextlib.suppress(TimeoutError):
-                self.page.wait(f"return {is_done}", seconds=SECONDS_OF_A_PRESS)
-                return
-        self._press_in_film(name, key)
-        self.page.wait(f"return {is_done}")
-
-    def _press_in_film(self, name: str, key: str) -> None:
+        """Presses a button of the film, or its key, until that is done."""
         if self.has_keys:
-            self.page.driver.switch_to.frame(0)
+            self.awake("document.getElementById('film').contentWindow")
             self.write(key)
-            self.page.driver.switch_to.default_content()
         else:
             self.scroll(f"document.getElementById('film').contentDocument.querySelector('{name}')", "nearest")
             self.at(*self.place_in_film(name)[:2])
+        self.page.wait(f"return {is_done}")
+
+    def awake(self, window: str = "window") -> None:
+        """Waits until keys come to the page, or to the window of a frame in it: drivers lose those that come while the focus goes there. The
+        key that is pressed for that does nothing, however often it comes, and however late."""
+        end = time.monotonic() + SECONDS
+        while time.monotonic() < end:
+            before = self.page.js(HEARS.replace("WINDOW", window))
+            self.chord(SHIFT)
+            with contextlib.suppress(TimeoutError):
+                self.page.wait(f"return {window}.heard > arguments[0]", before, seconds=SECONDS_OF_A_PROBE)
+                return
+        raise TimeoutError(f"no key comes to {window}")
 
     def edit(self) -> None:
         """Goes to the first place of the source."""
@@ -153,6 +180,7 @@ class Reader:
             self.tab("document.querySelector('.CodeMirror')")
         else:
             self.point("document.querySelector('.CodeMirror-line')")
+        self.awake()
         self.chord(CONTROL, HOME)
 
     def write(self, text: str) -> None:
@@ -215,6 +243,7 @@ def watch_the_hit(reader: Reader) -> None:
     reader.press("document.querySelector('#report button')" if reader.way.watches == "report" else by_id("watch"))
     told(page, "#told", "can be watched")
     page.wait("return document.activeElement.id === 'film' && !document.getElementById('watch').disabled")
+    page.settle()
     _, place, height = reader.place_in_film("#hit-after")
     if place > height:
         raise TimeoutError(f"the buttons of the film are at {place}, below {height}")
@@ -223,6 +252,39 @@ def watch_the_hit(reader: Reader) -> None:
     reader.press_in_film("#hit-after", "n", f"{player}.cycle > 0 && !{player}.isPlaying")
     page.wait("return /^[\\d,]+\\s*1\\) hunter.r loses \\d+% to robot 2$/.test("
               "document.getElementById('film').contentDocument.querySelector('#events li').innerText.replaceAll('\\n', ' ').trim())")
+
+
+def look_why(reader: Reader) -> None:
+    """The robot is seen from inside, at the line where it is at that moment."""
+    for is_open in (True, False):
+        reader.press("document.querySelector('#inside summary')")
+        reader.page.wait("return document.getElementById('inside').open === arguments[0]", is_open)
+        if is_open:
+            reader.page.wait("return document.querySelector('#inside-source .current')")
+
+
+def share_the_moment(reader: Reader) -> None:
+    """A link to the moment of the match that is watched is made; a page that is a file offers none."""
+    reader.press(by_id("link-moment"))
+    is_made = "location.hash.endsWith(`&match=${watched}&cycle=${cycle}&robot=1`)"
+    is_offered = "document.getElementById('told').textContent.startsWith('This page is a file')"
+    reader.page.wait("const {value: watched} = document.getElementById('watched'), {cycle} = document.getElementById('film').contentWindow.player;"
+                     f"return {is_offered if reader.way.is_file else is_made}")
+
+
+def bring_back(reader: Reader) -> None:
+    """Something is written, and the version that was run comes back in its place."""
+    page, ran = reader.page, reader.page.source
+    reader.edit()
+    reader.write("/* newer */")
+    page.wait("return document.querySelector('.CodeMirror').CodeMirror.getValue().startsWith('/* newer */')")
+    reader.press("document.querySelector('#versions summary')")
+    button = "[...document.querySelectorAll('#robot-versions button:enabled')].find(it => it.textContent === 'Bring back')"
+    page.wait(f"return Boolean({button})")
+    reader.press(button)
+    page.wait("return document.querySelector('.CodeMirror').CodeMirror.getValue() === arguments[0]", ran)
+    reader.press("document.querySelector('#versions summary')")
+    page.wait("return !document.getElementById('versions').open")
 
 
 def win_by_step(reader: Reader) -> tuple[str, str]:
@@ -325,6 +387,9 @@ def whole(reader: Reader) -> Iterator[tuple[str, Callable[[], Any]]]:
     yield "the page", lambda: starts_well(reader)
     yield "write and mend", lambda: write_and_mend(reader)
     yield "watch the hit", lambda: watch_the_hit(reader)
+    yield "look why", lambda: look_why(reader)
+    yield "share the moment", lambda: share_the_moment(reader)
+    yield "bring back", lambda: bring_back(reader)
     yield "win", won
     yield "save and send", lambda: save_and_send(reader, names[0])
     yield "open a friend's", lambda: open_a_friends(reader)

@@ -7,7 +7,7 @@ import path from "node:path";
 import {pathToFileURL} from "node:url";
 
 const load = name => import(pathToFileURL(path.join(process.argv[2], `${name}.js`)));
-const {fixed, meanOf, normalQuantile, withSign} = await load("intervals");
+const {difference, fixed, meanOf, normalQuantile, outward, withSign} = await load("intervals");
 const {seatingsOf, keyOf, CHALLENGER} = await load("seatings");
 const {constantsOf, countOf, tunablesOf, valuesOf, withValue} = await load("tuning");
 const {partingOf} = await load("partings");
@@ -34,7 +34,8 @@ async function sweep(settings, source, opponents, each) {
 
 const WORKS = {
     mean: (classes, unseen, level) => meanOf(classes, unseen, level),
-    written: (value, digits) => [fixed(Math.abs(value), digits), withSign(value, digits)],
+    outward: (interval, most) => outward(interval, most),
+    written: (value, digits) => [fixed(Math.abs(value), digits), withSign(value, digits), difference(value)],
     normal: chance => normalQuantile(chance),
     seatings: async (seed, source) => seatingsOf(seed, CHALLENGER, await keyOf(source)),
     tunables: (source, places) => tunablesOf(source, places),

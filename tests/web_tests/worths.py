@@ -193,8 +193,8 @@ def swept(page: Page, crobots: str, stages: str) -> list[str]:
     page.js("const it = document.querySelector('#sweep-choice select'); it.value = 'the others of this battle';")
     words = ["--sweep", "--crobots", crobots, "--stages", stages, "-m20", f"-l{LIMIT}", f"-s{SEED}", "mine.r", OPPONENT]
     right = contests.answered("tune", words, {"mine.r": source, OPPONENT: contests.robot(OPPONENT)})["sweep"]
-    three = [{name: contests.signed(it[name], 3) for name in ("change", "low", "high")} for it in right]
-    wanted = [[str(it["values"][0]), f"{it['points']:.3f}", told["change"], f"{told['low']} to {told['high']}", str(it["matches"]), it["verdict"]] for it, told in zip(right, three)]
+    three = [[contests.difference(it[name]) for name in ("change", "low", "high")] for it in right]
+    wanted = [[str(it["values"][0]), f"{it['points']:.3f}", *told, str(it["matches"]), it["verdict"]] for it, told in zip(right, three)]
     for button in ("#sweep-numbers button", ".CodeMirror .sweep"):
         page.js("document.getElementById('sweep').replaceChildren(); document.querySelector(arguments[0]).click()", button)
         page.wait("return document.querySelector('#sweep table')")

@@ -127,7 +127,7 @@ fn check<'a>(
                 return Err(Refusal::Acts(words));
             }
             Token::Name(name) if !is_seen(noted, function, &name) => {
-                let word = words.get(located.start..located.end);
+                let word = words.get(located.start()..located.end());
                 return Err(Refusal::Name(word.unwrap_or(words)));
             }
             _ => {}

@@ -24,9 +24,27 @@ pub struct Located {
     /// The column of its first byte, in bytes, from 1.
     pub column: u32,
     /// How many bytes of the source are before it.
-    pub start: usize,
+    pub start: u32,
     /// How many bytes of the source there are up to its last one.
-    pub end: usize,
+    pub end: u32,
+}
+
+impl Located {
+    ghost use Rattle.std.specs.Prelude.{◌≡◌};
+
+    /// Returns the offset of its first byte.
+    pub fn start(&self) -> usize
+        ensures { result ≡ self.now.start }
+    {
+        self.start as usize
+    }
+
+    /// Returns the offset behind its last byte.
+    pub fn end(&self) -> usize
+        ensures { result ≡ self.now.end }
+    {
+        self.end as usize
+    }
 }
 
 impl Default for Located {
@@ -143,8 +161,8 @@ impl<'a> Finder<'a> {
             token: token.token,
             line: token.line,
             column,
-            start,
-            end: token.end as usize,
+            start: u32::try_from(start).unwrap_or(u32::MAX),
+            end: token.end,
         }
     }
 

@@ -103,7 +103,7 @@ fn value_behind<'a>(source: &'a [u8], tokens: &[Located], before: usize) -> &'a 
     let (Some(begin), Some(last)) = (tokens.get(first), tokens.get(end.saturating_sub(1))) else {
         return "..";
     };
-    let bytes = source.get(begin.start..last.end).unwrap_or(&[]);
+    let bytes = source.get(begin.start()..last.end()).unwrap_or(&[]);
     if is_whole && end > first && bytes.len() <= MOST_COPIED && is_printable(bytes) {
         str::from_utf8(bytes).unwrap_or("..")
     } else {

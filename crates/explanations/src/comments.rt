@@ -123,11 +123,11 @@ fn with_code(text: &[u8], line: u32) -> Option<u32> {
 pub fn warn_of_comments(out: &mut Warnings, source: &[u8], tokens: &[Located]) {
     let (mut end, mut line) = (0usize, 1u32);
     for (index, located) in tokens.iter().enumerate() {
-        let between = source.get(end..located.start).unwrap_or(&[]);
+        let between = source.get(end..located.start()).unwrap_or(&[]);
         if let Some(begin) = with_code(between, line) {
             out.warn(index, Said::Swallowing(begin));
         }
-        end = located.end;
+        end = located.end();
         line = located.line;
     }
 }

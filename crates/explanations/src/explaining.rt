@@ -72,7 +72,7 @@ pub fn explain_left(
         profile,
     };
     let mut reason = Note::new();
-    add_marked(&mut reason, found.source, found.met.start);
+    add_marked(&mut reason, found.source, found.met.start());
     add_reason(&mut reason, &found, &search);
     let mut note = head_of(diagnostic, found.met.column);
     note.add(reason.as_str());
@@ -156,7 +156,7 @@ fn add_misfit(note: &mut Note, found: &Found<'_>, search: &Search<'_>) {
 /// Returns where the name begins and ends that has the character of a fault.
 fn name_of(found: &Found<'_>) -> Option<(usize, usize)> {
     if found.code == Code::BadCharacter {
-        name_around(found.source, found.met.start)
+        name_around(found.source, found.met.start())
     } else {
         None
     }
@@ -165,13 +165,13 @@ fn name_of(found: &Found<'_>) -> Option<(usize, usize)> {
 /// Returns the hint on what was met: words and characters that aren't known have their own, but for a comment that was
 /// meant to go on.
 fn hint_for(found: &Found<'_>, scene: &Scene<'_>) -> Option<Hint> {
-    if let Some(line) = nested(found.source, found.met.start) {
+    if let Some(line) = nested(found.source, found.met.start()) {
         return Some(Hint::Nested(line));
     }
-    if let Some(line) = swallowing(found.source, found.met.start) {
+    if let Some(line) = swallowing(found.source, found.met.start()) {
         return Some(Hint::Swallowing(line));
     }
-    if is_unbegun(found.source, found.met.start) {
+    if is_unbegun(found.source, found.met.start()) {
         return Some(Hint::Text("a comment begins with `/*`: it is missing before this text"));
     }
     if let Some(hint) = on_prototypes(scene)
@@ -207,7 +207,7 @@ fn add_limit(note: &mut Note, found: &Found<'_>) {
     match found.code {
         Code::CommentNotClosed => note.add("the comment that begins here has no `*/`"),
         Code::NameTooLong => {
-            let length = found.met.end.saturating_sub(found.met.start);
+            let length = found.met.end().saturating_sub(found.met.start());
             note.count("a name has at most ", MOST_NAME_BYTES as u64, " letters");
             note.count(", and this one has ", length as u64, "");
         }

@@ -141,7 +141,7 @@ fn has_name(constructs: &[Construct], name: &Name) -> bool {
 /// Returns the row of a table with the construct that begins with a token.
 fn row_in(constructs: &[Construct], source: &[u8], located: &Located) -> Option<usize> {
     let spelling = spelling_of(source, located);
-    let rest = source.get(located.end..).unwrap_or(&[]);
+    let rest = source.get(located.end()..).unwrap_or(&[]);
     for (row, (looks, behind, _, _, _)) in constructs.iter().enumerate() {
         if *looks == spelling && may_follow(rest, behind.as_bytes()) {
             return Some(row);

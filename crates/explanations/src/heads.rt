@@ -176,7 +176,7 @@ fn add_parameters(note: &mut Note, source: &[u8], tokens: &[Located], before: us
     let Some(open) = tokens.get(before.saturating_add(1)) else {
         return;
     };
-    let mut rest = source.get(open.end..).unwrap_or(&[]);
+    let mut rest = source.get(open.end()..).unwrap_or(&[]);
     let mut is_first = true;
     for _ in 0..MOST_NAMES {
         let end = parameter_end(rest);

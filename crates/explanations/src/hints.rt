@@ -469,7 +469,7 @@ fn on_commas(scene: &Scene<'_>) -> Option<Hint> {
 /// Returns the hint on a `.` before the name of an intrinsic function, by the bytes behind it.
 pub fn on_methods(scene: &Scene<'_>) -> Option<Hint> {
     let met = scene.tokens.get(scene.index)?;
-    let [b'.', called @ ..] = scene.source.get(met.start..)? else {
+    let [b'.', called @ ..] = scene.source.get(met.start()..)? else {
         return None;
     };
     for intrinsic in &Intrinsic::ALL {

@@ -53,7 +53,7 @@ pub fn follows(tokens: &[Located], index: usize, token: &Token) -> bool {
 /// Reports whether nothing is between the token of an index and the one before it.
 pub fn touches(tokens: &[Located], index: usize) -> bool {
     match (before(tokens, index), tokens.get(index)) {
-        (Some(before), Some(here)) => before.end == here.start,
+        (Some(before), Some(here)) => before.end() == here.start(),
         _ => false,
     }
 }

@@ -43,4 +43,4 @@ pub use explaining::{explain, explain_left};
 pub use heads::is_head;
 pub use notes::Note;
 pub use searches::fault_token;
-pub use warnings::{Warning, Warnings, warnings_before, warnings_of};
+pub use warnings::{Warning, Warnings, warnings_before, warnings_of, warnings_up_to};

@@ -10,7 +10,7 @@ use tokens::{Keyword, Punctuator, Token};
 /// Returns the hint on a byte that begins no token, by those around it.
 pub fn on_character(found: &Found<'_>, scene: &Scene<'_>) -> Option<&'static str> {
     let (source, met) = (found.source, &found.met);
-    match source.get(met.start).copied().unwrap_or(0) {
+    match source.get(met.start()).copied().unwrap_or(0) {
         b'"' | b'\'' if scene.kinds.statement || scene.is_outside() => Some(
             "there is no text: a comment stands between `/*` and `*/`",
         ),
@@ -37,7 +37,7 @@ pub fn on_character(found: &Found<'_>, scene: &Scene<'_>) -> Option<&'static str
         }
         b'.' => Some("there are no structures and no methods: a name stands alone"),
         b'\\' => Some("a line needs no sign to go on in the next one"),
-        0 | 128.. => Some(on_foreign_byte(source, met.start)),
+        0 | 128.. => Some(on_foreign_byte(source, met.start())),
         _ => None,
     }
 }
@@ -88,11 +88,11 @@ fn names_argument(scene: &Scene<'_>) -> bool {
 fn touches_number(found: &Found<'_>) -> bool {
     let is_behind = match before(found.tokens, found.index) {
         Some(before) => {
-            before.end == found.met.start && matches!(before.token, Token::Constant(_))
+            before.end() == found.met.start() && matches!(before.token, Token::Constant(_))
         }
         None => false,
     };
-    let is_before = match found.source.get(found.met.start.saturating_add(1)) {
+    let is_before = match found.source.get(found.met.start().saturating_add(1)) {
         Some(after) => after.is_ascii_digit(),
         None => false,
     };

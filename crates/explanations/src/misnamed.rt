@@ -170,7 +170,7 @@ fn on_stray_code(found: &Found<'_>) -> Option<Hint> {
     if matches!(found.code, Code::FunctionNotDefined | Code::NoMainFunction) {
         return None;
     }
-    if let Some(line) = nested(found.source, found.met.start) {
+    if let Some(line) = nested(found.source, found.met.start()) {
         return Some(Hint::Nested(line));
     }
     let name = head_of(found);

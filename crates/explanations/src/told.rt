@@ -20,7 +20,7 @@ pub fn add_token(note: &mut Note, source: &[u8], located: &Located) {
         Token::Constant(value) => note.count("the number ", u64::from(value), ""),
         Token::Punctuator(punctuator) => note.quote(spelled(punctuator)),
         Token::End => note.add("the end of the file"),
-        Token::Fault(_) => add_character(note, source, located.start),
+        Token::Fault(_) => add_character(note, source, located.start()),
     }
 }
 
@@ -77,7 +77,7 @@ pub fn character_at(source: &[u8], at: usize) -> Option<char> {
 
 /// Returns a token as the source spells it.
 pub fn spelling_of<'a>(source: &'a [u8], located: &Located) -> &'a str {
-    let bytes = source.get(located.start..located.end).unwrap_or(&[]);
+    let bytes = source.get(located.start()..located.end()).unwrap_or(&[]);
     str::from_utf8(bytes).unwrap_or("?")
 }
 

@@ -258,7 +258,7 @@ pub fn warnings_before(
 /// Finds the warnings about the tokens of a source before the one of an index, which is that of its fault if it has one.
 /// It isn't inlined, since the page's module is to be small.
 #[inline(never)]
-fn warnings_up_to(source: &[u8], tokens: &[Located], profile: Profile, end: usize) -> Warnings {
+pub fn warnings_up_to(source: &[u8], tokens: &[Located], profile: Profile, end: usize) -> Warnings {
     let tree = SourceTree::of(tokens, profile);
     let constants = Constants::of(&tree);
     let subject = Subject {

@@ -5,7 +5,8 @@ use Rattle.std.proofs.lemmas.List.{append_cancel_left}
 use Rattle.std.specs.Prelude.{Option, Some, None, if◌then◌else◌, unwrap_or}
 use Rattle.tokens.specs.declared.located_tokens.LocatedToken.{LocatedToken}
 use Rattle.grammar.specs.declared.actions.Action.{Action}
-use Rattle.grammar.specs.Actions.{function_actions}
+use Rattle.grammar.specs.declared.actions.Action.TheVariants.{BeginFunction}
+use Rattle.grammar.specs.Actions.{body_actions, function_actions}
 use Rattle.grammar.specs.Beginning.{IsBeginning}
 use Rattle.grammar.specs.Derivation.{State, initial_state, PartialTree, Definition, last_body, definition_of, next_token, token_after_next}
 use Rattle.grammar.specs.Laws.StateParts.{state}
@@ -28,7 +29,7 @@ use Rattle.grammar_laws.specs.Emitted.{EmitsABeginning, EmitsAPart, EmitsItsFunc
 use Rattle.grammar_laws.specs.Emitted.{NextMayFollow}
 use Rattle.grammar_laws.proofs.Completing.{Completes, completes}
 use Rattle.grammar_laws.proofs.ReportingLimits.{allowed, unlimited}
-use Rattle.grammar_laws.proofs.ReportingSteps.{StateReports, defined_reported, stepped_reports}
+use Rattle.grammar_laws.proofs.ReportingSteps.{Allows, StateReports, defined_reported, stepped_reports}
 use Rattle.grammar_laws.proofs.Reporting.{Ends, Reports}
 
 pub start_reports : (A : Type 0) (located_tokens : List LocatedToken) → StateReports A (initial_state located_tokens) []
@@ -245,3 +246,36 @@ next_may_follow profile other n located_tokens clean quiet =
 
 pub beginnings_are_numbered : BeginningsAreNumbered
 beginnings_are_numbered acts b = numbered acts [] (beginning_follows acts b)
+
+-- At a function's end, with its body made: what was emitted is that of the functions defined and of this one up to its
+-- body. What its end emits may be reported, however much code there is.
+pub record AtEnd (n : ℕ) (located_tokens : List LocatedToken) (values : List PartialTree) (scope : Scope)
+    (functions : List Definition) : Type 0 where
+  pub reported : definitions_actions functions ++
+      (BeginFunction scope.number scope.current.parameters ∷ body_actions (last_body values)) ≡
+      emissions n (initial_state located_tokens)
+  pub begins : IsBeginning
+      (emissions n (initial_state located_tokens) ++ emitted (derived n (initial_state located_tokens)))
+
+pub at_end : (profile : Profile) (n : ℕ) (located_tokens : List LocatedToken) (stack : List Item)
+    (rest : List LocatedToken)
+    (values : List PartialTree) (scope : Scope) (functions : List Definition) →
+    faults_in profile n (initial_state located_tokens) ≡ [] →
+    derived n (initial_state located_tokens) ≡ state (Make Define ∷ stack) rest values scope functions →
+    AtEnd n located_tokens values scope functions
+at_end profile n located_tokens stack rest values scope functions clean is =
+    let s : State = derived n (initial_state located_tokens) in
+    let reports : StateReports (Unit {0}) s (emissions n (initial_state located_tokens)) =
+    clean_from_start profile n located_tokens clean in
+    let sound : Sound s = run_sound profile n (initial_state located_tokens) clean (start_sound located_tokens) in
+    let here : StateReports (Unit {0}) (state (Make Define ∷ stack) rest values scope functions)
+    (emissions n (initial_state located_tokens)) =
+    subst (λ (t : State). StateReports (Unit {0}) t (emissions n (initial_state located_tokens))) is reports in
+    let there : Sound (state (Make Define ∷ stack) rest values scope functions) = subst Sound is sound in
+    record {
+      reported = here.reported;
+      begins = begins (stepped s) (emissions n (initial_state located_tokens) ++ emitted s)
+          (stepped_reports (Unit {0}) s (emissions n (initial_state located_tokens))
+          (λ e. subst (λ (t : State). Allows (Unit {0}) t.stack t.rest t.scope) (sym is)
+          (λ a. (there.scoped.parameters, there.scoped.variables))) reports);
+    }

@@ -16,7 +16,7 @@ use Rattle.grammar.specs.declared.actions.Action.TheVariants.{PushConstant, Stor
 use Rattle.grammar.specs.declared.actions.Action.TheVariants.{EndCall}
 use Rattle.grammar.specs.Actions.{expr_actions, args_actions, middle}
 use Rattle.grammar.specs.Derivation.{PartialTree, AnExpr, ACall, Definition}
-use Rattle.grammar_laws.specs.Emission.{on_choice, on_operator}
+use Rattle.grammar_laws.specs.Emission.{and_then, on_choice, on_operator}
 use Rattle.grammar.specs.Faults.{nested_count}
 use Rattle.grammar.specs.Grammar.{Symbol, Source, Types, Head, More, Parameters, ParameterTypes, FunctionBlock, Block}
 use Rattle.grammar.specs.Grammar.{Declarations, Statements, Statement, ElsePart, Back, Expression, Level, Tail, Unary}
@@ -28,7 +28,7 @@ use Rattle.grammar.specs.Tree as tree
 use Rattle.grammar.specs.Tree.{Expr, add_argument}
 use Rattle.grammar_laws.proofs.Fitting.{constant_fits, variable_fits, postfix_fits, expr_wider, assign_fits, binary_fits}
 use Rattle.grammar_laws.proofs.Fitting.{call_fits, no_args_fit, argument_fits, argument_actions, side_fits}
-use Rattle.grammar_laws.proofs.ReportingProductions.{and_then, and_then_is, Produced, Enters, source_reports, head_reports}
+use Rattle.grammar_laws.proofs.ReportingProductions.{and_then_is, Produced, Enters, source_reports, head_reports}
 use Rattle.grammar_laws.proofs.ReportingProductions.{more_reports, function_reports, block_reports, statements_report, statement_reports}
 use Rattle.grammar_laws.proofs.ReportingProductions.{else_reports}
 use Rattle.grammar_laws.proofs.Reporting.{ExprFits, Fact, Gives, Goes, Passed, Parted, room_in, Reports}

@@ -13,7 +13,7 @@ use Rattle.grammar.specs.declared.actions.Action.TheVariants.{EndCall, IfTest, E
 use Rattle.grammar.specs.declared.actions.Action.TheVariants.{Chop, BeginFunction}
 use Rattle.grammar.specs.Actions.{expr_actions, body_actions}
 use Rattle.grammar.specs.Derivation.{PartialTree, AnExpr, ABody, Definition}
-use Rattle.grammar_laws.specs.Emission.{on_choice}
+use Rattle.grammar_laws.specs.Emission.{and_then, on_choice}
 use Rattle.grammar.specs.Faults.{nested_count}
 use Rattle.grammar.specs.Grammar.{Symbol, Source, Head, More, FunctionBlock, Block, Statements, Statement, ElsePart}
 use Rattle.grammar.specs.Grammar.{Back, Expression, Role, Defined, External, Parameter, Typed, Local, Called, Mentioned}
@@ -26,11 +26,6 @@ use Rattle.grammar.proofs.Unfinished.{body_actions-join}
 use Rattle.grammar_laws.proofs.Fitting.{done_fits, join_fits, statement_fits, return_fits, if_fits, if_else_fits, while_fits}
 use Rattle.grammar_laws.proofs.Reporting.{BodyFits, Fact, Adds, Branches, Between, Defines, Stated, Branched, Listed, room_in}
 use Rattle.grammar_laws.proofs.Reporting.{Reports}
-
--- these actions, and more
-abbrev pub and_then : List Action → List Action → List Action
-and_then acts [] = acts
-and_then acts (x ∷ xs) = acts ++ x ∷ xs
 
 pub and_then_is : (acts more : List Action) → and_then acts more ≡ acts ++ more
 and_then_is acts [] = sym (append-nil acts)

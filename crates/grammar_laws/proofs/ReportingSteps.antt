@@ -16,7 +16,7 @@ use Rattle.grammar.specs.Laws.StateParts.{state}
 use Rattle.grammar.specs.Derivation.{name_tree, next_token, token_after_next, line_at, name_of_token, constant_value, is_end}
 use Rattle.grammar.specs.Derivation.{matched, name_matched, constant_matched, replaced, stack_step, stepped}
 use Rattle.grammar.specs.declared.operators.StoreOp.{StoreOp}
-use Rattle.grammar_laws.specs.Emission.{on_choice, on_name, on_constant, on_rule, on_item, emitted}
+use Rattle.grammar_laws.specs.Emission.{and_then, on_choice, on_name, on_constant, on_rule, on_item, emitted}
 use Rattle.grammar.specs.Beginning.{definitions_actions}
 use Rattle.grammar.specs.Grammar.{Symbol, FunctionBlock, Statement, Tail, Unary, Item, Exactly, AKeyword, AName, AConstant}
 use Rattle.grammar.specs.Grammar.{AnEnd, Part, Make, Close, SemanticAction, Operate, Negate, Not, Complement, Fetch}
@@ -29,7 +29,7 @@ use Rattle.grammar.specs.Scope.{is_local_new, is_variable_new, is_function_new, 
 use Rattle.grammar.specs.Scope.{with_variable, with_new_function}
 use Rattle.grammar.proofs.Beginnings.{definitions_last, reportable_last}
 use Rattle.grammar_laws.proofs.ReportingOperands.{Begins, part_reports}
-use Rattle.grammar_laws.proofs.ReportingProductions.{and_then, and_then_is, Produced, Enters}
+use Rattle.grammar_laws.proofs.ReportingProductions.{and_then_is, Produced, Enters}
 use Rattle.grammar_laws.proofs.Reporting.{Defines, Named, Reports}
 
 -- what is true of a state and the actions emitted before it

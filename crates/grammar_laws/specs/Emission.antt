@@ -21,6 +21,11 @@ use Rattle.grammar.specs.Grammar.{Define, Item, AName, AConstant, Part, Make}
 use Rattle.grammar.specs.Operators.{operator_at}
 use Rattle.grammar.specs.Scope.{Scope}
 
+-- these actions, and more
+abbrev pub and_then : List Action → List Action → List Action
+and_then acts [] = acts
+and_then acts (x ∷ xs) = acts ++ x ∷ xs
+
 -- before the right side of an operator
 abbrev pub on_operator : Option Op → List Action
 on_operator None = []

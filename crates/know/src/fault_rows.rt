@@ -12,17 +12,18 @@ use crate::places::token_of_note;
 use crate::rows::{Subject, add_position, add_range, begin_row};
 use crate::token_rows::end_of;
 use derivations::{Located, locate};
-use explanations::{explain_left, warnings_before, warnings_of};
+use explanations::{explain_left, warnings_of, warnings_up_to};
 use grammar::Diagnostic;
 use recovery::{MOST_FAULTS, Rest};
 use std::alloc::AllocError;
 use tools::{Draft, Object, Text};
 
-/// Adds the rows of the warnings about a source: about what stands before its fault, if it has one.
+/// Adds the rows of the warnings about a source: about what stands before its fault, which is at the token of an index, if
+/// it has one.
 pub fn add_warnings(
     text: &mut Draft,
     subject: &Subject<'_>,
-    fault: Option<Diagnostic>,
+    fault: Option<usize>,
 ) -> Result<(), AllocError> {
     let Subject {
         source,
@@ -30,8 +31,8 @@ pub fn add_warnings(
         profile,
         ..
     } = *subject;
-    let warnings = match &fault {
-        Some(fault) => warnings_before(source, tokens, profile, fault),
+    let warnings = match fault {
+        Some(index) => warnings_up_to(source, tokens, profile, index),
         None => warnings_of(source, tokens, profile),
     };
     let mut from = 0;
@@ -77,7 +78,7 @@ fn add_warning(
 /// Adds the place of a token, as its position and as its bytes.
 fn add_place(row: &mut Object<'_>, source: &[u8], located: &Located) {
     add_position(row, located.line, located.column);
-    add_range(row, located.start, end_of(source, located));
+    add_range(row, located.start(), end_of(source, located));
 }
 
 /// Adds a fix, or null for none.
@@ -165,7 +166,6 @@ fn add_said(row: &mut Object<'_>, name: &str, words: Option<&str>) {
 pub fn add_later_faults(
     text: &mut Draft,
     subject: &Subject<'_>,
-    first: &Diagnostic,
     index: usize,
 ) -> Result<LeftOut, AllocError> {
     let Subject {
@@ -175,11 +175,11 @@ pub fn add_later_faults(
         ..
     } = *subject;
     let mut rest = Rest::of(alloc, source, profile)?;
-    let mut fault = *first;
     let mut place = place_of(subject.tokens, index);
+    let mut lines = rest.leave_out_at(subject.tokens, index)?;
     for number in 1..=MOST_FAULTS {
-        if rest.leave_out(&fault)?.is_none() {
-            return LeftOut::of(alloc, rest.bytes(), Some(place));
+        if lines.is_none() {
+            break;
         }
         let Some(next) = rest.fault() else {
             return LeftOut::of(alloc, rest.bytes(), None);
@@ -187,11 +187,11 @@ pub fn add_later_faults(
         let tokens = locate(alloc, rest.bytes())?;
         let tokens = tokens.as_slice();
         let index = fault_index(alloc, rest.bytes(), tokens, profile, &next)?;
+        place = place_of(tokens, index);
         if number < MOST_FAULTS {
             add_fault(text, subject, rest.bytes(), tokens, &next, index)?;
+            lines = rest.leave_out_at(tokens, index)?;
         }
-        fault = next;
-        place = place_of(tokens, index);
     }
     LeftOut::of(alloc, rest.bytes(), Some(place))
 }
@@ -199,7 +199,7 @@ pub fn add_later_faults(
 /// Returns how many bytes are before the token of an index.
 fn place_of(tokens: &[Located], index: usize) -> usize {
     match tokens.get(index) {
-        Some(located) => located.start,
+        Some(located) => located.start(),
         None => 0,
     }
 }

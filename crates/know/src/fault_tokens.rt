@@ -47,9 +47,9 @@ fn set_apart(alloc: Global, source: &[u8], tokens: &[Located]) -> Result<Vec<u8>
     let mut bytes = Vec::new(alloc);
     let mut begin = 0;
     for located in tokens.iter().skip(1) {
-        bytes.extend_from_slice(source.get(begin..located.start).unwrap_or(&[]))?;
+        bytes.extend_from_slice(source.get(begin..located.start()).unwrap_or(&[]))?;
         bytes.push(b'\n')?;
-        begin = located.start;
+        begin = located.start();
     }
     bytes.extend_from_slice(source.get(begin..).unwrap_or(&[]))?;
     Ok(bytes)

@@ -6,7 +6,7 @@ ghost use Rattle.know.specs.Repairs.{Repairs, StillCompiles};
 use crate::notes_read::{behind, quoted};
 use crate::repairs::{Faulty, compiles, edited, gets_further};
 use crate::rows::Subject;
-use derivations::{Located, fitting};
+use derivations::Located;
 use grammar::{Diagnostic, Profile};
 use std::alloc::{AllocError, Global};
 use std::str;
@@ -103,7 +103,7 @@ fn tried(
 /// Returns how many bytes there are up to the last one of the token of a fault.
 fn end_of(trouble: &Trouble<'_>) -> usize {
     match trouble.tokens.get(trouble.index) {
-        Some(located) => located.end,
+        Some(located) => located.end(),
         None => 0,
     }
 }
@@ -137,11 +137,11 @@ fn suggestions<'a>(
         index,
         hint,
     } = *trouble;
-    let (semicolon, bracket) = marks_that_fit(tokens, index);
+    let bracket = has_bracket(tokens, index);
     [
         hexadecimal(tokens, index, hint),
         comparing(tokens, index),
-        missing(tokens, index, semicolon, ";"),
+        missing(tokens, index, true, ";"),
         missing(tokens, index, bracket, ")"),
         missing(tokens, index, bracket, "))"),
         missing(tokens, index, bracket, ")))"),
@@ -159,8 +159,8 @@ fn replacing<'a>(
 ) -> Option<Suggestion<'a>> {
     let met = tokens.get(index)?;
     Some(Suggestion {
-        start: met.start,
-        end: met.end,
+        start: met.start(),
+        end: met.end(),
         words: words?,
     })
 }
@@ -169,8 +169,8 @@ fn replacing<'a>(
 fn hexadecimal<'a>(tokens: &[Located], index: usize, hint: &'a str) -> Option<Suggestion<'a>> {
     let words = behind(hint, "aren't known; write ")?;
     Some(Suggestion {
-        start: tokens.get(index.checked_sub(1)?)?.start,
-        end: tokens.get(index)?.end,
+        start: tokens.get(index.checked_sub(1)?)?.start(),
+        end: tokens.get(index)?.end(),
         words,
     })
 }
@@ -182,27 +182,35 @@ fn comparing<'a>(tokens: &[Located], index: usize) -> Option<Suggestion<'a>> {
     replacing(tokens, index, words)
 }
 
-/// Reports whether a `;` and whether a `)` fits in the place of the token of an index.
-fn marks_that_fit(tokens: &[Located], index: usize) -> (bool, bool) {
-    let (mut semicolon, mut bracket) = (false, false);
-    for located in &fitting(tokens, index) {
-        semicolon |= located.token == Token::Punctuator(Punctuator::Semicolon);
-        bracket |= located.token == Token::Punctuator(Punctuator::CloseRound);
+/// Reports whether a bracket is open before the token of an index, in the statement in which it stands.
+fn has_bracket(tokens: &[Located], index: usize) -> bool {
+    let mut closed: usize = 0;
+    for located in tokens.get(..index).unwrap_or(tokens).iter().rev() {
+        match located.token {
+            Token::Punctuator(Punctuator::CloseRound) => closed = closed.saturating_add(1),
+            Token::Punctuator(Punctuator::OpenRound) if closed == 0 => return true,
+            Token::Punctuator(Punctuator::OpenRound) => closed = closed.saturating_sub(1),
+            Token::Punctuator(
+                Punctuator::Semicolon | Punctuator::OpenCurly | Punctuator::CloseCurly,
+            ) => return false,
+            _ => {}
+        }
     }
-    (semicolon, bracket)
+    false
 }
 
-/// Suggests words right behind the token before the one of an index, if they fit there.
+/// Suggests words right behind the token before the one of an index, if that makes sense. Where they don't fit, the source
+/// gets no further with them.
 fn missing<'a>(
     tokens: &[Located],
     index: usize,
-    fits: bool,
+    makes_sense: bool,
     words: &'a str,
 ) -> Option<Suggestion<'a>> {
     let before = tokens.get(index.checked_sub(1)?)?;
-    fits.then_some(Suggestion {
-        start: before.end,
-        end: before.end,
+    makes_sense.then_some(Suggestion {
+        start: before.end(),
+        end: before.end(),
         words,
     })
 }
@@ -263,7 +271,7 @@ pub fn fix_of_warning(
 /// Returns what a warning suggests.
 fn suggested(subject: &Subject<'_>, index: usize, words: &str) -> Result<Option<Fix>, AllocError> {
     let tokens = subject.tokens;
-    if words.starts_with("the degree comes first") {
+    if words.contains("the degree comes first") {
         return swapping(subject, index);
     }
     let suggestion = if words.starts_with("`=` sets the variable") {
@@ -300,7 +308,7 @@ fn between(subject: &Subject<'_>, before: usize, behind: usize) -> (usize, usize
     let start = subject.tokens.get(before.saturating_add(1));
     let end = subject.tokens.get(behind.saturating_sub(1));
     match (start, end) {
-        (Some(start), Some(end)) => (start.start, end.end),
+        (Some(start), Some(end)) => (start.start(), end.end()),
         _ => (0, 0),
     }
 }

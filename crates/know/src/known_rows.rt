@@ -1,17 +1,15 @@
 //! What is known of the language, and of a robot before it fights, as rows.
 
+use crate::robots::Robot;
 use crate::rows::{Subject, add_position, add_range, begin_row, text_of};
 use crate::token_rows::kind_of;
-use cycles::Span;
+use cycles::{Counted, Runs, Span, all_runs, turns};
 use derivations::locate;
-use facts::{Facts, Part, add_room};
-use grammar::{Intrinsic, ParseFault};
-use parser::parse;
-use room::{Room, need};
+use facts::add_room;
+use grammar::{Intrinsic, Name};
+use room::{Room, all_needs};
 use std::alloc::{AllocError, Global};
-use tokens::{MemoryFeed, WINDOW_BYTES};
 use tools::{Draft, Fault, Object, Text};
-use trees::TreeMaker;
 
 /// The words of the language that have a use.
 const WORDS: &str = "if else while return int long auto register";
@@ -21,7 +19,10 @@ pub fn add_words(text: &mut Draft, alloc: Global) -> Result<(), AllocError> {
     for located in &locate(alloc, WORDS.as_bytes())? {
         if !located.token.is_last() {
             let mut row = begin_row(text, "word");
-            row.words("name", WORDS.get(located.start..located.end).unwrap_or("?"));
+            row.words(
+                "name",
+                WORDS.get(located.start()..located.end()).unwrap_or("?"),
+            );
             row.words("is", kind_of(&located.token));
             row.end();
             text.add("\n");
@@ -41,49 +42,72 @@ pub fn add_words(text: &mut Draft, alloc: Global) -> Result<(), AllocError> {
 /// turn of each loop takes, one for the room that a call needs, and a warning if the robot may restart for want of room.
 /// The only fault is that memory is refused.
 pub fn add_known(text: &mut Draft, subject: &Subject<'_>) -> Result<(), Fault> {
-    let facts = match Facts::of(subject.alloc, subject.source, subject.profile) {
-        Ok(facts) => facts,
-        Err(ParseFault::Source(_) | ParseFault::Device | ParseFault::Memory) => {
-            return Err(Fault::Memory);
-        }
+    let Ok(robot) = Robot::of(subject) else {
+        return Err(Fault::Memory);
     };
-    let mut room = Draft::new(subject.alloc);
-    add_room(&mut room, &facts);
-    let words = on_one_line(subject.alloc, room.finish()?.as_str())?;
-    add_room_row(text, &facts, words.as_str());
-    if !facts.bound.has_room {
-        add_want_of_room(text, subject, &facts, words.as_str());
-    }
-    for part in &facts.functions {
-        add_part(text, part, "call");
-    }
-    for part in &facts.loops {
-        add_part(text, part, "turn");
-    }
-    add_needs(text, subject, &facts)
+    add_room_rows(text, subject, &robot)?;
+    add_cycles(text, subject, &robot)?;
+    add_needs(text, subject, &robot);
+    Ok(())
 }
 
-/// Adds a row for each function on the room that a call of it needs. The only fault is that memory is refused.
-fn add_needs(text: &mut Draft, subject: &Subject<'_>, facts: &Facts) -> Result<(), Fault> {
-    let Subject {
-        alloc,
-        source,
-        profile,
-        ..
-    } = *subject;
-    let mut maker = TreeMaker::new(alloc, profile);
-    if parse(&mut MemoryFeed::new(source, WINDOW_BYTES), &mut maker).is_err() {
-        return Err(Fault::Memory);
+/// Adds a row on the room that a robot needs, and a warning if its profile doesn't give that.
+fn add_room_rows(text: &mut Draft, subject: &Subject<'_>, robot: &Robot) -> Result<(), AllocError> {
+    let mut room = Draft::new(subject.alloc);
+    add_room(&mut room, robot.facts());
+    let words = on_one_line(subject.alloc, room.finish()?.as_str())?;
+    let bound = &robot.facts().bound;
+    let mut row = begin_row(text, "room");
+    add_room_fields(&mut row, bound.need);
+    row.truth("has_room", bound.has_room);
+    row.words("message", words.as_str());
+    row.end();
+    text.add("\n");
+    if !bound.has_room {
+        add_want_of_room(text, subject, robot, words.as_str());
     }
-    for part in &facts.functions {
+    Ok(())
+}
+
+/// Adds a row for what a call of each function takes, and then one for what a turn of each loop takes.
+fn add_cycles(text: &mut Draft, subject: &Subject<'_>, robot: &Robot) -> Result<(), AllocError> {
+    let alloc = subject.alloc;
+    let cycles = Runs::of(robot.maker(), subject.profile, Counted::Cycles);
+    for (index, run) in all_runs(alloc, robot.maker(), &cycles, &cycles)?
+        .iter()
+        .enumerate()
+    {
+        let place = robot.places().function(index);
+        add_part(
+            text,
+            "call",
+            &robot.name(run.function),
+            place,
+            Some(run.cycles),
+        );
+    }
+    for (index, turn) in turns(alloc, robot.maker(), &cycles, &cycles)?
+        .iter()
+        .enumerate()
+    {
+        let place = robot.places().turn(index);
+        add_part(text, "turn", &robot.name(turn.function), place, turn.cycles);
+    }
+    Ok(())
+}
+
+/// Adds a row for each function on the room that a call of it needs.
+fn add_needs(text: &mut Draft, subject: &Subject<'_>, robot: &Robot) {
+    let needs = all_needs(robot.maker().functions(), subject.profile).needs;
+    for (index, function) in robot.maker().functions().iter().enumerate() {
+        let (line, column) = robot.places().function(index);
         let mut row = begin_row(text, "need");
-        row.words("name", text_of(&part.name));
-        add_position(&mut row, part.line, part.column);
-        add_room_fields(&mut row, need(&maker, part.number, profile));
+        row.words("name", text_of(&robot.name(function.number)));
+        add_position(&mut row, line, column);
+        add_room_fields(&mut row, needs[usize::from(function.number)]);
         row.end();
         text.add("\n");
     }
-    Ok(())
 }
 
 /// Adds words and frames, which are null if no room is enough.
@@ -105,15 +129,16 @@ fn on_one_line(alloc: Global, lines: &str) -> Result<String, AllocError> {
 }
 
 /// Adds the warning about a robot that may restart for want of room, at the name of its `main`.
-fn add_want_of_room(text: &mut Draft, subject: &Subject<'_>, facts: &Facts, words: &str) {
-    for part in &facts.functions {
-        if part.name.has_bytes(b"main") {
+fn add_want_of_room(text: &mut Draft, subject: &Subject<'_>, robot: &Robot, words: &str) {
+    for (index, function) in robot.maker().functions().iter().enumerate() {
+        if robot.name(function.number).has_bytes(b"main") {
+            let (line, column) = robot.places().function(index);
             let mut row = begin_row(text, "warning");
             row.words("code", "room");
-            add_position(&mut row, part.line, part.column);
+            add_position(&mut row, line, column);
             for located in subject.tokens {
-                if located.line == part.line && located.column == part.column {
-                    add_range(&mut row, located.start, located.end);
+                if located.line == line && located.column == column {
+                    add_range(&mut row, located.start(), located.end());
                 }
             }
             row.words("message", words);
@@ -123,23 +148,14 @@ fn add_want_of_room(text: &mut Draft, subject: &Subject<'_>, facts: &Facts, word
     }
 }
 
-/// Adds the row on the room that a robot needs.
-fn add_room_row(text: &mut Draft, facts: &Facts, words: &str) {
-    let mut row = begin_row(text, "room");
-    add_room_fields(&mut row, facts.bound.need);
-    row.truth("has_room", facts.bound.has_room);
-    row.words("message", words);
-    row.end();
-    text.add("\n");
-}
-
-/// Adds the row on what a call or a turn takes.
-fn add_part(text: &mut Draft, part: &Part, what: &str) {
+/// Adds the row on what a call or a turn takes, by its function and its place.
+fn add_part(text: &mut Draft, what: &str, name: &Name, place: (u32, u32), cycles: Option<Span>) {
+    let (line, column) = place;
     let mut row = begin_row(text, "cycles");
     row.words("of", what);
-    row.words("name", text_of(&part.name));
-    add_position(&mut row, part.line, part.column);
-    add_span(&mut row, part.cycles);
+    row.words("name", text_of(name));
+    add_position(&mut row, line, column);
+    add_span(&mut row, cycles);
     row.end();
     text.add("\n");
 }

@@ -18,6 +18,7 @@ mod notes_read;
 mod parts_left_out;
 mod places;
 mod repairs;
+mod robots;
 mod rows;
 mod token_rows;
 mod walkable;
@@ -31,11 +32,12 @@ use crate::parts_left_out::LeftOut;
 use crate::rows::{Subject, begin_row};
 use crate::token_rows::add_tokens;
 use crate::walkable::walkable;
-use derivations::{compile, locate};
+use derivations::{Located, compile, locate};
 use grammar::{Diagnostic, ParseFault, Profile};
 use recovery::located_past_faults;
+use std::alloc::{AllocError, Global};
 use std::process::ExitCode;
-use tokens::{MemoryFeed, WINDOW_BYTES};
+use tokens::{MemoryFeed, Token, WINDOW_BYTES};
 use tools::{
     Draft, Fault, Options, PROFILE_OPTIONS, ProgramFrame, Text, Work, Wrong, profile, write_text,
 };
@@ -122,8 +124,8 @@ fn tell_faulty(rt: &HostRuntime, subject: &Subject<'_>, fault: &Diagnostic) -> R
     add_first(&mut text, subject, fault, index);
     write(rt, &mut text)?;
     add_first_fault(&mut text, subject, fault, index)?;
-    add_warnings(&mut text, subject, Some(*fault))?;
-    let left_out = add_later_faults(&mut text, subject, fault, index)?;
+    add_warnings(&mut text, subject, Some(index))?;
+    let left_out = add_later_faults(&mut text, subject, index)?;
     write(rt, &mut text)?;
     tell_names(rt, subject, &left_out)?;
     add_complete(&mut text);
@@ -134,11 +136,26 @@ fn tell_faulty(rt: &HostRuntime, subject: &Subject<'_>, fault: &Diagnostic) -> R
 fn tell_names(rt: &HostRuntime, subject: &Subject<'_>, left_out: &LeftOut) -> Result<(), Fault> {
     let mut text = Draft::new(rt.alloc());
     add_words(&mut text, rt.alloc())?;
-    let tokens = located_past_faults(rt.alloc(), subject.source)?;
-    add_tokens(&mut text, subject.source, tokens.as_slice());
-    let walked = walkable(rt.alloc(), subject.source, tokens.as_slice(), left_out)?;
+    let all = tokens_past_faults(rt.alloc(), subject)?;
+    let tokens = match &all {
+        Some(all) => all.as_slice(),
+        None => subject.tokens,
+    };
+    add_tokens(&mut text, subject.source, tokens);
+    let walked = walkable(rt.alloc(), subject.source, tokens, left_out)?;
     add_names(&mut text, walked.as_slice(), subject.profile);
     write(rt, &mut text)
+}
+
+/// Returns the tokens of a source past its lexical errors; none if it has no such error, since then all are known.
+fn tokens_past_faults(
+    alloc: Global,
+    subject: &Subject<'_>,
+) -> Result<Option<Vec<Located>>, AllocError> {
+    match subject.tokens.last() {
+        Some(last) if last.token == Token::End => Ok(None),
+        _ => Ok(Some(located_past_faults(alloc, subject.source)?)),
+    }
 }
 
 /// Adds the last row: nothing is missing.

@@ -86,7 +86,7 @@ impl NameRows<'_, '_> {
                 row.number_or_null("function", None);
             }
         }
-        add_range(&mut row, located.start, located.end);
+        add_range(&mut row, located.start(), located.end());
         row.end();
         self.text.add("\n");
     }
@@ -109,9 +109,9 @@ impl NameRows<'_, '_> {
         let mut row = begin_row(self.text, "function");
         row.words("name", text_of(&bytes));
         row.number("function", self.function);
-        add_range(&mut row, name.start, name.end);
-        row.number("open", open.start as u64);
-        row.number("close", close.end as u64);
+        add_range(&mut row, name.start(), name.end());
+        row.number("open", open.start() as u64);
+        row.number("close", close.end() as u64);
         row.end();
         self.text.add("\n");
     }
@@ -126,8 +126,8 @@ impl NameRows<'_, '_> {
         };
         let mut row = begin_row(self.text, "loop");
         row.number("function", self.function);
-        add_range(&mut row, word.start, word.end);
-        row.number("close", last.end as u64);
+        add_range(&mut row, word.start(), word.end());
+        row.number("close", last.end() as u64);
         row.end();
         self.text.add("\n");
     }

@@ -42,7 +42,7 @@ impl LeftOut {
 
     /// Returns what becomes of a token of the source.
     pub fn fate(&self, source: &[u8], located: &Located) -> Fate {
-        let (before, now) = (source.get(located.start), self.bytes.get(located.start));
+        let (before, now) = (source.get(located.start()), self.bytes.get(located.start()));
         if before == now {
             return Fate::Stays;
         }

@@ -5,7 +5,7 @@ use derivations::Located;
 /// Returns the index of the first token that begins at an offset or behind it.
 pub fn token_from(tokens: &[Located], offset: usize) -> usize {
     for (index, located) in tokens.iter().enumerate() {
-        if located.start >= offset {
+        if located.start() >= offset {
             return index;
         }
     }

@@ -27,14 +27,14 @@ fn add_token(text: &mut Draft, source: &[u8], located: &Located) {
     kind.push('"');
     kind.add(kind_of(&located.token));
     kind.push('"');
-    item.item().number(located.start as u64);
+    item.item().number(located.start() as u64);
     item.item().number(end_of(source, located) as u64);
     item.end();
 }
 
 /// Returns how many bytes there are up to the last one of a token: of a lexical error, up to where the reading goes on.
 pub fn end_of(source: &[u8], located: &Located) -> usize {
-    past_fault(source, located).unwrap_or(located.end)
+    past_fault(source, located).unwrap_or(located.end())
 }
 
 /// Returns the word for a token's kind.

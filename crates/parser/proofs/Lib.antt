@@ -34,3 +34,5 @@ pub mod Blocks
 pub mod Choosing
 pub mod Wholes
 pub mod Built
+pub mod PathLaws
+pub mod ListPaths

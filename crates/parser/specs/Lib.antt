@@ -17,3 +17,4 @@ pub mod Forms
 pub mod Statements
 pub mod ParsedFiles
 pub mod Progress
+pub mod Paths

@@ -6,6 +6,7 @@ ghost use Rattle.parser.specs.Declarations.{header_items, names_items};
 ghost use Rattle.parser.specs.Defining.{StaysIn, StaysInBody};
 ghost use Rattle.parser.specs.Advancing.{Advances, IsReady, MayAdvance};
 ghost use Rattle.parser.specs.Matching.{Matches};
+ghost use Rattle.parser.specs.Paths.{Passes};
 ghost use Rattle.parser.specs.ScopedCursors.{scope_of};
 ghost use Rattle.parser.specs.Segment.{BeginsDefinition};
 
@@ -19,6 +20,7 @@ use tokens::{Feed, Punctuator, Token};
 pub fn external_declaration<F: Feed>(parser: &mut ScopedCursor<'_, '_, F>) -> Result<(), ParseFault>
     requires ready { IsReady parser.old }
     ensures matches { Matches result (names_items Declared.Externals) (λ _. []) parser.old parser.new }
+    ensures passes { OnOk result (Passes (names_items Declared.Externals) [] [] parser.old parser.new) }
     ensures stays { OnOk result (StaysInBody (scope_of parser.old) (scope_of parser.new)) }
     ensures kept { Advances result parser.old parser.new }
 {
@@ -31,6 +33,7 @@ pub fn external_declaration<F: Feed>(parser: &mut ScopedCursor<'_, '_, F>) -> Re
 pub fn function_header<F: Feed>(parser: &mut ScopedCursor<'_, '_, F>) -> Result<u8, ParseFault>
     requires ready { IsReady parser.old }
     ensures matches { Matches result header_items (λ _. []) parser.old parser.new }
+    ensures passes { OnOk result (Passes header_items [] [] parser.old parser.new) }
     ensures begun { IfOk result (λ number.
         BeginsDefinition number parser.old.position.lookahead parser.new.position.lookahead) }
     ensures kept { Advances result parser.old parser.new }
@@ -47,6 +50,7 @@ pub fn function_header<F: Feed>(parser: &mut ScopedCursor<'_, '_, F>) -> Result<
 fn parameter_list<F: Feed>(parser: &mut ScopedCursor<'_, '_, F>) -> Result<(), ParseFault>
     requires ready { IsReady parser.old }
     ensures matches { Matches result (Part Parameters ∷ []) (λ _. []) parser.old parser.new }
+    ensures passes { OnOk result (Passes (Part Parameters ∷ []) [] [] parser.old parser.new) }
     ensures stays { OnOk result (StaysIn (scope_of parser.old) (scope_of parser.new)) }
     ensures kept { MayAdvance result parser.old parser.new }
 {

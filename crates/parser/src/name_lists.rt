@@ -5,6 +5,7 @@ ghost use Rattle.grammar.specs.Grammar.{More, Part, Types};
 ghost use Rattle.parser.specs.Defining.{StaysAt};
 ghost use Rattle.parser.specs.Advancing.{Advances, IsReady, MayAdvance};
 ghost use Rattle.parser.specs.Matching.{Matches};
+ghost use Rattle.parser.specs.Paths.{Passes};
 ghost use Rattle.parser.specs.ScopedCursors.{scope_of};
 ghost use Rattle.parser.specs.Roles.{role_of};
 ghost use Rattle.parser.specs.Declarations.{IsInFunction, declaration_items, declarations_of, names_items};
@@ -24,6 +25,7 @@ pub fn declarations<F: Feed>(
     requires blocks { IsInFunction declared }
     requires ready { IsReady parser.old }
     ensures matches { Matches result (Part (declarations_of declared) ∷ []) (λ _. []) parser.old parser.new }
+    ensures passes { OnOk result (Passes (Part (declarations_of declared) ∷ []) [] [] parser.old parser.new) }
     ensures stays { OnOk result (StaysAt declared (scope_of parser.old) (scope_of parser.new)) }
     ensures kept { MayAdvance result parser.old parser.new }
 {
@@ -41,6 +43,7 @@ fn declaration<F: Feed>(
 ) -> Result<(), ParseFault>
     requires ready { IsReady parser.old }
     ensures matches { Matches result (declaration_items declared) (λ _. []) parser.old parser.new }
+    ensures passes { OnOk result (Passes (declaration_items declared) [] [] parser.old parser.new) }
     ensures stays { OnOk result (StaysAt declared (scope_of parser.old) (scope_of parser.new)) }
     ensures kept { Advances result parser.old parser.new }
 {
@@ -53,6 +56,7 @@ fn declaration<F: Feed>(
 pub fn type_words<F: Feed>(parser: &mut ScopedCursor<'_, '_, F>) -> Result<(), ParseFault>
     requires ready { IsReady parser.old }
     ensures matches { Matches result (Part Types ∷ []) (λ _. []) parser.old parser.new }
+    ensures passes { OnOk result (Passes (Part Types ∷ []) [] [] parser.old parser.new) }
     ensures scope { OnOk result (scope_of parser.new ≡ scope_of parser.old) }
     ensures kept { MayAdvance result parser.old parser.new }
 {
@@ -70,6 +74,7 @@ pub fn names_to_semicolon<F: Feed>(
 ) -> Result<(), ParseFault>
     requires ready { IsReady parser.old }
     ensures matches { Matches result (names_items declared) (λ _. []) parser.old parser.new }
+    ensures passes { OnOk result (Passes (names_items declared) [] [] parser.old parser.new) }
     ensures stays { OnOk result (StaysAt declared (scope_of parser.old) (scope_of parser.new)) }
     ensures kept { Advances result parser.old parser.new }
 {
@@ -87,6 +92,7 @@ pub fn more_names<F: Feed>(
 ) -> Result<(), ParseFault>
     requires ready { IsReady parser.old }
     ensures matches { Matches result (Part (More (role_of declared)) ∷ []) (λ _. []) parser.old parser.new }
+    ensures passes { OnOk result (Passes (Part (More (role_of declared)) ∷ []) [] [] parser.old parser.new) }
     ensures stays { OnOk result (StaysAt declared (scope_of parser.old) (scope_of parser.new)) }
     ensures kept { MayAdvance result parser.old parser.new }
 {

@@ -35,7 +35,7 @@ pub fn past_fault(source: &[u8], met: &Located) -> Option<usize> {
     let Token::Fault(error) = met.token else {
         return None;
     };
-    let first = met.start.saturating_add(1);
+    let first = met.start().saturating_add(1);
     for (passed, byte) in source.get(first..)?.iter().enumerate() {
         if !goes_on(error, *byte) {
             return Some(first.saturating_add(passed));
@@ -75,8 +75,9 @@ impl Base {
             placed.column = placed.column.saturating_add(self.columns);
         }
         placed.line = placed.line.saturating_add(self.lines);
-        placed.start = placed.start.saturating_add(self.offset);
-        placed.end = placed.end.saturating_add(self.offset);
+        let offset = u32::try_from(self.offset).unwrap_or(u32::MAX);
+        placed.start = placed.start.saturating_add(offset);
+        placed.end = placed.end.saturating_add(offset);
         placed
     }
 

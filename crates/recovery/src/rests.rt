@@ -45,9 +45,22 @@ impl Rest {
     pub fn leave_out(&mut self, fault: &Diagnostic) -> Result<Option<Lines>, AllocError> {
         let tokens = locate(self.alloc, self.bytes.as_slice())?;
         let at = fault_token(tokens.as_slice(), self.profile, fault);
-        let Some(met) = tokens.as_slice().get(at) else {
+        self.leave_out_at(tokens.as_slice(), at)
+    }
+
+    /// Leaves out the part with a fault, as `leave_out` does, by the tokens of what is left and the index of the fault's
+    /// token.
+    pub fn leave_out_at(
+        &mut self,
+        tokens: &[Located],
+        at: usize,
+    ) -> Result<Option<Lines>, AllocError> {
+        let (Some(met), Some(last)) = (tokens.get(at), tokens.last()) else {
             return Ok(None);
         };
+        if last.token == Token::End {
+            return Ok(self.blank_part(tokens, at));
+        }
         // of what follows a lexical error no tokens are known yet
         let clean = self.cleaned(met)?;
         let tokens = locate(self.alloc, clean.as_slice())?;
@@ -59,10 +72,10 @@ impl Rest {
     fn cleaned(&self, met: &Located) -> Result<Vec<u8>, AllocError> {
         let mut clean = Vec::from_slice(self.alloc, self.bytes.as_slice())?;
         let is_error = matches!(met.token, Token::Fault(_));
-        for (index, byte) in clean.iter_mut().enumerate().skip(met.start) {
-            if is_foreign(*byte) || is_error && index == met.start {
+        for (index, byte) in clean.iter_mut().enumerate().skip(met.start()) {
+            if is_foreign(*byte) || is_error && index == met.start() {
                 *byte = b';';
-            } else if is_error && index < met.end {
+            } else if is_error && index < met.end() {
                 *byte = b' ';
             }
         }
@@ -74,10 +87,10 @@ impl Rest {
         let part = part_at(tokens, at)?;
         let (first, behind) = (tokens.get(part.first)?, tokens.get(part.end)?);
         let last = tokens.get(part.end.saturating_sub(1))?;
-        self.blank(first.start, behind.start);
+        self.blank(first.start(), behind.start());
         match part.kind {
             PartKind::Body => {}
-            PartKind::Unclosed => self.close_at(last.start),
+            PartKind::Unclosed => self.close_at(last.start()),
             PartKind::Outside => self.lacks_heads = true,
         }
         Some((first.line, last.line))

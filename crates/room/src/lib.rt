@@ -9,6 +9,7 @@ mod room;
 mod tables;
 
 pub use bounding::{Bound, bounds, chain};
+pub use constructs::Calls;
 pub use laws::{known_needs, restarts_at_return, room_is_enough};
 pub use room::Room;
-pub use tables::need;
+pub use tables::{all_needs, need};

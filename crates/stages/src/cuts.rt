@@ -34,7 +34,7 @@ pub fn add_listing_to_limit(
         let Some(statement) = tokens.get(cut.token) else {
             continue;
         };
-        let shown = source.get(..statement.start).unwrap_or(source);
+        let shown = source.get(..statement.start()).unwrap_or(source);
         let ended = ended(alloc, shown, tokens, cut)?;
         let mut feed = MemoryFeed::new(ended.as_slice(), WINDOW_BYTES);
         if let Ok(made) = compile(profile, &mut feed) {

@@ -42,7 +42,7 @@ pub fn spelling<'a>(source: &'a [u8], located: &Located) -> &'a str {
     if located.token.is_last() {
         kind_of(&located.token)
     } else {
-        ascii(source.get(located.start..located.end).unwrap_or(&[]))
+        ascii(source.get(located.start()..located.end()).unwrap_or(&[]))
     }
 }
 

@@ -7,10 +7,9 @@ syntax case match
 syntax keyword crobotsConditional if else
 syntax keyword crobotsRepeat while
 syntax keyword crobotsReturn return
-syntax keyword crobotsType int long auto register
+syntax keyword crobotsType auto int long register
 syntax keyword crobotsIntrinsic scan cannon drive damage speed loc_x loc_y rand sqrt sin cos tan atan
-syntax keyword crobotsReserved for do break continue switch case default goto struct union typedef char float double
-syntax keyword crobotsReserved static extern short unsigned sizeof void
+syntax keyword crobotsReserved break case char continue default do double extern float for goto short sizeof static struct switch typedef union unsigned void
 syntax keyword crobotsMain main
 
 syntax match crobotsNumber /\<\d\+/

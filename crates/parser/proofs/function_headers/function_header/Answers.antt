@@ -55,3 +55,10 @@ returns-clause-kept g c =
     (kept_then _ _ _ (on _ _ c.in_ok-expect.ensures.kept)
     (kept_then _ _ _ c.in_ok-parameter_list.ensures.kept
     (kept_then _ _ _ (on _ _ c.in_ok-expect-2.ensures.kept) c.in_ok-declarations.ensures.kept)))
+
+pub returns-clause-passes : goal.returns-clause-passes
+returns-clause-passes g c = λ o below values acts path.
+    c.in_ok-declarations.ensures.passes o _ _ _
+    (c.in_ok-expect-2.ensures.passes o _ _ _
+    (c.in_ok-parameter_list.ensures.passes o _ _ _
+    (c.in_ok-expect.ensures.passes o _ _ _ (c.in_ok-number.ensures.passes o _ _ _ path))))

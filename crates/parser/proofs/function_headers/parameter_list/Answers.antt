@@ -8,6 +8,8 @@ use Rattle.parser.proofs.Advances.{kept_then, on, stays_ready}
 use Rattle.parser.proofs.Names.{stays_body}
 use Rattle.parser.proofs.HeaderLaws.{no_parameters, parameter_first, parameters_open}
 use Rattle.parser.proofs.ListLaws.{item_on, leaves}
+use Rattle.parser.proofs.ListPaths.{given}
+use Rattle.parser.proofs.HeaderLaws.{parameters_end, parameters_more}
 use Rattle.parser.proofs.function_headers.parameter_list.Goals as goal
 
 pub returns-in_err-expect_declaration-clause-matches : goal.returns-in_err-expect_declaration-clause-matches
@@ -47,6 +49,9 @@ returns-in_default g c =
     record {
       matches = no_parameters _ sound
           (λ bytes is. c.in_default.not-Name bytes (ap (λ (l : LocatedToken). l.token) c.peek.ensures.value ∙ is));
+      passes = λ o below values acts path. given Parameters []
+          (parameters_end _ (λ bytes is. c.in_default.not-Name bytes
+          (ap (λ (l : LocatedToken). l.token) c.peek.ensures.value ∙ is))) refl path;
       stays = (stays_body (scope_of c.args.parser.now)).function;
       kept = stays_ready c.args.parser.now c.requires.ready;
     }
@@ -54,3 +59,11 @@ returns-in_default g c =
 pub returns-in_ok-more_names-clause-kept : goal.returns-in_ok-more_names-clause-kept
 returns-in_ok-more_names-clause-kept g c =
     kept_then _ _ _ (on _ _ c.in_ok-expect_declaration.ensures.kept) c.in_ok-more_names.ensures.kept
+
+pub returns-in_ok-more_names-clause-passes : goal.returns-in_ok-more_names-clause-passes
+returns-in_ok-more_names-clause-passes g c =
+    let is : c.args.parser.now.position.lookahead.cursor.next.token ≡ token.Name c.in-Name.field-0 = cc in
+    λ o below values acts path. c.in_ok-more_names.ensures.passes o _ _ _
+    (c.in_ok-expect_declaration.ensures.passes o _ _ _
+    (given Parameters (AName Parameter ∷ Part (More Parameter) ∷ [])
+    (parameters_more c.in-Name.field-0 _ is) refl path))

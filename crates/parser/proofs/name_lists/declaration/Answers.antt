@@ -4,6 +4,7 @@ use Rattle.grammar.specs.Grammar.{Part, Types}
 use Rattle.parser.specs.Declarations.{declaration_items, names_items}
 use Rattle.parser.proofs.Advances.{handed_kept, kept_then, on}
 use Rattle.parser.proofs.ListLaws.{handed_on, leaves, type_first, types_then}
+use Rattle.parser.proofs.ListPaths.{on_ok}
 use Rattle.parser.proofs.name_lists.declaration.Goals as goal
 
 pub returns-in_err-type_words-clause-matches : goal.returns-in_err-type_words-clause-matches
@@ -24,3 +25,10 @@ returns-clause-kept g c =
     handed_kept c.names_to_semicolon.result _ _ _
     (kept_then _ _ _ (on _ _ c.in_ok-expect_type.ensures.kept) c.in_ok-type_words.ensures.kept)
     c.names_to_semicolon.ensures.kept
+
+pub returns-clause-passes : goal.returns-clause-passes
+returns-clause-passes g c =
+    on_ok c.names_to_semicolon.result (λ passes o below values acts path.
+    passes o below values acts
+    (c.in_ok-type_words.ensures.passes o _ _ _ (c.in_ok-expect_type.ensures.passes o _ _ _ path)))
+    c.names_to_semicolon.ensures.passes

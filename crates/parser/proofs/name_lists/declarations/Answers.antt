@@ -6,6 +6,7 @@ use Rattle.parser.proofs.Names.{stays_at_then}
 use Rattle.parser.specs.Declarations.{declaration_items, declarations_of}
 use Rattle.parser.proofs.Advances.{kept_then, on}
 use Rattle.parser.proofs.ListLaws.{declarations_end, declarations_more, goes_on, leaves, opens_on}
+use Rattle.parser.proofs.ListPaths.{emit_nothing, given}
 use Rattle.parser.proofs.name_lists.declarations.Goals as goal
 
 pub loop-declared-preserved : goal.loop-declared-preserved
@@ -22,6 +23,11 @@ loop-declared-preserved g c =
           (declarations_more c.args.declared _ c.requires.blocks is) (c.loop-declared.invariant.matches depth))
           (c.in_ok-declaration.ensures.matches depth);
       stays = stays_at_then c.args.declared _ _ _ c.loop-declared.invariant.stays c.in_ok-declaration.ensures.stays;
+      passed = λ o below values acts path. c.in_ok-declaration.ensures.passes o
+          (Part (declarations_of c.args.declared) ∷ below) values acts (given (declarations_of c.args.declared)
+          (declaration_items c.args.declared ++ Part (declarations_of c.args.declared) ∷ [])
+          (declarations_more c.args.declared _ c.requires.blocks is) (emit_nothing c.args.declared _ _)
+          (c.loop-declared.invariant.passed o below values acts path));
       kept = kept_then _ _ _ c.loop-declared.invariant.kept (on _ _ c.in_ok-declaration.ensures.kept);
     }
 
@@ -45,3 +51,10 @@ returns-clause-matches g c depth =
     let other : is_keyword keyword.Type c.loop-declared.parser.position.lookahead.cursor.next.token ≡ false = cc in
     opens_on depth _ (declarations_of c.args.declared) [] _ _ sound
     (declarations_end c.args.declared _ c.requires.blocks other) (c.loop-declared.invariant.matches depth)
+
+pub returns-clause-passes : goal.returns-clause-passes
+returns-clause-passes g c =
+    let other : is_keyword keyword.Type c.loop-declared.parser.position.lookahead.cursor.next.token ≡ false = cc in
+    λ o below values acts path.
+    given (declarations_of c.args.declared) [] (declarations_end c.args.declared _ c.requires.blocks other)
+    (emit_nothing c.args.declared _ _) (c.loop-declared.invariant.passed o below values acts path)

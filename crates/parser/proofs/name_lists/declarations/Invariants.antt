@@ -2,6 +2,7 @@ use Rattle.std.proofs.Common.{[], ◌∷◌, ℕ}
 use Rattle.grammar.specs.Grammar.{Part}
 use Rattle.parser.specs.Defining.{StaysAt}
 use Rattle.parser.specs.Advancing.{HasStayedOrAdvanced}
+use Rattle.parser.specs.Paths.{GoesOn}
 use Rattle.parser.specs.ScopedCursors.{scope_of, to_go}
 use Rattle.parser.specs.Segment.{Derives}
 use Rattle.parser.specs.Declarations.{declarations_of}
@@ -13,6 +14,8 @@ invariant-loop-declared g l = record {
       Derives depth (Part (declarations_of l.declared) ∷ []) (Part (declarations_of l.declared) ∷ []) [] []
       l.fn.parser.position l.parser.position;
   stays : StaysAt l.declared (scope_of l.fn.parser) (scope_of l.parser);
+  passed : GoesOn (Part (declarations_of l.declared) ∷ []) (Part (declarations_of l.declared) ∷ [])
+      l.fn.parser l.parser;
   kept : HasStayedOrAdvanced l.fn.parser l.parser;
 }
 

@@ -9,6 +9,7 @@ use Rattle.parser.proofs.Names.{stays_at_then}
 use Rattle.parser.specs.ScopedCursors.{scope_of}
 use Rattle.parser.proofs.Advances.{kept_then, on}
 use Rattle.parser.proofs.ListLaws.{goes_on, leaves, more_behind, names_end, opens_on, names_more}
+use Rattle.parser.proofs.ListPaths.{given}
 use Rattle.parser.proofs.name_lists.more_names.Goals as goal
 
 pub returns-in_err-expect-clause-matches : goal.returns-in_err-expect-clause-matches
@@ -41,6 +42,10 @@ loop-declared-preserved g c =
           (subst (λ (s : Scope). StaysAt c.args.declared s (scope_of c.expect_declaration.new.self))
           c.in_ok-expect.ensures.scope
           c.in_ok-expect_declaration.ensures.stays);
+      passed = λ o below values acts path. c.in_ok-expect_declaration.ensures.passes o _ _ _
+          (c.in_ok-expect.ensures.passes o _ _ _ (given (More (role_of c.args.declared))
+          (Exactly punctuator.Comma ∷ AName (role_of c.args.declared) ∷ Part (More (role_of c.args.declared)) ∷ [])
+          (names_more _ _ is) refl (c.loop-declared.invariant.passed o below values acts path)));
       kept = kept_then _ _ _ c.loop-declared.invariant.kept
           (kept_then _ _ _ (on _ _ c.in_ok-expect.ensures.kept) (on _ _ c.in_ok-expect_declaration.ensures.kept));
     }
@@ -67,3 +72,11 @@ returns-clause-matches g c depth =
     cc in
     opens_on depth _ (More (role_of c.args.declared)) [] _ _ sound (names_end _ _ other)
     (c.loop-declared.invariant.matches depth)
+
+pub returns-clause-passes : goal.returns-clause-passes
+returns-clause-passes g c =
+    let other : is_punctuator punctuator.Comma c.loop-declared.parser.position.lookahead.cursor.next.token ≡ false =
+    cc in
+    λ o below values acts path.
+    given (More (role_of c.args.declared)) [] (names_end _ _ other) refl
+    (c.loop-declared.invariant.passed o below values acts path)

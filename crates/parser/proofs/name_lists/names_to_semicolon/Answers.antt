@@ -33,3 +33,8 @@ pub returns-clause-kept : goal.returns-clause-kept
 returns-clause-kept g c =
     on_then _ _ _ c.in_ok-expect_declaration.ensures.kept
     (kept_then _ _ _ c.in_ok-more_names.ensures.kept (on _ _ c.in_ok-expect.ensures.kept))
+
+pub returns-clause-passes : goal.returns-clause-passes
+returns-clause-passes g c = λ o below values acts path.
+    c.in_ok-expect.ensures.passes o _ _ _
+    (c.in_ok-more_names.ensures.passes o _ _ _ (c.in_ok-expect_declaration.ensures.passes o _ _ _ path))

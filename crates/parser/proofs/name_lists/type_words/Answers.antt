@@ -4,6 +4,7 @@ use Rattle.tokens.specs.declared.located_tokens.Keyword.TheVariants as keyword
 use Rattle.grammar.specs.Grammar.{AKeyword, Part, Types, is_lexical_error, is_keyword}
 use Rattle.parser.proofs.Advances.{kept_then, on}
 use Rattle.parser.proofs.ListLaws.{goes_on, leaves, opens_on, types_end, types_more}
+use Rattle.parser.proofs.ListPaths.{given}
 use Rattle.parser.proofs.name_lists.type_words.Goals as goal
 
 pub loop-parser-preserved : goal.loop-parser-preserved
@@ -19,6 +20,9 @@ loop-parser-preserved g c =
           (c.loop-parser.invariant.matches depth))
           (c.in_ok-expect_type.ensures.matches depth);
       scope = c.in_ok-expect_type.ensures.scope ∙ c.loop-parser.invariant.scope;
+      passed = λ o below values acts path. c.in_ok-expect_type.ensures.passes o _ _ _
+          (given Types (AKeyword keyword.Type ∷ Part Types ∷ []) (types_more _ is) refl
+          (c.loop-parser.invariant.passed o below values acts path));
       kept = kept_then _ _ _ c.loop-parser.invariant.kept (on _ _ c.in_ok-expect_type.ensures.kept);
     }
 
@@ -41,3 +45,9 @@ returns-clause-matches g c depth =
     c.loop-parser.invariant.kept.ready.sound in
     let other : is_keyword keyword.Type c.loop-parser.parser.position.lookahead.cursor.next.token ≡ false = cc in
     opens_on depth (Part Types ∷ []) Types [] _ _ sound (types_end _ other) (c.loop-parser.invariant.matches depth)
+
+pub returns-clause-passes : goal.returns-clause-passes
+returns-clause-passes g c =
+    let other : is_keyword keyword.Type c.loop-parser.parser.position.lookahead.cursor.next.token ≡ false = cc in
+    λ o below values acts path.
+    given Types [] (types_end _ other) refl (c.loop-parser.invariant.passed o below values acts path)

@@ -1,6 +1,7 @@
 use Rattle.std.proofs.Common.{◌≡◌, [], ◌∷◌, ℕ}
 use Rattle.grammar.specs.Grammar.{Types, Part}
 use Rattle.parser.specs.Advancing.{HasStayedOrAdvanced}
+use Rattle.parser.specs.Paths.{GoesOn}
 use Rattle.parser.specs.ScopedCursors.{scope_of, to_go}
 use Rattle.parser.specs.Segment.{Derives}
 use Rattle.parser.proofs.name_lists.type_words.Given as goal
@@ -10,6 +11,7 @@ invariant-loop-parser g l = record {
   matches : (depth : ℕ) →
       Derives depth (Part Types ∷ []) (Part Types ∷ []) [] [] l.fn.parser.position l.parser.position;
   scope : scope_of l.parser ≡ scope_of l.fn.parser;
+  passed : GoesOn (Part Types ∷ []) (Part Types ∷ []) l.fn.parser l.parser;
   kept : HasStayedOrAdvanced l.fn.parser l.parser;
 }
 

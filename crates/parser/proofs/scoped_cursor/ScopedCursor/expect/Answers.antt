@@ -3,6 +3,7 @@ use Rattle.std.proofs.lemmas.Result.{err_from_is_err_and}
 use Rattle.grammar.specs.Grammar.{is_lexical_error, is_punctuator}
 use Rattle.parser.proofs.Items.{punctuator_misfits, punctuator_stops, punctuator_derives}
 use Rattle.parser.proofs.Segments.{refused_map}
+use Rattle.parser.proofs.PathLaws.{punctuator_past}
 use Rattle.parser.proofs.scoped_cursor.ScopedCursor.expect.Goals as goal
 
 pub returns-then-not-is_punctuator-clause-matches : goal.returns-then-not-is_punctuator-clause-matches
@@ -31,3 +32,9 @@ returns-clause-matches g c =
     punctuator_derives c.args.self.now.position.lookahead.cursor c.args.self.now.position.lookahead.scope _ _
     c.args.punctuator
     sound fits c.in_ok-advance.ensures.consumes
+
+pub returns-clause-passes : goal.returns-clause-passes
+returns-clause-passes g c =
+    let fits : is_punctuator c.args.punctuator c.args.self.now.position.lookahead.cursor.next.token ≡ true = cc in
+    λ o below values acts path.
+    punctuator_past c.args.punctuator fits c.in_ok-advance.ensures.consumes c.in_ok-advance.ensures.kept path

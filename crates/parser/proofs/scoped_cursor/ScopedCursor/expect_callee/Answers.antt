@@ -12,6 +12,7 @@ use Rattle.parser.specs.ScopedCursors.{ScopedCursor}
 use Rattle.parser.proofs.Items.{name_derives, name_misfits, name_refused, name_stops}
 use Rattle.parser.proofs.Names.{called_stays}
 use Rattle.parser.proofs.Segments.{refused_map}
+use Rattle.parser.proofs.PathLaws.{name_past}
 use Rattle.parser.proofs.scoped_cursor.ScopedCursor.expect_callee.Goals as goal
 
 pub returns-in_err-name-clause-matches : goal.returns-in_err-name-clause-matches
@@ -69,3 +70,13 @@ returns-clause-stays g c =
     rw (sym c.self.view_is, c.in_ok-advance.ensures.consumes.scope)
     (called_stays c.in_ok-name.name.now _ c.self.inside.scope.now c.resolve_call.new.self
     (rw c.in_ok-callee.ensures.ok at c.resolve_call.ensures.learned).1)
+
+pub returns-clause-passes : goal.returns-clause-passes
+returns-clause-passes g c =
+    let learned = rw c.in_ok-callee.ensures.ok at c.resolve_call.ensures.learned in
+    let line : c.peek-next.result.now.line ≡ c.self.inside.cursor.next.line =
+    ap (λ (l : LocatedToken). l.line) c.peek-next.ensures.value in
+    rw (sym c.self.view_is, learned.0) (λ o below values acts path.
+    name_past Called c.in_ok-name.name.now c.resolve_call.new.self c.in_ok-name.ensures.found
+    (subst (λ (n : ℕ). LearnsName Called c.in_ok-name.name.now n c.self.inside.scope.now c.resolve_call.new.self) line
+    learned.1) c.in_ok-advance.ensures.consumes c.in_ok-advance.ensures.kept path)

@@ -9,6 +9,7 @@ use Rattle.parser.specs.ScopedCursors.{ScopedCursor}
 use Rattle.parser.proofs.Items.{name_derives, name_misfits, name_refused, name_stops, no_tree}
 use Rattle.parser.proofs.Names.{declared_stays}
 use Rattle.parser.proofs.Segments.{refused_map}
+use Rattle.parser.proofs.PathLaws.{declared_past}
 use Rattle.parser.proofs.scoped_cursor.ScopedCursor.expect_declaration.Goals as goal
 
 pub returns-in_err-name-clause-matches : goal.returns-in_err-name-clause-matches
@@ -60,3 +61,10 @@ returns-clause-stays g c =
     rw (sym c.self.view_is, c.in_ok-advance.ensures.consumes.scope)
     (declared_stays c.args.declared c.in_ok-name.name.now 0 c.self.inside.scope.now c.declare_in.new.scope
     ((rw c.in_ok-or_refusal.ensures.ok at c.declare_in.ensures.learned) 0))
+
+pub returns-clause-passes : goal.returns-clause-passes
+returns-clause-passes g c =
+    rw (sym c.self.view_is) (λ o below values acts path.
+    declared_past c.args.declared c.in_ok-name.name.now c.declare_in.new.scope c.in_ok-name.ensures.found
+    ((rw c.in_ok-or_refusal.ensures.ok at c.declare_in.ensures.learned) _) c.in_ok-advance.ensures.consumes
+    c.in_ok-advance.ensures.kept path)

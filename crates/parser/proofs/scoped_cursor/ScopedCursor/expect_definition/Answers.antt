@@ -11,6 +11,7 @@ use Rattle.parser.specs.ScopedCursors.{ScopedCursor, scope_of}
 use Rattle.parser.proofs.Items.{name_derives, name_misfits, name_refused, name_stops}
 use Rattle.parser.proofs.Names.{begins}
 use Rattle.parser.proofs.Segments.{refused_map}
+use Rattle.parser.proofs.PathLaws.{name_past}
 use Rattle.parser.proofs.scoped_cursor.ScopedCursor.expect_definition.Goals as goal
 
 pub returns-in_err-name-clause-matches : goal.returns-in_err-name-clause-matches
@@ -75,3 +76,13 @@ returns-clause-begun g c =
     c.args.self.now.position.lookahead
     c.advance.new.self.position.lookahead c.begin_definition.new.self learned c.in_ok-advance.ensures.consumes.scope is
     (rw c.in_ok-number.ensures.ok at c.begin_definition.ensures.number).1
+
+pub returns-clause-passes : goal.returns-clause-passes
+returns-clause-passes g c =
+    let line : c.peek-next.result.now.line ≡ c.self.inside.cursor.next.line =
+    ap (λ (l : LocatedToken). l.line) c.peek-next.ensures.value in
+    rw (sym c.self.view_is) (λ o below values acts path.
+    name_past Defined c.in_ok-name.name.now c.begin_definition.new.self c.in_ok-name.ensures.found
+    (subst (λ (n : ℕ). LearnsName Defined c.in_ok-name.name.now n c.self.inside.scope.now c.begin_definition.new.self)
+    line (rw c.in_ok-number.ensures.ok at c.begin_definition.ensures.learned)) c.in_ok-advance.ensures.consumes
+    c.in_ok-advance.ensures.kept path)

@@ -4,6 +4,7 @@ use Rattle.tokens.specs.declared.located_tokens.Keyword.TheVariants as keyword
 use Rattle.grammar.specs.Grammar.{is_lexical_error, is_keyword}
 use Rattle.parser.proofs.Items.{word_misfits, word_stops, word_derives}
 use Rattle.parser.proofs.Segments.{refused_map}
+use Rattle.parser.proofs.PathLaws.{word_past}
 use Rattle.parser.proofs.scoped_cursor.ScopedCursor.expect_type.Goals as goal
 
 pub returns-then-not-is_keyword-clause-matches : goal.returns-then-not-is_keyword-clause-matches
@@ -33,3 +34,9 @@ returns-clause-matches g c =
     sound
     fits
     c.in_ok-advance.ensures.consumes
+
+pub returns-clause-passes : goal.returns-clause-passes
+returns-clause-passes g c =
+    let fits : is_keyword keyword.Type c.args.self.now.position.lookahead.cursor.next.token ≡ true = cc in
+    λ o below values acts path.
+    word_past keyword.Type fits c.in_ok-advance.ensures.consumes c.in_ok-advance.ensures.kept path

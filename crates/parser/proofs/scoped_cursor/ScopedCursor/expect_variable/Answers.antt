@@ -10,6 +10,7 @@ use Rattle.parser.specs.ScopedCursors.{ScopedCursor}
 use Rattle.parser.proofs.Items.{name_derives, name_misfits, name_refused, name_stops}
 use Rattle.parser.proofs.Names.{mentioned_stays}
 use Rattle.parser.proofs.Segments.{refused_map}
+use Rattle.parser.proofs.PathLaws.{name_past}
 use Rattle.parser.proofs.scoped_cursor.ScopedCursor.expect_variable.Goals as goal
 
 pub returns-in_err-name-clause-matches : goal.returns-in_err-name-clause-matches
@@ -59,3 +60,10 @@ returns-clause-stays g c =
     rw (sym c.self.view_is, c.in_ok-advance.ensures.consumes.scope)
     (mentioned_stays c.in_ok-name.name.now 0 c.self.inside.scope.now c.resolve_variable.new.self
     ((rw c.in_ok-var.ensures.ok at c.resolve_variable.ensures.learned).1 0))
+
+pub returns-clause-passes : goal.returns-clause-passes
+returns-clause-passes g c =
+    let learned = rw c.in_ok-var.ensures.ok at c.resolve_variable.ensures.learned in
+    rw (sym c.self.view_is, learned.0) (λ o below values acts path.
+    name_past Mentioned c.in_ok-name.name.now c.resolve_variable.new.self c.in_ok-name.ensures.found (learned.1 _)
+    c.in_ok-advance.ensures.consumes c.in_ok-advance.ensures.kept path)
