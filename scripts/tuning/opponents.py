@@ -16,6 +16,7 @@ from tournaments.robots import Robot
 
 from .marks import bare
 
+NOBODY = "there is no robot to play against; give files, folders with robots, --level N or --league LEAGUE"
 # How many of a league if no number is given.
 BEST = 10
 
@@ -84,6 +85,11 @@ def without(found: Sequence[Opponent], itself: Itself, folder: str) -> tuple[lis
     """The opponents but the robot itself, and the files that are left out, by name."""
     them = [(one, itself.is_met(one, folder)) for one in found]
     return [one for one, is_itself in them if not is_itself], sorted(one.robot.path for one, is_itself in them if is_itself)
+
+
+def copies(found: Sequence[Opponent], itself: Itself, folder: str) -> list[str]:
+    """The files of opponents that are copies of the robot."""
+    return sorted(one.robot.path for one in found if itself.has_copy(one, folder))
 
 
 def robots_of(path: str) -> list[str]:
