@@ -14,6 +14,9 @@ const MOST = 2 ** 31 - 1;
 const VALUES = 20;
 const NAME = /^[A-Za-z_][A-Za-z0-9_]{0,30}$/;
 const BOUNDS = /^([0-9]{1,10})\.\.([0-9]{1,10})$/;
+// what a mark begins with, and how a comment begins that may be meant as one: a word, and numbers that are perhaps a range
+const WORD = "tune";
+const PAIR = /^([A-Za-z]+)[ :=]{0,2}-?[0-9]+ ?(?:[-.,:;\ufffd]{1,3}|to) ?-?[0-9]+/;
 const BLANKS = /^[\t-\r ]*$/;
 
 const encoder = new TextEncoder();
@@ -73,8 +76,24 @@ export function constantsOf(source, listing, places) {
     return rows.map(([, , , line, column]) => ({line: Number(line), column: Number(column)})).filter(place => Number.isFinite(bytes.endOf(place)));
 }
 
-/** Whether a comment is meant as a mark: it begins with 'tune' and a number. */
-const isMark = text => /^tune \d/.test(text);
+/** Whether a comment is meant as a mark: it begins with 'tune' and a number, before which there may be a sign or dots. */
+const isMark = text => /^tune [-+.]*\d/.test(text);
+
+const inOrder = word => [...word].sort().join("");
+
+/** Whether a word is 'tune', or that with one letter more, less or another, or with its letters in another order. */
+function isNear(word) {
+    const same = [...WORD].findIndex((letter, at) => word[at] !== letter);
+    const at = same < 0 ? WORD.length : same;
+    const [here, there] = [word.slice(at), WORD.slice(at)];
+    return here === there || [here, here.slice(1)].includes(there.slice(1)) || here.slice(1) === there || inOrder(here) === inOrder(there);
+}
+
+/** Whether a comment that is no mark is hardly meant as anything else: two numbers as a range, behind a word that is nearly 'tune'. */
+function isNearlyMark(text) {
+    const found = PAIR.exec(text);
+    return found !== null && !isMark(text) && isNear(found[1].toLowerCase());
+}
 
 /**
  * The range of bounds as 100..900 and a step.
@@ -82,6 +101,9 @@ const isMark = text => /^tune \d/.test(text);
  */
 function ranged(bounds, step, where, name) {
     const found = BOUNDS.exec(bounds);
+    if (!found && (bounds.startsWith("-") || bounds.split("..")[1]?.startsWith("-"))) {
+        throw new Error(`${where}: ${bounds} goes below 0, and a number is 0 or more: a minus before it is an operator`);
+    }
     if (!found) {
         throw new Error(`${where}: '${bounds}' is no range as 100..900`);
     }
@@ -127,6 +149,14 @@ function tunable(bytes, place, end, range) {
     return {...place, ...range, name, begin: bytes.letters(begin), end: bytes.letters(end), value};
 }
 
+/** Nothing, unless something is so that mustn't be. */
+function refusedIf(isSo, why) {
+    if (isSo) {
+        throw new Error(why);
+    }
+    return [];
+}
+
 /**
  * Returns the numbers of a source that have a mark, in their order: each with its place, where its letters are, its value, and the
  * values that it may have. Throws what is wrong with a mark. `constants` are the places of all constants.
@@ -136,17 +166,21 @@ function tunable(bytes, place, end, range) {
 export function tunablesOf(source, constants) {
     const bytes = new Bytes(source);
     const known = constants.map(place => ({place, end: bytes.endOf(place)}));
-    const found = bytes.comments().filter(({text}) => isMark(text)).map(({at, text}) => {
+    const found = bytes.comments().filter(({text}) => isMark(text) || isNearlyMark(text)).flatMap(({at, text}) => {
         const where = bytes.placed(at);
         const before = known.find(({end}) => end <= at && BLANKS.test(bytes.text.slice(end, at)));
+        if (isNearlyMark(text)) {
+            return refusedIf(before, `${where}: '${text}' is nearly a mark, which is a comment as /* tune 100..900 */`);
+        }
         if (!before) {
             throw new Error(`${where}: the mark '${text}' has no number before it`);
         }
-        return {...before, range: rangeOf(text, where)};
+        return [{...before, range: rangeOf(text, where)}];
     }).map(({place, end, range}) => tunable(bytes, place, end, range));
     const twice = found.find(({name}, at) => found.findIndex(it => it.name === name) < at);
     if (twice) {
-        throw new Error(`two numbers have the name ${twice.name}`);
+        const first = found.find(({name}) => name === twice.name);
+        throw new Error(`${twice.line}:${twice.column}: the number at ${first.line}:${first.column} has the name ${twice.name}, too`);
     }
     return found;
 }
@@ -164,12 +198,12 @@ function coarse(width, many) {
 const stepOf = ({low, high, step}) => step ?? coarse(high - low, VALUES);
 
 /** How many values a sweep has, but for today's if that isn't one of its steps. */
-export const countOf = range => Math.floor((range.high - range.low) / stepOf(range)) + 1;
+export const countOf = range => Math.ceil((range.high - range.low) / stepOf(range)) + 1;
 
-/** The values of a sweep in their order, today's among them. */
+/** The values of a sweep in their order: both ends, what is between them in steps, and today's. */
 export function valuesOf(range) {
-    const {low, value} = range;
-    const values = Array.from({length: countOf(range)}, (_, at) => low + at * stepOf(range));
+    const {low, high, value} = range;
+    const values = Array.from({length: countOf(range)}, (_, at) => Math.min(low + at * stepOf(range), high));
     return [...new Set([...values, value])].sort((one, other) => one - other);
 }
 

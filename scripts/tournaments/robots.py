@@ -110,7 +110,7 @@ def compiled(crobots: Program, profile: int, robots: list[Robot], folder: str) -
 
 
 def diagnosed(crobots: str, profile: int, robot: Robot, folder: str) -> int:
-    """Compiles a robot's copy, and passes the program's diagnostic on under the robot's name; answers the program's status."""
+    """Compiles a robot's copy, and passes the program's diagnostic on under the path that was given; answers the program's status."""
     words = [crobots, "-c", f"-p{profile}", "--", os.path.join(folder, robot.sha256)]
     try:
         status, said = complaint(words)
@@ -118,5 +118,5 @@ def diagnosed(crobots: str, profile: int, robot: Robot, folder: str) -> int:
         raise Fault(f"{crobots} can't be run: {why.strerror}", PROGRAM) from why
     if status and not said:
         raise Fault(f"{crobots} -c -p{profile} -- {robot.path} ended with status {status} and said nothing", PROGRAM)
-    tell(said.replace(robot.sha256, plain(os.path.basename(robot.path))))
+    tell(said.replace(robot.sha256, plain(robot.path)))
     return status

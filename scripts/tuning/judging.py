@@ -44,7 +44,7 @@ def matches_of_budget(budget: int, others: int) -> int:
 
 def judge(games: Games, values: Values, each: int) -> Judged:
     """Plays the values and today's in matches that the search hasn't seen: those of `crobots-challenge`."""
-    games.scores.of.clear()
+    games.scores.clear()
     games.play([values, games.today], Starts(games.given.seed, CHALLENGER), Stretch(1, each))
     wide = levels(2, len(games.weights()))
     return Judged(*(row(games, one, wide) for one in (games.today, values)))

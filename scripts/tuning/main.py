@@ -10,8 +10,8 @@ import sys
 from functools import partial
 from typing import Iterable, Sequence
 
-from tools.faults import Fault, unwritable
-from tools.output import replaced, say, show
+from tools.faults import Fault
+from tools.output import say, show
 from tools.signals import Stopped, stopping
 from tournaments import plans, programs, robots
 from tournaments.journals import Journal, journal
@@ -20,11 +20,11 @@ from tournaments.sessions import tell_rounded
 from tournaments.settings import Settings
 from tournaments.versions import CHALLENGER
 
-from . import judging, pictures, sweeps, tables, words
+from . import judging, outputs, pictures, sweeps, tables, words
 from .far import Far
 from .games import Games, Starts, Stretch, matches_of, readable
 from .marks import Number, but_numbers, changed, constants, numbers, tokens
-from .opponents import Itself, Opponent, opponents, without
+from .opponents import NOBODY, Itself, Opponent, copies, opponents, without
 from .scoring import Scores
 from .searching import Search
 
@@ -74,9 +74,11 @@ def met(given: argparse.Namespace, found: Sequence[Opponent], itself: Itself, fo
     """The opponents but the robot itself; says so. There has to be one."""
     others, left_out = without(found, itself, folder)
     if left_out:
-        say(given.script, f"left out: {', '.join(left_out)} ({given.robot} itself, or a copy with other numbers)")
+        say(given.script, f"left out: {', '.join(left_out)} ({given.robot} itself, or a copy with other numbers or comments)")
+    if named := copies(others, itself, folder):
+        say(given.script, f"played, as the words name it: {', '.join(named)} (a copy of {given.robot} with other numbers or comments)")
     if not others:
-        raise Fault("there is no robot to play against")
+        raise Fault(NOBODY)
     return others
 
 
@@ -94,10 +96,15 @@ def sweep(games: Games) -> None:
     given = games.given
     rows = sweeps.sweep(games, Starts(given.seed, CHALLENGER), rounded(given.matches, 2) // 2, given.until == "sure")
     games.progress.clear()
-    if given.output:
-        write(given.output, pictures.picture(games, rows).encode("utf-8"))
-    words = [*sweeps.said(rows, games), tables.legend(games, rows, "sweeps")] if given.form == "table" else []
-    show([tables.of_sweep(games, rows, given.form), *words])
+    words = [*sweeps.said(rows, games), *limited(games), tables.legend(games, rows, "sweeps")] if given.form == "table" else []
+    picture = pictures.picture(games, rows).encode("utf-8") if given.output else None
+    outputs.answer([tables.of_sweep(games, rows, given.form), *words], given.output, picture)
+
+
+def limited(games: Games) -> list[str]:
+    """A warning, if most matches were ended by the limit: then they say little."""
+    ties, matches, cycles = games.scores.ties, games.scores.matches, games.given.cycles
+    return [f"{ties} of {matches} matches were tied at the limit of {cycles} cycles: with a greater -l they may say more\n"] if 2 * ties > matches else []
 
 
 def plan(games: Games, program: programs.Program) -> None:
@@ -130,10 +137,9 @@ def tune(games: Games) -> None:
     games.progress.begin("judgement", judged, is_most=True)
     it = judging.judge(games, values, each)
     games.progress.clear()
-    if given.output and it.is_better:
-        write(given.output, changed(games.source, games.numbers, it.tuned.values))
-    shown = [tables.of_tuning(games, it, given.form), *(judging.said(games, it) if given.form == "table" else ())]
-    show([*shown, *(written(given.output, it.is_better) if given.form == "table" else ())])
+    tuned = changed(games.source, games.numbers, it.tuned.values) if it.is_better else None
+    outputs.answer([tables.of_tuning(games, it, given.form), *([*judging.said(games, it), *limited(games)] if given.form == "table" else ())], given.output, tuned)
+    show(written(given.output, it.is_better) if given.form == "table" else ())
 
 
 def written(output: str | None, is_better: bool) -> list[str]:
@@ -141,18 +147,6 @@ def written(output: str | None, is_better: bool) -> list[str]:
     if output:
         return [f"{output} is written\n" if is_better else f"{output} isn't written\n"]
     return ["with -o FILE the robot is written with these numbers\n"] if is_better else []
-
-
-def write(path: str, text: bytes) -> None:
-    """Writes a file in one piece, with the mode of the one that was there; a device as it is. A link stays."""
-    try:
-        if not os.path.exists(path) or os.path.isfile(path):
-            replaced(os.path.realpath(path), text, os.stat(path).st_mode & 0o777 if os.path.exists(path) else 0o644)
-            return
-        with open(path, "wb") as device:
-            device.write(text)
-    except OSError as why:
-        unwritable(path, why)
 
 
 def goes_on(given: argparse.Namespace, words: Sequence[str]) -> str:

@@ -1,7 +1,8 @@
 """The numbers of a robot that may be changed: constants with a mark in the comment behind them, or named by line and column.
 
 The proved lexer says where constants stand. Between a token and the next one are blanks and comments alone, so that is where
-a mark is looked for: `/* tune 100..900 */`, which may go on with `step 50` and with `name near`."""
+a mark is looked for: `/* tune 100..900 */`, which may go on with `step 50` and with `name near`. A comment behind a number that is
+nearly a mark is refused, since it was hardly meant as anything else."""
 
 from __future__ import annotations
 
@@ -21,6 +22,12 @@ VALUES = 20
 TOLD = 8
 NAME = re.compile(r"[A-Za-z_][A-Za-z0-9_]{0,30}")
 BOUNDS = re.compile(r"([0-9]{1,10})\.\.([0-9]{1,10})")
+# What a mark begins with, and how a comment begins that may be meant as one: a word, and numbers that are perhaps a range.
+WORD, EXAMPLE = "tune", "/* tune 100..900 */"
+PAIR = re.compile(r"([A-Za-z]+)[ :=]{0,2}-?[0-9]+ ?(?:[-.,:;\ufffd]{1,3}|to) ?-?[0-9]+")
+# The byte that ends a source, in a comment too; and a comment.
+END = b"\x1a"
+COMMENT = re.compile(rb"/\*.*?\*/", re.DOTALL)
 
 
 class Place(NamedTuple):
@@ -44,7 +51,7 @@ class Token(NamedTuple):
 
 @dataclass(frozen=True)
 class Range:
-    """The values that a number may have: from `low` on, in steps, up to `high`. Without a step of its own each is meant."""
+    """The values that a number may have: from `low` on, in steps, and `high`. Without a step of its own each is meant."""
 
     low: int
     high: int
@@ -52,15 +59,16 @@ class Range:
     name: str = ""
 
     def values(self, today: int, many: int = VALUES) -> list[int]:
-        """The values of a sweep in their order, today's among them."""
+        """The values of a sweep in their order: both ends, what is between them in steps, and today's."""
         step = self.step or coarse(self.high - self.low, many)
-        return sorted({*range(self.low, self.high + 1, step), today})
+        return sorted({*range(self.low, self.high, step), self.high, today})
 
     def nearest(self, value: float) -> int:
-        """The value that is nearest to a number."""
+        """The value that is nearest to a number. The upper end is one, whether or not a step meets it."""
         step = self.step or 1
         most = (self.high - self.low) // step
-        return self.low + min(max(round((value - self.low) / step), 0), most) * step
+        below = self.low + min(max(round((value - self.low) / step), 0), most) * step
+        return min(below, self.high, key=lambda it: abs(it - value))
 
 
 @dataclass(frozen=True)
@@ -121,11 +129,17 @@ def numbers(source: bytes, found: Sequence[Token], shown: str, given: Sequence[t
             raise Fault(f"{plain(shown)}:{place}: no number stands there; on that line {constants(source, found, place.line)}")
         ranges[token] = several
     them = [number(source, token, ranges[token], shown) for token in sorted(ranges, key=lambda it: it.begin)]
-    names = [it.name for it in them]
-    twice = next((name for name in names if names.count(name) > 1), None)
-    if twice:
-        raise Fault(f"{plain(shown)}: two numbers have the name {twice}")
+    check_names(them, shown)
     return them
+
+
+def check_names(them: Sequence[Number], shown: str) -> None:
+    """Refuses a name that two numbers have."""
+    first: dict[str, Place] = {}
+    for it in them:
+        if it.name in first:
+            raise Fault(f"{plain(shown)}:{it.place}: the number at {first[it.name]} has the name {it.name}, too")
+        first[it.name] = it.place
 
 
 def constants(source: bytes, found: Sequence[Token], line: int | None = None) -> str:
@@ -139,12 +153,15 @@ def marked(source: bytes, found: Sequence[Token], shown: str) -> Iterator[tuple[
     """Each constant with a mark behind it, the mark's text, and where that stands."""
     begins = [*found, None]
     for token, after in zip([None, *found], begins):
-        several = [*comments(source, token.end if token else 0, after.begin if after else len(source))]
-        for at, text in [(at, text) for at, text in several if is_mark(text)]:
+        for number, (at, text) in enumerate(comments(source, token.end if token else 0, after.begin if after else len(source))):
             where = f"{plain(shown)}:{place_of(source, at)}"
-            if token is None or token.kind != "constant" or at != several[0][0]:
+            is_behind = token is not None and token.kind == "constant" and number == 0
+            if is_behind and is_nearly_mark(text):
+                raise Fault(f"{where}: '{text}' is nearly a mark, which is a comment as {EXAMPLE}")
+            if is_mark(text) and (token is None or not is_behind):
                 raise Fault(f"{where}: the mark '{text}' has no number before it")
-            yield token, text, where
+            if is_mark(text) and token:
+                yield token, text, where
 
 
 def comments(source: bytes, begin: int, end: int) -> Iterator[tuple[int, str]]:
@@ -156,9 +173,22 @@ def comments(source: bytes, begin: int, end: int) -> Iterator[tuple[int, str]]:
 
 
 def is_mark(text: str) -> bool:
-    """Whether a comment is meant as a mark: it begins with 'tune' and a number."""
+    """Whether a comment is meant as a mark: it begins with 'tune' and a number, before which there may be a sign or dots."""
     first, *rest = text.split(" ")
-    return first == "tune" and bool(rest) and rest[0][:1].isdigit()
+    return first == WORD and bool(rest) and rest[0].lstrip("+-.")[:1].isdigit()
+
+
+def is_nearly_mark(text: str) -> bool:
+    """Whether a comment that is no mark is hardly meant as anything else: two numbers as a range, behind a word that is nearly 'tune'."""
+    found = PAIR.match(text)
+    return found is not None and not is_mark(text) and is_near(found[1].lower())
+
+
+def is_near(word: str) -> bool:
+    """Whether a word is 'tune', or that with one letter more, less or another, or with its letters in another order."""
+    same = next((at for at, (one, other) in enumerate(zip(word, WORD)) if one != other), min(len(word), len(WORD)))
+    here, there = word[same:], WORD[same:]
+    return here == there or there[1:] in (here, here[1:]) or here[1:] == there or sorted(here) == sorted(there)
 
 
 def place_of(source: bytes, at: int) -> Place:
@@ -180,6 +210,8 @@ def ranged(bounds: str, step: str | None, where: str, name: str | None = None) -
     if name is not None and not NAME.fullmatch(name):
         raise Fault(f"{where}: '{name}' is no name")
     found = BOUNDS.fullmatch(bounds)
+    if not found and "-" in (bounds[:1], bounds.partition("..")[2][:1]):
+        raise Fault(f"{where}: {bounds} goes below 0, and a number is 0 or more: a minus before it is an operator")
     if not found:
         raise Fault(f"{where}: '{bounds}' is no range as 100..900")
     low, high = map(int, found.groups())
@@ -200,10 +232,15 @@ def number(source: bytes, token: Token, several: Range, shown: str) -> Number:
     return Number(token.place, token.begin, token.end, value, several)
 
 
+def bare(source: bytes) -> bytes:
+    """A source without its comments and blanks."""
+    return b"".join(COMMENT.sub(b" ", source.partition(END)[0]).split())
+
+
 def but_numbers(source: bytes, them: Sequence[Number]) -> re.Pattern[bytes]:
-    """What a source has but for the digits of these numbers, which may be others."""
+    """What a bare source has but for the digits of these numbers, which may be others."""
     ends = [0, *(end for it in them for end in (it.begin, it.end)), len(source)]
-    return re.compile(b"[0-9]+".join(re.escape(source[begin:end]) for begin, end in zip(ends[::2], ends[1::2])))
+    return re.compile(b"[0-9]+".join(re.escape(bare(source[begin:end])) for begin, end in zip(ends[::2], ends[1::2])))
 
 
 def changed(source: bytes, them: Sequence[Number], values: Sequence[int]) -> bytes:

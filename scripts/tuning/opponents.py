@@ -14,33 +14,38 @@ from tools.samples import of_level
 from tournaments import robots
 from tournaments.robots import Robot
 
+from .marks import bare
+
+NOBODY = "there is no robot to play against; give files, folders with robots, --level N or --league LEAGUE"
 # How many of a league if no number is given.
 BEST = 10
 
 
 @dataclass(frozen=True)
 class Opponent:
-    """A robot, and what its matches weigh among those of the others."""
+    """A robot, what its matches weigh among those of the others, and whether its file was named, or found in a folder, a level or a league."""
 
     robot: Robot
     weight: Fraction = Fraction(1)
-    is_of_folder: bool = False
+    is_named: bool = True
 
 
 @dataclass(frozen=True)
 class Itself:
-    """The robot that is tuned: the hash of its bytes, and what these are but for its numbers."""
+    """The robot that is tuned: the hash of its bytes, and what these are but for its numbers, comments and blanks."""
 
     sha256: str
     but_numbers: re.Pattern[bytes]
 
     def is_met(self, other: Opponent, folder: str) -> bool:
-        """Whether an opponent, of which the folder has a copy, is the robot: it has the same bytes. One that was found in a folder of robots
-        may have other numbers: it is an earlier copy, or what a search wrote."""
-        if other.robot.sha256 == self.sha256:
-            return True
+        """Whether an opponent is the robot, and isn't played: it has the same bytes, or it is a copy whose file wasn't named."""
+        return other.robot.sha256 == self.sha256 or not other.is_named and self.has_copy(other, folder)
+
+    def has_copy(self, other: Opponent, folder: str) -> bool:
+        """Whether an opponent, whose bytes the folder has, is the robot with other numbers or comments: the one without marks, an earlier
+        copy, or what a search wrote."""
         with open(os.path.join(folder, other.robot.sha256), "rb") as file:
-            return other.is_of_folder and bool(self.but_numbers.fullmatch(file.read()))
+            return bool(self.but_numbers.fullmatch(bare(file.read())))
 
 
 @dataclass(frozen=True)
@@ -64,14 +69,13 @@ def opponents(paths: Sequence[str], league: League | None, weights: Sequence[tup
     """The robots of these words, copied into a folder, in an order that doesn't depend on that of the words."""
     samples = {path: it.weight for it in levels for path in of_level(it.number)}
     files = [*(file for path in paths for file in robots_of(path)), *samples]
-    of_folders = {*files} - {*paths, *samples}
     found = robots.copied(files, folder) + (of_league(league, folder) if league else [])
     unused = {path for path, _ in weights}
     them = []
     for robot in robots.in_order(found):
         weight, by = weight_of(robot.path, weights) or (samples.get(robot.path, Fraction(1)), "")
         unused -= {by}
-        them.append(Opponent(robot, weight, robot.path in of_folders))
+        them.append(Opponent(robot, weight, robot.path in paths))
     if unused:
         raise Fault(f"--weight names {min(unused)}, which isn't played against")
     return [it for it in them if it.weight]
@@ -81,6 +85,11 @@ def without(found: Sequence[Opponent], itself: Itself, folder: str) -> tuple[lis
     """The opponents but the robot itself, and the files that are left out, by name."""
     them = [(one, itself.is_met(one, folder)) for one in found]
     return [one for one, is_itself in them if not is_itself], sorted(one.robot.path for one, is_itself in them if is_itself)
+
+
+def copies(found: Sequence[Opponent], itself: Itself, folder: str) -> list[str]:
+    """The files of opponents that are copies of the robot."""
+    return sorted(one.robot.path for one in found if itself.has_copy(one, folder))
 
 
 def robots_of(path: str) -> list[str]:

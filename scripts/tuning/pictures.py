@@ -12,7 +12,7 @@ from . import figures
 from .breakdowns import listed
 from .games import Games
 from .sweeps import Row, shown
-from .verdicts import BETTER, WORSE
+from .verdicts import BETTER, CHANGES, WORSE
 
 WIDTH, HEIGHT = 720, 420
 LEFT, RIGHT, TOP, BOTTOM = 98, 20, 88, 52
@@ -106,7 +106,7 @@ def axes(games: Games, up: Scale, along: Scale) -> list[Markup]:
 
 def legend(games: Games, rows: Sequence[Row]) -> list[Markup]:
     """What the line, the band and the dots of a curve are: each that is there has a sign of its own, above it."""
-    where = "where all changes are at once, in 99 of 100 sweeps" if len(rows) > 2 else "where it is, in 99 of 100 sweeps"
+    where = f"where {'all changes are at once' if len(rows) > 2 else 'it is'}, in {CHANGES} of 100 sweeps"
     first = [("way", "change"), ("band", where), ("today", f"today's {shown(games.today)}")]
     second = [(kind, said) for kind, said in KINDS.items() if kind in {kind_of(row, games) for row in rows}]
     found = []

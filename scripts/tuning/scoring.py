@@ -26,6 +26,14 @@ class Scores:
 
     worth: Mapping[str, float]
     of: dict[tuple[str, str], Points] = field(default_factory=lambda: defaultdict(dict))
+    # how many matches there were, and how many of them the limit ended, which ties them
+    matches: int = 0
+    ties: int = 0
+
+    def clear(self) -> None:
+        """Forgets all matches."""
+        self.of.clear()
+        self.matches = self.ties = 0
 
     def add(self, record: Record, variants: Collection[str]) -> None:
         """Adds the matches of a series between a variant and an opponent."""
@@ -36,6 +44,8 @@ class Scores:
         points = self.of[variant, other]
         for number, ended in enumerate(record.ended, record.series.first):
             points[seat, number] = self.worth[ended[seat]]
+            self.matches += 1
+            self.ties += ended[seat] == "t"
 
     def mean(self, variant: str, weights: Mapping[str, Fraction]) -> float:
         """The points a match of a variant, each opponent by its weight."""

@@ -100,7 +100,7 @@ class Search:
     def _race(self, places: Sequence[Values], until: float) -> Values:
         """The best place: the worse half of them is out each time, and the others have more matches. Without any it is the first one."""
         games, left = self._games, [*dict.fromkeys(places)]
-        games.scores.of.clear()
+        games.scores.clear()
         while len(left) > 1:
             each = self._left(until) // halvings(left) // matches_of(Stretch(0, 1), len(left), len(self._among))
             if not each:
@@ -121,7 +121,7 @@ class Search:
             if matches_of(Stretch(0, each), it.count, len(self._among)) > self._left(EVOLVED):
                 return found
             several = [values_of(games.numbers, point) for point in it.ask()]
-            games.scores.of.clear()
+            games.scores.clear()
             worth = self._worth(several, each)
             it.tell([worth[values] for values in several])
             middles.append(it.middle)

@@ -97,10 +97,10 @@ class Sweep:
         return [values for values in self._several if values not in self._out]
 
     def _begin(self, number: int, played: int) -> None:
-        """Says which round begins, and how many matches there are still to come."""
+        """Says which round begins, if they are those of a race, and how many matches there are still to come."""
         rest = Stretch(played + 1, self._rounds[-1] - played)
         left = matches_of(rest, len(self._left), len(self._games.weights()))
-        self._games.progress.begin(f"round {number} of {len(self._rounds)}", left, is_most=self._is_race)
+        self._games.progress.begin(f"round {number} of {len(self._rounds)}" if self._is_race else "sweep", left, is_most=self._is_race)
 
     def _best(self) -> Values:
         """The value with the most points so far, which is told; today's if none has more."""

@@ -13,6 +13,7 @@ from .breakdowns import ALL, distinct, listed
 from .games import Games
 from .judging import Judged
 from .sweeps import Row, shown
+from .verdicts import CHANGES, WHOLE
 
 # The columns of rows beside the values: those of comma-separated values, and what a table has above them.
 HEADS = {"against": "against", "points": "points a match", "from": "at least", "to": "at most", "change": "change from {}", "low": "at least", "high": "at most",
@@ -93,11 +94,11 @@ def lines_of(games: Games, row: Row) -> Iterator[dict[str, str]]:
 def legend(games: Games, rows: Sequence[Row], what: str) -> str:
     """What the columns of a table are, in one line. Rows of single opponents may be wrong as often again."""
     win, tie = (f"{games.scores.worth[letter]:g}" for letter in "wt")
-    every, often = (f"all {len(rows) - 1} changes lie there at once" if len(rows) > 2 else "the change lies there"), "99"
+    every, often = (f"all {len(rows) - 1} changes lie there at once" if len(rows) > 2 else "the change lies there"), CHANGES
     if games.given.by_opponent:
-        every, often = "all points and changes lie there at once", "98"
+        every, often = "all points and changes lie there at once", WHOLE
     values = "values of these numbers" if len(games.numbers) > 1 else "value of this number"
-    words = {"value": [", ".join(one.name for one in games.numbers), values], "points": [win, tie], "change": [shown(games.today)], "low": [every, often, what]}
+    words = {"value": [", ".join(one.name for one in games.numbers), values], "points": [win, tie], "change": [shown(games.today)], "low": [every, str(often), what]}
     said = [text.format(*words.get(name, [])) for name, text in MEANINGS.items() if name in ("value", *columns(games, "table"))]
     return f"({'; '.join(said)})\n"
 

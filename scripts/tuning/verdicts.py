@@ -12,6 +12,11 @@ from tournaments.intervals import Mean
 # How often a sweep may claim anything that isn't so.
 MISTAKEN = 0.01
 
+# So many of 100 sweeps have all changes in their intervals at once. Points and single opponents have as many; so all of a table is right
+# in as many as are left if both kinds fail in others.
+CHANGES = round(100 * (1 - MISTAKEN))
+WHOLE = round(100 * (1 - 2 * MISTAKEN))
+
 BETTER, WORSE, TODAYS, NOTHING = "better", "worse", "today's", "no difference that these matches could show"
 
 

@@ -7,11 +7,11 @@ import re
 from fractions import Fraction
 
 from tools.faults import Fault
-from tools.output import written_over
 from tournaments.words import Parser, common, settle, within
 
+from . import outputs
 from .marks import STAGES, Place, Range, ranged
-from .opponents import BEST, League, Level
+from .opponents import BEST, NOBODY, League, Level
 
 BUDGET, ROUND = 100_000, 160
 PLACED = re.compile(r"([0-9]{1,9}):([0-9]{1,9})=([^/,]*)(?:/([^/,]*))?(?:,([^/,]*))?")
@@ -95,10 +95,10 @@ def check(given: argparse.Namespace) -> None:
         raise Fault(f"{alien[0]} goes with{'out' if given.sweep else ''} --sweep")
     if given.plan and (given.until or given.journal or given.output):
         raise Fault("--plan plays nothing, so it takes no --until, no --journal and no -o")
-    if given.output and (why := written_over(given.output, [given.robot, *given.field])):
-        raise Fault(f"-o {why}")
     if not given.field and not given.league and not given.level:
-        raise Fault("there is no robot to play against")
+        raise Fault(NOBODY)
+    if given.output:
+        outputs.check(given.output, given.sweep, [given.robot, *given.field, *given.judge], given.journal)
     given.budget = given.budget or BUDGET
     given.round = given.round or ROUND
     given.has_matches = given.matches is not None

@@ -8,7 +8,7 @@ import re
 from itertools import product
 
 from tools.faults import Fault
-from tuning.marks import Number, Place, Range, Token, but_numbers, changed, coarse, constants, numbers, place_of
+from tuning.marks import Number, Place, Range, Token, bare, but_numbers, changed, coarse, constants, numbers, place_of
 from tuning.words import numbered
 
 # A source, and what its numbers are: place, value, low, high, step, name.
@@ -21,7 +21,8 @@ RIGHT: list[tuple[str, list[tuple[str, int, int, int, int | None, str]]]] = [
     ("main(){1 /* tune 0..2147483647 */;}", [("1:8", 1, 0, 2147483647, None, "1:8")]),
     ("main(){1 /* tune 0..9 name a */; 2 /* tune 0..9 name b */;}", [("1:8", 1, 0, 9, None, "a"), ("1:34", 2, 0, 9, None, "b")]),
     # no marks: words of other comments, and of what isn't a number behind 'tune'
-    ("/* tune it */ main(){1 /* tuned 0..9 */; 2 /* tune the number */;}", []),
+    ("/* tune it */ main(){1 /* tuned 3 times */; 2 /* tune the number */; 3 /* tune this... */; 4 /* Tune it */; 5 /* turn 10..20 */;}", []),
+    ("main(){1; /* Tune 0..9 */ a /* tun 0..9 */;}", []), ("main(){1 /* 0..9 */; 2 /* tuning 0..9 */; 3 /* fine 0..9 */;}", []),
     ("main(){1 /* see: tune 0..9 */;}", []),
     ("/* \u00fc */ main(){1 /* tune 0..9 */;}", [("1:17", 1, 0, 9, None, "1:17")]),
 ]
@@ -44,7 +45,14 @@ WRONG = [
      "r:1:10: a mark is 'tune LOW..HIGH', and perhaps 'step STEP' and 'name NAME', not 'tune 0..9 step 2 step 3'"),
     ("main(){1 /* tune 0..9 name 1a */;}", "r:1:10: '1a' is no name"),
     ("main(){1 /* tune 2..9 */;}", "r:1:8: today's value is 1, which 2..9 leaves out"),
-    ("main(){1 /* tune 0..9 name a */; 2 /* tune 0..9 name a */;}", "r: two numbers have the name a"),
+    ("main(){1 /* tune 0..9 name a */; 2 /* tune 0..9 name a */;}", "r:1:34: the number at 1:8 has the name a, too"),
+    ("main(){-4 /* tune -9..9 */;}", "r:1:11: -9..9 goes below 0, and a number is 0 or more: a minus before it is an operator"),
+    ("main(){4 /* tune 0..-9 */;}", "r:1:10: 0..-9 goes below 0, and a number is 0 or more: a minus before it is an operator"),
+    ("main(){4 /* tune +1..9 */;}", "r:1:10: '+1..9' is no range as 100..900"),
+    ("main(){4 /* tune ..9 */;}", "r:1:10: '..9' is no range as 100..900"),
+    *((f"main(){{1 /* tune 0..9 */; 1 /* {text} */;}}", f"r:1:29: '{text}' is nearly a mark, which is a comment as /* tune 100..900 */") for text in (
+        "Tune 10..100", "TUNE 10..100 name a", "tun 10..100", "tunes 0..9", "tuned 0..9", "tine 0..9", "une 0..9", "ttune 0..9", "tnue 0..9", "tune: 0..9", "tune=0..9",
+        "tune10..100", "Tune 10-100", "Tune 10 .. 100", "tun 10 to 100", "Tune -5..5", "tune: 10...100", "dune 1,9")),
 ]
 
 
@@ -134,19 +142,21 @@ class Marks:
         return wrong
 
     def a_robot_but_for_its_numbers(self) -> list[str]:
-        """Any other values of its numbers leave it itself, and any other byte makes it another one."""
+        """Any other values of its numbers leave it itself, and so do its comments and blanks. Any other byte makes it another one."""
         wrong, rest = [], random.Random(9)
         source = b"main(){ 12 /* tune 0..90 */; 5; 300 /* tune 0..900 */; }"
         them = numbers(source, read(source), "r")
-        itself = but_numbers(source, them)
+        itself, code = but_numbers(source, them), [*range(7), source.index(b"*/;") + 2, source.index(b"5;"), source.index(b"5;") + 1, len(source) - 1]
         for _ in range(200):
             other = changed(source, them, [rest.randint(0, 90), rest.randint(0, 900)])
-            wrong += [] if itself.fullmatch(other) else [f"{other!r} is another robot"]
-            at = rest.choice([at for at in range(len(source)) if not any(it.begin <= at < it.end for it in them)])
-            other = source[:at] + bytes([rest.choice([it for it in b"x7 ;/\xc3" if it != source[at]])]) + source[at + 1:]
-            is_longer = any(at in (it.begin - 1, it.end) and other[at:at + 1].isdigit() for it in them)
-            wrong += [] if not itself.fullmatch(other) or is_longer else [f"{other!r} is the same robot"]
-        return wrong
+            wrong += [] if itself.fullmatch(bare(other)) else [f"{other!r} is another robot"]
+            at = rest.choice(code)
+            other = source[:at] + bytes([rest.choice(b"x+=")]) + source[at + 1:]
+            wrong += [] if not itself.fullmatch(bare(other)) else [f"{other!r} is the same robot"]
+        same = (b"main(){12; 5; 300;}", b"/* no marks */main()\n{\n\t7;5 /**/ ;\r\n 8;\n}\n", b"main(){1/*;*/;5;2;}/***//**/", b"main(){1;5;2;}\x1a more", b"main(){1 /* /* */;5;2;}")
+        others = (b"main(){12; 6; 300;}", b"main(){12; 300;}", b"main(){12; 5; 300; 1;}", b"main(){a; 5; 300;}", b"main(){-12; 5; 300;}", b"main(){1;5;2;}\x1b")
+        wrong += [f"{it!r} is another robot" for it in same if not itself.fullmatch(bare(it))]
+        return wrong + [f"{it!r} is the same robot" for it in others if itself.fullmatch(bare(it))]
 
     def only_the_numbers_bytes_change(self) -> list[str]:
         """In random sources, with blanks, comments and line ends of all kinds between the tokens."""
@@ -169,16 +179,19 @@ class Marks:
         return wrong
 
     def values_of_a_sweep(self) -> list[str]:
-        """Worked out by hand; today's value is always there."""
+        """Worked out by hand; both ends are always there, and today's value."""
         cases = [
             (Range(0, 400), 40, [*range(0, 401, 20)]), (Range(0, 10), 5, [*range(11)]), (Range(100, 900), 410, sorted({*range(100, 901, 50), 410})),
-            (Range(0, 10, 4), 3, [0, 3, 4, 8]), (Range(0, 2147483647), 7, [0, 7, *range(200000000, 2147483648, 200000000)]),
+            (Range(0, 10, 4), 3, [0, 3, 4, 8, 10]), (Range(0, 2147483647), 7, [0, 7, *range(200000000, 2147483648, 200000000), 2147483647]),
+            (Range(10, 101), 30, [*range(10, 101, 5), 101]), (Range(5, 9, 3), 9, [5, 8, 9]), (Range(5, 6), 5, [5, 6]),
         ]
         wrong = [f"{several}: {got}" for several, today, wanted in cases if (got := several.values(today)) != wanted]
+        of_two = Range(10, 100).values(30, 8)
+        wrong += [] if of_two == [10, 30, 50, 70, 90, 100] else [f"{of_two}"]
         steps = [(coarse(width, 20), width) for width in (1, 20, 21, 40, 41, 100, 101, 2000)]
         return wrong + ([] if steps == [(1, 1), (1, 20), (2, 21), (2, 40), (5, 41), (5, 100), (10, 101), (100, 2000)] else [f"{steps}"])
 
     def the_nearest_value(self) -> list[str]:
         several = Range(100, 205, 50)
-        got = [several.nearest(value) for value in (-1e9, 100, 124.9, 125.1, 176, 1e9)]
-        return [] if got == [100, 100, 100, 150, 200, 200] else [f"{got}"]
+        got = [several.nearest(value) for value in (-1e9, 100, 124.9, 125.1, 176, 202.4, 202.6, 1e9)]
+        return [] if got == [100, 100, 100, 150, 200, 200, 205, 205] else [f"{got}"]

@@ -38,6 +38,7 @@ main() {
   while (1);
 }
 """
+BARE = re.sub(r" /\*.*?\*/", "", DRAWS)
 UNUSED = "main(){int a; a = 5 /* tune 0..20 name unused */; if (rand(1000) < 300) while(1) cannon(0,0); while(1);}"
 # By 9 it shoots itself, later than dies.r does; else it stands still.
 SWITCH = """main() {
@@ -67,12 +68,18 @@ SEEN = """(() => {
 # So many seconds a script may take where a machine has much else to do.
 PATIENCE = 3000
 SAID = "tune: the tuned robot is judged against the robots that it was tuned against; --judge names others\n"
+NOBODY = "there is no robot to play against; give files, folders with robots, --level N or --league LEAGUE"
 Ran = subprocess.CompletedProcess[str]
 
 
 def itself(robot: str, *files: str) -> str:
     """What is said of files that are the robot itself."""
-    return f"tune: left out: {', '.join(files)} ({robot} itself, or a copy with other numbers)\n"
+    return f"tune: left out: {', '.join(files)} ({robot} itself, or a copy with other numbers or comments)\n"
+
+
+def named(robot: str, *files: str) -> str:
+    """What is said of files that are copies of the robot, and are played."""
+    return f"tune: played, as the words name it: {', '.join(files)} (a copy of {robot} with other numbers or comments)\n"
 
 
 class Playing:
@@ -378,27 +385,40 @@ class Playing:
         for words, said in ((("--judge", "same.r"), SAID), (("--judge", "same.r", "--judge", "other.r"), ""), (("--judge", "same.r", "--judge", "two.r"), itself("two.r", "two.r") + SAID)):
             told = self._run("-m2", "--budget", "100", *words, "two.r", "still.r").stderr
             wrong += [] if told == said else [f"{words}: {told}"]
-        return wrong + self._refused(f"{itself('two.r', 'two.r')}tune: there is no robot to play against\n", "--judge", "two.r", "two.r", "still.r")
+        return wrong + self._refused(f"{itself('two.r', 'two.r')}tune: {NOBODY}\n", "--judge", "two.r", "two.r", "still.r")
 
     def the_robot_itself(self) -> list[str]:
-        """It is never met: neither as a file of the same bytes, nor in a folder as a copy with other numbers, whether these are marked or given.
-        A line says so. A file with other numbers that is named is met, and so is one in a folder that differs elsewhere."""
+        """It is never met: neither as a file of the same bytes, nor in a folder as a copy with other numbers, whether these are marked or given,
+        or without marks. A line says so. Such a copy that is named is met, which a line says, and so is one in a folder that differs elsewhere."""
         folder = self._folder / "mixed"
         folder.mkdir()
-        for name, text in (("same.r", DRAWS), ("old.r", DRAWS.replace("400 /*", "77 /*")), ("other.r", DRAWS.replace("1000)", "999)")), ("still.r", STILL)):
+        for name, text in (("same.r", DRAWS), ("old.r", DRAWS.replace("400 /*", "77 /*")), ("bare.r", BARE), ("other.r", DRAWS.replace("1000)", "999)")), ("still.r", STILL)):
             (folder / name).write_text(text, encoding="utf-8")
         (self._folder / "older.r").write_text(DRAWS.replace("400 /*", "399 /*"), encoding="utf-8")
+        (self._folder / "unmarked.r").write_text(BARE, encoding="utf-8")
         wrong, both = [], [f"{it['robot']}: {it['weight']:g}" for it in ({"robot": "other.r", "weight": 1}, {"robot": "still.r", "weight": 1})]
         cases = [
-            (("draws.r", "mixed"), ["mixed/old.r", "mixed/same.r"], both), (("draws.r", "draws.r", "still.r"), ["draws.r"], both[1:]),
-            (("draws.r", "older.r", "still.r"), [], ["older.r: 1", "still.r: 1"]), (("--level", "5", "--number", "1:26=0..1000/500", "draws.r", "mixed"), None, None),
+            (("draws.r", "mixed"), itself("draws.r", "mixed/bare.r", "mixed/old.r", "mixed/same.r"), both),
+            (("draws.r", "draws.r", "still.r"), itself("draws.r", "draws.r"), both[1:]),
+            (("draws.r", "older.r", "still.r"), named("draws.r", "older.r"), ["older.r: 1", "still.r: 1"]),
+            (("draws.r", "older.r", "unmarked.r", "still.r"), named("draws.r", "older.r", "unmarked.r"), ["older.r: 1", "still.r: 1", "unmarked.r: 1"]),
+            (("--number", "1:25=0..1000/500", "unmarked.r", "mixed"), itself("unmarked.r", "mixed/bare.r", "mixed/old.r", "mixed/same.r"), both),
         ]
-        for words, left_out, met in cases:
+        for words, said, met in cases:
             ran = self._run("--sweep", "--json", "-m2", *words)
-            said = itself("draws.r", *left_out) if left_out else ""
             got = [f"{it['robot']}: {it['weight']:g}" for it in json.loads(ran.stdout or '{"against": []}')["against"]]
-            wrong += [] if left_out is None or (got == met and ran.stderr == said) else [f"{words}: {got}, {ran.stderr}"]
+            wrong += [] if (got, ran.stderr) == (met, said) else [f"{words}: {got}, {ran.stderr}"]
         return wrong
+
+    def a_sample_that_is_marked(self) -> list[str]:
+        """The one without marks isn't among those of its level."""
+        sample = (TOP / "robots" / "boxer.r").read_text(encoding="utf-8")
+        at = re.search(r"[0-9]+(?=\))", sample)
+        assert at
+        (self._folder / "boxed.r").write_text(f"{sample[:at.end()]} /* tune {at[0]}..{int(at[0]) + 1} */{sample[at.end():]}", encoding="utf-8")
+        ran = self._run("--sweep", "--json", "-m2", "--level", "4", "boxed.r")
+        met = [it["robot"] for it in json.loads(ran.stdout or '{"against": []}')["against"]]
+        return [] if met == ["shuttle.r"] and "boxer.r (boxed.r itself, or a copy" in ran.stderr else [f"{ran!r:.500}"]
 
     def a_robot_that_is_edited_meanwhile(self) -> list[str]:
         """What is played, and written, is what was read first: here the first match edits the robot."""
@@ -413,8 +433,8 @@ class Playing:
         return [] if re.sub(r"\d+ /\*", "N /*", written) == TWO % ("N", "N") else [written]
 
     def wrong_words(self) -> list[str]:
-        wrong = self._refused("tune: there is no robot to play against\n", "draws.r")
-        wrong += self._refused(f"{itself('draws.r', 'draws.r')}tune: there is no robot to play against\n", "draws.r", "draws.r")
+        wrong = self._refused(f"tune: {NOBODY}\n", "draws.r")
+        wrong += self._refused(f"{itself('draws.r', 'draws.r')}tune: {NOBODY}\n", "draws.r", "draws.r")
         wrong += self._refused("tune: plain.r has no marked number; a mark is a comment as /* tune 100..900 */ behind it, or --number gives one by its place: 1:19 is 7\n",
                                "--sweep", "plain.r", "still.r")
         wrong += self._refused("tune: plain.r:1:1: no number stands there; on that line 1:19 is 7\n", "--sweep", "--number", "1:1=0..9", "plain.r", "still.r")
@@ -425,15 +445,71 @@ class Playing:
         (self._folder / "field/c").mkdir()
         wrong += self._refused("tune: field/c has no robots, whose names end with '.r'\n", "two.r", "field/c")
         wrong += self._refused("bad.r:2: reserved word\n", "--sweep", "draws.r", "bad.r", status=1)
+        (self._folder / "spoiled").mkdir()
+        shutil.copy(self._folder / "bad.r", self._folder / "spoiled")
+        for words in (("draws.r", "still.r", "spoiled"), ("draws.r", "still.r", "./spoiled/bad.r"), ("spoiled/bad.r", "still.r")):
+            wrong += self._refused(f"{'./' * ('./' in words[-1])}spoiled/bad.r:2: reserved word\n", "--sweep", *words, status=1)
         wrong += self._refused("tune: cannot read gone.r: No such file or directory\n", "--sweep", "gone.r", "still.r", status=3)
         wrong += self._refused("tune: argument --number: 'x' isn't LINE:COLUMN=LOW..HIGH, which /STEP and ,NAME may follow\n", "--number", "x", "a", "b")
         return wrong + self._refused("tune: argument --number: --number 1:1: '9' is no range as 100..900\n", "--number", "1:1=9", "a", "b")
 
     def outputs_that_can_t_be_written(self) -> list[str]:
-        wrong = self._refused("tune: cannot write /dev/full: No space left on device\n", "--sweep", "-m2", "-o", "/dev/full", "draws.r", "still.r", status=3)
-        wrong += self._refused(f"{SAID}tune: cannot write /dev/full: No space left on device\n", "-m20", "--budget", "500", "-o", "/dev/full", "switched.r", "still.r",
-                               status=3)
-        return wrong + self._refused("tune: cannot write gone/s.svg: No such file or directory\n", "--sweep", "-m2", "-o", "gone/s.svg", "draws.r", "still.r", status=3)
+        """What a full disk leaves unwritten is told all the same, on standard output."""
+        said, wrong = "tune: cannot write /dev/full: No space left on device\n", list[str]()
+        for words in (("--sweep", "-m2", "draws.r", "still.r"), ("--sweep", "--json", "-m2", "draws.r", "still.r"), ("-m20", "--budget", "500", "switched.r", "still.r"),
+                      ("-m20", "--json", "--budget", "500", "switched.r", "still.r")):
+            told, ran = self._run(*words), self._run("-o", "/dev/full", *words)
+            wanted = told.stdout.removesuffix("with -o FILE the robot is written with these numbers\n")
+            wrong += [] if (ran.stdout, ran.stderr, ran.returncode) == (wanted, told.stderr + said, 3) and wanted else [f"{words}: {ran!r:.500}"]
+        play = shlex.join(self._words("--sweep", "-m2", "-o", "kept.svg", "draws.r", "still.r"))
+        ran = self._sh(f"{play} > /dev/full")
+        right = (ran.stderr, ran.returncode) == ("tune: cannot write: No space left on device\n", 3) and (self._folder / "kept.svg").exists()
+        return wrong if right else [*wrong, f"{ran!r:.500}"]
+
+    def outputs_that_are_refused_before_anything_is_played(self) -> list[str]:
+        """By a program that isn't there nothing can be played, so what is refused is refused before."""
+        (self._folder / "notes").write_text("notes", encoding="ascii")
+        gone, folder, in_file = "No such file or directory", "Is a directory", "Not a directory"
+        wrong, robots = list[str](), ("draws.r", "still.r")
+        for path, why in (("gone/s.svg", gone), ("field", folder), ("notes/s.svg", in_file), ("/proc/s.svg", gone)):
+            wrong += self._refused(f"tune: cannot write {path}: {why}\n", "--sweep", "--crobots", "none", "-o", path, *robots, status=3)
+        for path, why in (("gone/s.r", gone), ("field", folder), ("notes/s.r", in_file)):
+            wrong += self._refused(f"tune: cannot write {path}: {why}\n", "--crobots", "none", "-o", path, *robots, status=3)
+        for words in (("--sweep",), ()):
+            wrong += self._refused(f"tune: cannot write gone/j: {gone}\n", *words, "-m2", "--journal", "gone/j", *robots, status=3)
+        return wrong
+
+    def outputs_that_are_something_else(self) -> list[str]:
+        """A robot isn't replaced by a picture, nor a picture by a robot, nor any other file by one of these. What is empty, or one of its own
+        kind, is."""
+        sweep, robots = ("--sweep", "-m2"), ("draws.r", "still.r")
+        (self._folder / "own.svg").write_text("<?xml version='1.0'?>\n<svg/>", encoding="ascii")
+        for name, text in (("words.svg", "words"), ("page.html", "<html></html>"), ("words", "words"), ("kept", ""), ("empty.svg", "")):
+            (self._folder / name).write_text(text, encoding="ascii")
+        wrong = list[str]()
+        for path, why in (("new.r", "with --sweep a picture is written, as SVG, and this is the name of a robot"), ("words.svg", "this file is no SVG, so the picture isn't written over it"),
+                          ("page.html", "this file is no SVG, so the picture isn't written over it"), ("still.r", "this file is read, so it is not written")):
+            wrong += self._refused(f"tune: -o {path}: {why}\n", *sweep, "-o", path, *robots)
+        for path, why in (("new.svg", "without --sweep a robot is written, and this is the name of a picture"),
+                          ("words", "this file's name doesn't end with '.r', so the robot isn't written over it")):
+            wrong += self._refused(f"tune: -o {path}: {why}\n", "-o", path, *robots)
+        for path in ("own.svg", "empty.svg", "kept"):
+            ran = self._run(*sweep, "-o", path, *robots)
+            wrong += [] if (ran.stderr, ran.returncode) == ("", 0) and b"<svg" in (self._folder / path).read_bytes()[:200] else [f"{path}: {ran!r:.400}"]
+        wrong += self._refused("tune: -o ./both: this file is the journal\n", *sweep, "--journal", "both", "-o", "./both", *robots)
+        texts = [(self._folder / name).read_text(encoding="ascii") for name in ("words", "words.svg", "page.html", "still.r")]
+        return wrong if texts == ["words", "words", "<html></html>", STILL] else [*wrong, f"{texts}"]
+
+    def matches_that_the_limit_ended(self) -> list[str]:
+        """A line says how many they were, if they are more than a half: of two values one loses all its matches, and of three one does."""
+        wrong, said = [], "{} of {} matches were tied at the limit of 400 cycles: with a greater -l they may say more\n"
+        (self._folder / "half.r").write_text(DRAWS.replace("400 /* tune 0..1000 step 100", "0 /* tune 0..1000 step 1000"), encoding="utf-8")
+        (self._folder / "third.r").write_text(SWITCH, encoding="utf-8")
+        for words, line in ((("--sweep", "half.r", "still.r"), ""), (("--sweep", "third.r", "still.r"), said.format(40, 60)),
+                            (("--budget", "500", "switched.r", "still.r", "dies.r"), "")):
+            told = self._run("-m20", *words).stdout
+            wrong += [] if (line in told if line else "the limit of" not in told) else [f"{words}: {told}"]
+        return wrong
 
     def standard_output_that_can_t_be_written(self) -> list[str]:
         """Closed, it is refused before anything is played; full, a line says so; a pipe that nobody reads ends it as others."""
@@ -512,7 +588,7 @@ class Playing:
 
     def a_number_that_has_a_name_on_the_command_line(self) -> list[str]:
         """It is used in the table, the picture and the journal. Without one the place stands there."""
-        (self._folder / "bare.r").write_text(re.sub(r" /\*.*?\*/", "", DRAWS), encoding="utf-8")
+        (self._folder / "bare.r").write_text(BARE, encoding="utf-8")
         wrong = []
         for word, name in (("1:25=0..1000/500,lost", "lost"), ("1:25=0..1000/500", "1:25")):
             (self._folder / "names").unlink(missing_ok=True)

@@ -21,6 +21,7 @@ from tuning.far import Far
 from tuning.games import Starts
 from tuning.marks import Number, Place, Range
 from tuning.sweeps import Row, said, shown, sweep
+from tuning.verdicts import CHANGES, WHOLE, levels
 
 from tune_tests.simulated import Simulated, words
 
@@ -203,6 +204,20 @@ class Saying:
             told = tables.legend(games, rows, "sweeps")
             wrong += [f"{name!r} isn't in {told}" for name in head if not re.search(rf"[(; ,]{re.escape(name)}[:, ]", told)]
             wrong += [] if told.startswith("(") and told.endswith(")\n") and told.count("\n") == 1 else [told]
+        return wrong[:5]
+
+    def how_many_sweeps_hold(self) -> list[str]:
+        """Of 100: all changes at once in 99; all changes, points and single opponents at once in 98, as both kinds may fail in others. The
+        manual page has both numbers."""
+        page = (TOP / "man" / "crobots-tune.6").read_text(encoding="utf-8")
+        item, table = page.partition(".It Fl -by-opponent")[2].partition(".It Fl -budget")[0], page.partition(".Sh THE TABLE")[2]
+        wrong = [] if f"in {WHOLE} of 100 sweeps" in item and f"in {CHANGES} of 100 sweeps" in item and f"in {CHANGES} of 100 sweeps" in table else [item]
+        wide = levels(21, 3, 5, True)
+        missed = [20 * 5 * (1 - wide.change) + 21 * 20 / 2 * 5 * (1 - wide.race), 2 * 21 * 4 * 5 * (1 - wide.single)]
+        wrong += [] if (CHANGES, WHOLE) == (99, 98) and abs(100 - 100 * missed[0] - CHANGES) < 1e-9 and abs(100 - 100 * sum(missed) - WHOLE) < 1e-9 else [f"{missed}"]
+        for games, rows in self._drawn[:300]:
+            told, often = tables.legend(games, rows, "sweeps"), WHOLE if games.given.by_opponent else CHANGES
+            wrong += [] if re.findall("in ([0-9]+) of 100 sweeps", told) == [str(often)] else [told]
         return wrong[:5]
 
     def how_far_it_is(self) -> list[str]:

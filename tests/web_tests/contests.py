@@ -151,7 +151,7 @@ def marked_sources() -> list[str]:
     """Sources of all kinds of marks, right and wrong, and some put together of pieces."""
     draw = random.Random(SEED)
     pieces = ["1", "23", "0007", "a", "a1", " ", "\n", "\t", "/**/", "/* \u00e9 */", "/* tune 0..9 */", "/* tune 1..30 step 7 name b */", "/*tune\n5..6\nname\tc*/",
-              "/* tune */", "/* tune 1.2 */", "/* tune it 0..9 */", "/* tune 0..9\x1cname d */", "/* tune 0..9\u00a0name e */",
+              "/* tune */", "/* Tune 0..9 */", "/*tun\n5 to 6*/", "/* tune -3..9 */", "/* tune ..9 */", "/* nuTe:1\u20262 */", "/* tune 1.2 */", "/* tune it 0..9 */", "/* tune 0..9\x1cname d */", "/* tune 0..9\u00a0name e */",
               "\ufeff", ";", "=", "*", "/", "(", "\u00e4"]
     put = ["".join(draw.choice(pieces) for _ in range(draw.randint(1, 12))) for _ in range(2000)]
     return [source for source, _ in (*tables.RIGHT, *tables.WRONG)] + put
