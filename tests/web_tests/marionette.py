@@ -53,7 +53,11 @@ class Firefox:
     def _hear(self) -> Any:
         """What the browser says next: a number of bytes, a colon, and these bytes."""
         while b":" not in self._rest or len(self._rest.partition(b":")[2]) < int(self._rest.partition(b":")[0]):
-            more = self._socket.recv(1 << 16)
+            try:
+                more = self._socket.recv(1 << 16)
+            except TimeoutError as why:
+                # nobody asks it more
+                raise RuntimeError("the browser doesn't answer") from why
             if not more:
                 raise RuntimeError("the browser ended")
             self._rest += more
