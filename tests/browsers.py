@@ -3,13 +3,18 @@
 from __future__ import annotations
 
 import base64
+import contextlib
 import json
 import os
+import select
 import shutil
-import subprocess
 import tempfile
-from types import TracebackType
-from typing import Any
+from typing import Any, Iterator
+
+from tries import Tries, group, has_ended
+
+# for an answer, on a machine that has much else to do; and for the end of a browser that was asked to end
+SECONDS, SECONDS_OF_AN_END = 300, 10
 
 
 def chromium() -> str | None:
@@ -24,17 +29,8 @@ READ_BACK = "Canvas2D: Multiple readback operations"
 class Browser:
     """One window of a browser. What pages say on the console is kept, with all that goes wrong in them."""
 
-    def __init__(self, program: str) -> None:
-        self._profile = tempfile.TemporaryDirectory()
-        ask, self._ask = os.pipe()
-        self._hear, hear = os.pipe()
-        words = [program, "--headless=new", "--no-sandbox", "--disable-gpu", "--hide-scrollbars", "--remote-debugging-pipe",
-                 f"--user-data-dir={self._profile.name}", "about:blank"]
-        # The browser reads what it is asked from its descriptor 3, and answers on 4. Not each sh takes numbers of two digits for these.
-        self._child = subprocess.Popen(["bash", "-c", f'exec "$@" 3<&{ask} 4>&{hear}', "bash", *words], pass_fds=(ask, hear),
-                                       stdin=subprocess.DEVNULL, stdout=subprocess.DEVNULL, stderr=subprocess.DEVNULL)
-        os.close(ask)
-        os.close(hear)
+    def __init__(self, ask: int, hear: int) -> None:
+        self._ask, self._hear = ask, hear
         self._rest = b""
         self._count = 0
         self._session: str | None = None
@@ -42,20 +38,10 @@ class Browser:
         self.messages: list[str] = []
         self._open()
 
-    def __enter__(self) -> Browser:
-        return self
-
-    def __exit__(self, kind: type[BaseException] | None, it: BaseException | None, trace: TracebackType | None) -> None:
-        try:
-            self._session = None
-            self.call("Browser.close")
-            self._child.wait(10)
-        except (RuntimeError, OSError, subprocess.TimeoutExpired):
-            self._child.kill()
-            self._child.wait()
-        os.close(self._ask)
-        os.close(self._hear)
-        self._profile.cleanup()
+    def close(self) -> None:
+        """Has the browser end."""
+        self._session = None
+        self.call("Browser.close")
 
     def _open(self) -> None:
         targets = self.call("Target.getTargets")["targetInfos"]
@@ -79,6 +65,8 @@ class Browser:
     def _next(self) -> dict[str, Any]:
         """The next thing that the browser says; of what happened in the page it takes note."""
         while b"\0" not in self._rest:
+            if not select.select([self._hear], [], [], SECONDS)[0]:
+                raise RuntimeError(f"the browser says nothing for {SECONDS} seconds")
             more = os.read(self._hear, 1 << 16)
             if not more:
                 raise RuntimeError("the browser ended")
@@ -135,3 +123,27 @@ class Browser:
         """Writes a picture of the window, or of the whole page, as PNG."""
         with open(path, "wb") as file:
             file.write(base64.b64decode(self.call("Page.captureScreenshot", captureBeyondViewport=whole)["data"]))
+
+
+@contextlib.contextmanager
+def begun() -> Iterator[Browser]:
+    """A browser with a profile of its own."""
+    with contextlib.ExitStack() as ends:
+        profile = ends.enter_context(tempfile.TemporaryDirectory(ignore_cleanup_errors=True))
+        (asked, ask), (hear, heard) = ([ends.enter_context(open(end, mode, 0)) for end, mode in zip(os.pipe(), ("rb", "wb"))] for _ in range(2))
+        words = [chromium() or "", "--headless=new", "--no-sandbox", "--disable-gpu", "--hide-scrollbars", "--remote-debugging-pipe",
+                 f"--user-data-dir={profile}", "about:blank"]
+        # The browser reads what it is asked from its descriptor 3, and answers on 4. Not each sh takes numbers of two digits for these.
+        child = ends.enter_context(group(["bash", "-c", f'exec "$@" 3<&{asked.fileno()} 4>&{heard.fileno()}', "bash", *words],
+                                         pass_fds=(asked.fileno(), heard.fileno())))
+        asked.close()
+        heard.close()
+        browser = Browser(ask.fileno(), hear.fileno())
+        yield browser
+        browser.close()
+        has_ended(child, SECONDS_OF_AN_END)
+
+
+def tries() -> Tries[Browser]:
+    """What runs tests in such browsers. What is said on the console is wrong."""
+    return Tries(begun, lambda browser: browser.messages)

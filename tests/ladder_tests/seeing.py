@@ -2,16 +2,16 @@
 
 from __future__ import annotations
 
+import itertools
 import json
 import os
-from contextlib import AbstractContextManager
 from typing import Callable, Iterator
 
 from harness import skip
 
 from .base import IDLE, SHOOTER, Base
 from .hostile import SCRIPTS
-from .windows import BROWSERS, WIDTH, Driver, Window
+from .windows import BROWSERS, WIDTH, Driver, Window, tries
 
 SIZES = ((360, 740), (1366, 768))
 HUNTER = "main(){int a; while(1) {if (scan(a, 10)) cannon(a, scan(a, 10)); a = a + 20;}}"
@@ -48,6 +48,11 @@ class Seeing(Base):
 
     _RULES = ("-l20000", "-m", "4")
 
+    def __init__(self, folder: str) -> None:
+        super().__init__(folder)
+        # what is made once more has another name
+        self._numbers = itertools.count()
+
     def the_way_of_an_author_by_keys_alone(self) -> Iterator[str]:
         """From the invitation to 'why did I lose', and the film of a lost match."""
         ladder = self._made("author")
@@ -55,12 +60,13 @@ class Seeing(Base):
         ladder.add("hunter", HUNTER)
         ladder.add("idle", IDLE)
         ladder.serve()
-        for begin in self._browsers("the way of an author"):
-            with begin() as driver:
-                for width, height in SIZES:
-                    it, name = Window(driver, ladder, width, height), f"{driver.name}{width}"
-                    yield from (f"{name}: {why}" for why in self._author(it, name, ladder.author(f"Ann {name}")))
-                yield from driver.messages
+
+        def way(driver: Driver) -> Iterator[str]:
+            for width, height in SIZES:
+                it, name = Window(driver, ladder, width, height), f"{driver.name}{width}x{next(self._numbers)}"
+                yield from (f"{name}: {why}" for why in self._author(it, name, ladder.author(f"Ann {name}")))
+
+        yield from self._browsers("the way of an author", way)
 
     def _author(self, it: Window, name: str, token: str) -> Iterator[str]:
         """An author joins, hands in, looks at the table, and why it lost."""
@@ -102,17 +108,17 @@ class Seeing(Base):
 
     def the_ways_of_an_organiser_and_a_teacher(self) -> Iterator[str]:
         """An invitation by the form, its link withdrawn, authors who have handed in, and their checklist as a table to download."""
-        ladder = self._new("teacher")
-        for at in range(PUPILS):
-            ladder.ask("PUT", f"/robots/pupil{at}", IDLE, token=ladder.author(f"Pupil {at}"))
-        count = PUPILS
-        for begin in self._browsers("the ways of an organiser and a teacher"):
-            with begin() as driver:
-                for width, height in SIZES:
-                    it, name, count = Window(driver, ladder, width, height), f"{driver.name}{width}", count + 1
-                    yield from (f"{name}: {why}" for why in self._organiser(it, f"Zoë {name}"))
-                    yield from (f"{name}: {why}" for why in self._teacher(it, count))
-                yield from driver.messages
+
+        def ways(driver: Driver) -> Iterator[str]:
+            ladder = self._new(f"teacher{next(self._numbers)}")
+            for at in range(PUPILS):
+                ladder.ask("PUT", f"/robots/pupil{at}", IDLE, token=ladder.author(f"Pupil {at}"))
+            for count, (width, height) in enumerate(SIZES, PUPILS + 1):
+                it, name = Window(driver, ladder, width, height), f"{driver.name}{width}"
+                yield from (f"{name}: {why}" for why in self._organiser(it, f"Zoë {name}"))
+                yield from (f"{name}: {why}" for why in self._teacher(it, count))
+
+        yield from self._browsers("the ways of an organiser and a teacher", ways)
 
     def _organiser(self, it: Window, author: str) -> Iterator[str]:
         it.go(f"/join#{it.ladder.organiser}")
@@ -152,55 +158,58 @@ class Seeing(Base):
         for at, text in enumerate(SCRIPTS):
             ladder.post("/organiser/invite", {"name": text, "team": text}, token=ladder.organiser)
             ladder.ask("PUT", f"/robots/s{at}", f"/*{text}*/{IDLE}", token=ladder.author(f"{text} 2"))
-        for begin in self._browsers("scripts in names"):
-            with begin() as driver:
-                it = Window(driver, ladder, *SIZES[1])
-                it.go(f"/join#{ladder.organiser}")
-                it.at("/mine")
-                for path in ("/", "/organiser", "/checklist", "/wall", "/robots/s0", "/join#<script>alert(1)</script>", "/nothing/<script>alert(1)</script>"):
-                    it.go(path)
-                    if driver.value(RAN):
-                        yield f"{driver.name}, {path}: a script ran"
-                yield from (message for message in driver.messages if "a status of 4" not in message)
+
+        def looks(driver: Driver) -> Iterator[str]:
+            it = Window(driver, ladder, *SIZES[1])
+            it.go(f"/join#{ladder.organiser}")
+            it.at("/mine")
+            for path in ("/", "/organiser", "/checklist", "/wall", "/robots/s0", "/join#<script>alert(1)</script>", "/nothing/<script>alert(1)</script>"):
+                it.go(path)
+                if driver.value(RAN):
+                    yield f"{driver.name}, {path}: a script ran"
+
+        yield from self._browsers("scripts in names", looks, "a status of 4")
 
     def no_script_in_a_field_runs(self) -> Iterator[str]:
         """Each field of each form of each page, filled in and sent by the page itself, and what is answered."""
-        for begin in self._browsers("scripts in fields"):
-            with begin() as driver:
-                ladder = self._new(f"fields-{driver.name}")
-                ladder.terms(sign_up=1000)
-                ladder.author("Ann")
-                for text in (IDLE, SHOOTER):
-                    ladder.ask("PUT", "/robots/mine", text, token=ladder.organiser)
-                it = Window(driver, ladder, *SIZES[1])
-                it.go(f"/join#{ladder.organiser}")
-                it.at("/mine")
-                sent = [(path, at) for path in ("/join", "/mine", "/organiser", "/robots/mine") for at in range(self._buttons(it, path))]
-                if len(sent) != BUTTONS:
-                    yield f"{driver.name}: {len(sent)} buttons, not {BUTTONS}: {sent}"
-                for turn, (path, at) in enumerate(sent):
-                    for text in SCRIPTS[turn % EACH_NTH::EACH_NTH]:
-                        yield from self._filled(it, path, at, text)
-                yield from (message for message in driver.messages if "a status of 4" not in message)
+
+        def sends(driver: Driver) -> Iterator[str]:
+            ladder = self._new(f"fields{next(self._numbers)}")
+            ladder.terms(sign_up=1000)
+            ladder.author("Ann")
+            for text in (IDLE, SHOOTER):
+                ladder.ask("PUT", "/robots/mine", text, token=ladder.organiser)
+            it = Window(driver, ladder, *SIZES[1])
+            it.go(f"/join#{ladder.organiser}")
+            it.at("/mine")
+            sent = [(path, at) for path in ("/join", "/mine", "/organiser", "/robots/mine") for at in range(self._buttons(it, path))]
+            if len(sent) != BUTTONS:
+                yield f"{driver.name}: {len(sent)} buttons, not {BUTTONS}: {sent}"
+            for turn, (path, at) in enumerate(sent):
+                for text in SCRIPTS[turn % EACH_NTH::EACH_NTH]:
+                    yield from self._filled(it, path, at, text)
+
+        yield from self._browsers("scripts in fields", sends, "a status of 4")
 
     def a_file_is_dropped(self) -> Iterator[str]:
         """On the form of one's own page: one byte too many is refused there, and else it is sent as it is, under its own name."""
         ladder = self._new("dropped")
-        for begin in self._browsers("dropped files"):
-            with begin() as driver:
-                it, name = Window(driver, ladder, *SIZES[1]), driver.name
-                it.go(f"/join#{ladder.author(f'Ann {name}')}")
-                it.at("/mine")
-                for size, wanted in ((65_537, "This file has 65537 bytes, and 65536 are taken."), (65_536, "")):
-                    if (found := driver.value(DROP % {"name": f"{name}.r", "source": IDLE, "size": size})) != wanted:
-                        yield f"{name}, {size} bytes: {found}"
-                it.follow("form.hand-in button")
-                it.until("document.querySelector('.answer')")
-                if f"taken: {name}, version 1" not in it.text():
-                    yield it.text()
-                if ladder.rows("SELECT length(bytes) FROM source JOIN entry USING (sha256) WHERE robot = ?", name) != [(65_536,)]:
-                    yield f"{name}: other bytes were kept"
-                yield from driver.messages
+
+        def drops(driver: Driver) -> Iterator[str]:
+            it, name = Window(driver, ladder, *SIZES[1]), f"{driver.name}{next(self._numbers)}"
+            it.go(f"/join#{ladder.author(f'Ann {name}')}")
+            it.at("/mine")
+            for size, wanted in ((65_537, "This file has 65537 bytes, and 65536 are taken."), (65_536, "")):
+                if (found := driver.value(DROP % {"name": f"{name}.r", "source": IDLE, "size": size})) != wanted:
+                    yield f"{name}, {size} bytes: {found}"
+            it.follow("form.hand-in button")
+            it.until("document.querySelector('.answer')")
+            if f"taken: {name}, version 1" not in it.text():
+                yield it.text()
+            if ladder.rows("SELECT length(bytes) FROM source JOIN entry USING (sha256) WHERE robot = ?", name) != [(65_536,)]:
+                yield f"{name}: other bytes were kept"
+
+        yield from self._browsers("dropped files", drops)
 
     def _buttons(self, it: Window, path: str) -> int:
         """How many addresses the buttons of a page send to."""
@@ -217,13 +226,14 @@ class Seeing(Base):
         if found := ran or it.driver.value(RAN):
             yield f"{it.driver.name}, button {at} of {path} with {text}: {found}"
 
-    def _browsers(self, what: str) -> Iterator[Callable[[], AbstractContextManager[Driver]]]:
-        """What begins each browser that is there."""
+    def _browsers(self, what: str, test: Callable[[Driver], Iterator[str]], harmless: str = "nothing is") -> Iterator[str]:
+        """What is wrong by a test in each browser that is there."""
         for package, (find, begin) in BROWSERS.items():
-            if find():
-                yield begin
-            else:
+            if not find():
                 skip(f"{what} in {package}", f"there is no {package} (Debian: {package})")
+                continue
+            with tries(begin, harmless) as browsers:
+                yield from browsers.wrong(f"{what} in {package}", test)
 
 
 def fits(it: Window, name: str) -> Iterator[str]:

@@ -6,9 +6,11 @@ import base64
 import contextlib
 import os
 import time
-from typing import Any, Iterator, Protocol
+from contextlib import AbstractContextManager
+from typing import Any, Callable, Iterator, Protocol
 
-from browsers import Browser, chromium
+from browsers import Browser, begun, chromium
+from tries import Tries
 from web_tests.marionette import Firefox, firefox, program
 
 from .base import SECONDS, Ladder
@@ -170,7 +172,7 @@ class Window:
 
 @contextlib.contextmanager
 def chromium_driver() -> Iterator[Driver]:
-    with Browser(chromium() or "") as it:
+    with begun() as it:
         yield Chromium(it)
 
 
@@ -178,6 +180,11 @@ def chromium_driver() -> Iterator[Driver]:
 def firefox_driver() -> Iterator[Driver]:
     with firefox() as it:
         yield Fox(it)
+
+
+def tries(begin: Callable[[], AbstractContextManager[Driver]], harmless: str = "nothing is") -> Tries[Driver]:
+    """What runs ways in browsers that are begun so. What is said on the console is wrong, but for what has these words."""
+    return Tries(begin, lambda driver: [message for message in driver.messages if harmless not in message])
 
 
 # The browsers by their packages: what looks for each, and what drives it.

@@ -3,6 +3,7 @@
 from __future__ import annotations
 
 import html.parser
+import itertools
 import json
 import os
 import re
@@ -17,7 +18,7 @@ from packages import lacking
 from webs.laying import lay
 
 from .base import BAD, HERE, IDLE, SECONDS, SHOOTER, Base, Ladder
-from .windows import Window, chromium_driver
+from .windows import Driver, Window, chromium_driver, tries
 
 # What of the page nobody may leave out: it runs no script but its own, and its forms lead nowhere.
 WANTED = {"default-src": "'none'", "form-action": "'none'", "base-uri": "'none'", "frame-ancestors": "'none'", "worker-src": "blob:"}
@@ -179,15 +180,20 @@ class Working(Base):
         if not chromium():
             skip("the workbench in a browser", "there is no chromium (Debian: chromium)")
             return
-        ladder = self._served("browser")
-        with chromium_driver() as driver:
+        ladder, numbers = self._served("browser"), itertools.count()
+
+        def reached(driver: Driver) -> Iterator[str]:
             it = Window(driver, ladder, 1366, 768)
-            it.go(f"/join#{ladder.author('Ann')}")
+            it.go(f"/join#{ladder.author(f'Ann {next(numbers)}')}")
             it.at("/mine")
             it.go("/workbench/")
             found = {path: driver.value(ASK % path) for path in ("/send?robot=x", "/robots", "/tag", "/send/x", "http://127.0.0.1:1/send")}
+            driver.messages.clear()
             if found != {"/send?robot=x": 422, "/robots": "forbidden", "/tag": "forbidden", "/send/x": "forbidden", "http://127.0.0.1:1/send": "forbidden"}:
                 yield f"{found}"
+
+        with tries(chromium_driver) as browsers:
+            yield from browsers.wrong("the page reaches send alone", reached)
 
     def _page(self) -> str:
         """The page, laid once."""

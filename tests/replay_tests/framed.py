@@ -60,8 +60,9 @@ PAGE = '<!DOCTYPE html><meta charset="utf-8"><div id="controls">controls</div><i
 class Framed:
     """Each method whose name does not begin with _ is a test: it answers what is wrong."""
 
-    def __init__(self, browser: Browser, folder: str) -> None:
-        self._browser = browser
+    browser: Browser
+
+    def __init__(self, folder: str) -> None:
         web = shutil.copytree(WEB, os.path.join(folder, "web"))
         texts = {"WHOLE": tabbed(FILM), "PART": tabbed(PART), "PLAYER": framed()}
         script = SCRIPT
@@ -77,11 +78,11 @@ class Framed:
             file.write(text)
 
     def _value(self, expression: str) -> Any:
-        return self._browser.value(expression)
+        return self.browser.value(expression)
 
     def _load(self, width: int = 1280) -> None:
-        self._browser.look(width, 844)
-        self._browser.load(self._page)
+        self.browser.look(width, 844)
+        self.browser.load(self._page)
 
     def _inside(self, expression: str) -> Any:
         """What an expression is in the frame, whose document is `it`."""
@@ -137,4 +138,4 @@ class Framed:
         return [] if seen == wanted else [f"{seen}"]
 
     def the_console_stays_empty(self) -> list[str]:
-        return self._browser.messages
+        return self.browser.messages

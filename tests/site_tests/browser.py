@@ -8,9 +8,10 @@ import os
 import tempfile
 import time
 from dataclasses import replace
-from typing import Iterator
+from functools import partial
+from typing import Callable, Iterator
 
-from browsers import Browser, chromium
+from browsers import Browser, chromium, tries
 from harness import skip
 from packages import lacking
 from results.verdicts import Verdict
@@ -35,20 +36,18 @@ FOCUSED = "document.activeElement.textContent.trim().slice(0, 40) + '|' + docume
 
 def results() -> Results:
     """Each test with whether it passed."""
-    program = chromium()
-    if program is None:
+    if not chromium():
         skip("the site in a browser", lacking(["chromium"]))
         return
-    with tempfile.TemporaryDirectory() as place, stand_in(place), Browser(program) as browser:
+    with tempfile.TemporaryDirectory() as place, stand_in(place), tries() as browsers:
         site = os.path.join(place, "site")
         publish(made.league(), site, replays=1)
-        yield from looks(browser, site)
-        yield from keys(browser, site)
-        yield from a_pair(browser, site)
-        yield from verdicts(browser, place)
-        yield from opponents(browser, site)
-        yield from the_dense_map(browser, place)
-        yield from replay(browser, os.path.join(site, *sorted(replays(site))))
+        parts: dict[str, Callable[[Browser], Results]] = {
+            "looks": partial(looks, site=site), "keys": partial(keys, site=site), "a pair": partial(a_pair, site=site), "verdicts": partial(verdicts, place=place),
+            "opponents": partial(opponents, site=site), "the dense map": partial(the_dense_map, place=place),
+            "a replay": partial(replay, path=os.path.join(site, *sorted(replays(site))))}
+        for name, part in parts.items():
+            yield from browsers.checks(f"sites: {name}", part)
 
 
 def looks(browser: Browser, site: str) -> Results:

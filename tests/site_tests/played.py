@@ -15,7 +15,7 @@ from collections import Counter, defaultdict
 from decimal import Decimal
 from typing import Iterator
 
-from browsers import Browser, chromium
+from browsers import Browser, chromium, tries
 from harness import skip
 from packages import lacking
 from results.tallies import Tally
@@ -58,15 +58,22 @@ def results(trace: str = "", crobots: str = "") -> Results:
         yield "links lead somewhere", not wrong and files(site) - found == {"site.list"}
         yield from the_option(words, paths, site)
         yield from the_table(site, table)
-        program = chromium()
-        if program is None:
+        if not chromium():
             skip("pairs and replays", lacking(["chromium"]))
             return
-        with Browser(program) as browser:
-            shown = {place: rendered(browser, site, f"pair.html#{'/'.join(place)}") for place in sorted(pairs(site))}
+        with tries() as browsers:
+            shown: dict[tuple[str, str], Element] = {}
+            yield from browsers.checks("sites: pairs", lambda browser: show(browser, site, shown))
             yield from the_pairs(shown, long)
             yield from the_command_lines(site, crobots, shown)
-            yield from the_replays(facts, site, trace, browser)
+            yield from the_replays(facts, site, trace)
+            yield from browsers.checks("sites: replays", lambda browser: the_ends(browser, site))
+
+
+def show(browser: Browser, site: str, shown: dict[tuple[str, str], Element]) -> Results:
+    """Takes the page of each pair as the browser shows it."""
+    shown.update({place: rendered(browser, site, f"pair.html#{'/'.join(place)}") for place in sorted(pairs(site))})
+    yield "each pair is shown", True
 
 
 def robots(place: str) -> list[str]:
@@ -185,8 +192,8 @@ def the_command_lines(site: str, crobots: str, pages: dict[tuple[str, str], Elem
         yield f"{place}: {card.one('h3').text()}", " 100 % damage" in mine.text()
 
 
-def the_replays(facts: Facts, site: str, trace: str, browser: Browser) -> Results:
-    """Replays by the program, one of which opens in the browser with the damages that are shown."""
+def the_replays(facts: Facts, site: str, trace: str) -> Results:
+    """Replays by the program."""
     folder = os.path.dirname(site)
     os.symlink(trace, os.path.join(folder, "crobots-trace"))
     before = os.environ["PATH"]
@@ -196,10 +203,13 @@ def the_replays(facts: Facts, site: str, trace: str, browser: Browser) -> Result
     finally:
         os.environ["PATH"] = before
     yield "replays are made", len(replays(site)) == REPLAYS and not dangling(site)[1]
+
+
+def the_ends(browser: Browser, site: str) -> Results:
+    """Replays open in the browser with the damages that are shown."""
     linked = [(place, card, href) for place, card in cards(site, {}) for href in links(card) if "replays/" in href]
     for place, card, href in linked[:2]:
         browser.load_replay(os.path.normpath(os.path.join(site, os.path.dirname(place), href)))
         browser.value("document.querySelector('#to-end').click()")
         percents = browser.value(PERCENTS)
         yield f"{place}: the replay's damages {percents}", [str(it) for it in percents] == shown(card)[2]
-    yield f"the replays' console {browser.messages}", not browser.messages

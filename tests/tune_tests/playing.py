@@ -72,6 +72,13 @@ NOBODY = "there is no robot to play against; give files, folders with robots, --
 Ran = subprocess.CompletedProcess[str]
 
 
+def overlaps(browser: Any, path: Path) -> list[str]:
+    """What of a picture's texts is beyond its edges, or lies over others."""
+    browser.load(str(path))
+    beyond, overlapping = browser.value(SEEN)
+    return [f"{beyond} beyond, {overlapping} overlap"] if beyond or overlapping else []
+
+
 def itself(robot: str, *files: str) -> str:
     """What is said of files that are the robot itself."""
     return f"tune: left out: {', '.join(files)} ({robot} itself, or a copy with other numbers or comments)\n"
@@ -618,17 +625,15 @@ class Playing:
         if why := lacking(["chromium"]):
             skip("a curve in a browser", why)
             return []
-        from browsers import Browser, chromium
+        from browsers import tries
         long = f"name {'n' * 31}"
         (self._folder / "long.r").write_text(DRAWS.replace("400 /* tune 0..1000 step 100 name lost */", f"400 /* tune 0..2147483647 {long} */"), encoding="utf-8")
         (self._folder / "map.r").write_text((TWO % (600, 2147483647)).replace("0..1000 name two", f"0..2147483647 {long}"), encoding="utf-8")
         cases = (("-m4", "draws.r", "still.r"), ("-m320", "--until", "sure", "draws.r", "still.r"), ("-m20", "--until", "sure", "long.r", "still.r", "other.r"),
                  ("-m2", "two.r", "still.r"), ("-m80", "--until", "sure", "map.r", "still.r"), ("-m80", "switch.r", "still.r"))
         wrong = []
-        with Browser(chromium() or "") as browser:
+        with tries() as browsers:
             for words in cases:
                 self._run("--sweep", "-o", "seen.svg", *words)
-                browser.load(str(self._folder / "seen.svg"))
-                beyond, overlapping = browser.value(SEEN)
-                wrong += [f"{words}: {beyond} beyond, {overlapping} overlap"] if beyond or overlapping else []
+                wrong += [f"{words}: {why}" for why in browsers.wrong(f"tune: {words}", lambda browser: overlaps(browser, self._folder / "seen.svg"))]
         return wrong

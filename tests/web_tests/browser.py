@@ -13,7 +13,7 @@ from harness import loaded
 
 from . import embeds, everyone, firsts, helping, inside, keeping, paths, players, reels, robust, seeing, seen, worths
 from .battles import Battle, Mistake, Settings, mistakes, outcome, random_battles, sample_battles, samples, vectors
-from .pages import Page, chromium, console, is_in_time, served, without
+from .pages import Page, Tests, chromium, console, is_in_time, judged, without
 
 DEBIAN = "/usr/lib/python3/dist-packages"
 # the key as the protocol of drivers has it
@@ -417,39 +417,41 @@ def speed(page: Page) -> list[str]:
     return [] if is_in_time(took, 1) and report.startswith("Match 1: cycles = 100000\n") else [f"100,000 cycles in {took} s: {report}"]
 
 
-def results(crobots: str, stages: str, folder: str) -> Iterator[tuple[str, list[str]]]:
-    """The tests' names, and what is wrong."""
-    with served(folder) as address, chromium() as driver:
-        page = Page(driver, address)
-        yield "first draw", drawn_soon(page)
-        yield "speed", speed(page)
-        yield "samples", reports(page, crobots, sample_battles())
-        yield "vectors", reports(page, crobots, [it for it in vectors("battles", "profiles") if it.call == "run"])
-        yield "random robots", reports(page, crobots, random_battles(100, 6))
-        yield "diagnostics", marks(page)
-        yield "explanations", explanations(page)
-        yield "hostile sources", alive(page, crobots)
-        yield "listing", listing(page)
-        yield "links", links(page, crobots)
-        yield "a link from the second tab", second_tab(page)
-        yield "settings that are none", unset(page)
-        yield "watched matches", watched(page, crobots)
-        yield "a cycle beyond a film", far(page)
-        yield "a stopped series", stopped(page, crobots)
-        yield "keys", keys(page)
-        yield "the page as a file", story(page, crobots, folder, chromium)
-        yield from firsts.results(page, is_chromium=True)
-        yield from embeds.results(page, folder)
-        yield from reels.results(page)
-        yield from players.results(page)
-        yield from keeping.results(page)
-        yield from seen.results(page, folder)
-        yield from seeing.results(page, crobots)
-        yield from inside.results(page)
-        yield from helping.results(page, crobots, folder)
-        yield from worths.results(page, crobots, stages, folder)
-        yield from robust.results(page, folder)
-        yield from everyone.results(page)
-        yield from paths.results(page, folder)
-        yield "an older browser", older(page, folder)
-        yield "console", console(page)
+def tests(crobots: str, stages: str, folder: str) -> Tests:
+    """The tests by their names."""
+    yield "first draw", drawn_soon
+    yield "speed", speed
+    yield "samples", lambda page: reports(page, crobots, sample_battles())
+    yield "vectors", lambda page: reports(page, crobots, [it for it in vectors("battles", "profiles") if it.call == "run"])
+    yield "random robots", lambda page: reports(page, crobots, random_battles(100, 6))
+    yield "diagnostics", marks
+    yield "explanations", explanations
+    yield "hostile sources", lambda page: alive(page, crobots)
+    yield "listing", listing
+    yield "links", lambda page: links(page, crobots)
+    yield "a link from the second tab", second_tab
+    yield "settings that are none", unset
+    yield "watched matches", lambda page: watched(page, crobots)
+    yield "a cycle beyond a film", far
+    yield "a stopped series", lambda page: stopped(page, crobots)
+    yield "keys", keys
+    yield "the page as a file", lambda page: story(page, crobots, folder, chromium)
+    yield from firsts.tests(is_chromium=True)
+    yield from embeds.tests(folder)
+    yield from reels.tests()
+    yield from players.tests()
+    yield from keeping.tests()
+    yield from seen.tests(folder)
+    yield from seeing.tests(crobots)
+    yield from inside.tests()
+    yield from helping.tests(crobots, folder)
+    yield from worths.tests(crobots, stages, folder)
+    yield from robust.tests(folder)
+    yield from everyone.tests()
+    yield from paths.tests("Chromium", folder)
+    yield "an older browser", lambda page: older(page, folder)
+
+
+def results(crobots: str, stages: str, folder: str, place: str) -> Iterator[tuple[str, list[str]]]:
+    """The names of those tests that are taken here, and what is wrong."""
+    return judged("browser", chromium, folder, tests(crobots, stages, folder), place)

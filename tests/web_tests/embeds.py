@@ -12,7 +12,7 @@ from typing import Iterator
 
 from .battles import Battle, Settings
 from .firsts import MOVES, PLAYER, STANDS, is_from
-from .pages import Page, fragment, served
+from .pages import Page, Tests, fragment, served
 
 BATTLE = Battle([("mover.r", b"main() { while (1) drive(90, 50); }"), ("still.r", b"main() { }")], Settings(limit=3_000, first=4))
 # frames as other pages have them
@@ -113,6 +113,7 @@ def in_a_frame(page: Page, folder: str) -> list[str]:
         inner = PLAYER.replace("document", "document.getElementById('film').contentDocument?", 1)
         page.wait(f"return {inner}?.isPlaying && {inner}.cycle > 0".replace("contentDocument?.getElementById('film').contentWindow",
                                                                           "contentDocument?.getElementById('film')?.contentWindow"))
+    page.open()
     return []
 
 
@@ -127,11 +128,10 @@ def heads(folder: str) -> list[str]:
     return wrong + ([] if len(policies) == 1 else [f"{policies}"])
 
 
-def results(page: Page, folder: str) -> Iterator[tuple[str, list[str]]]:
-    """The tests' names, and what is wrong."""
-    yield "the field alone: by its address", by_address(page)
-    yield "the field alone: in sight", in_sight(page)
-    yield "the field alone: keeps nothing", keeps_nothing(page)
-    yield "the field alone: in a frame", in_a_frame(page, folder)
-    yield "the field alone: heads and policies", heads(folder)
-    page.open()
+def tests(folder: str) -> Tests:
+    """The tests by their names."""
+    yield "the field alone: by its address", by_address
+    yield "the field alone: in sight", in_sight
+    yield "the field alone: keeps nothing", keeps_nothing
+    yield "the field alone: in a frame", lambda page: in_a_frame(page, folder)
+    yield "the field alone: heads and policies", lambda _: heads(folder)

@@ -4,10 +4,10 @@ from __future__ import annotations
 
 import os
 import re
-from typing import Any, Iterator
+from typing import Any
 
 from .battles import Battle, Settings, samples
-from .pages import Page
+from .pages import Page, Tests
 
 WIDTHS = (320, 360, 683, 768, 1366, 1920)
 HEIGHT = 800
@@ -188,8 +188,7 @@ def still(page: Page) -> list[str]:
     return [] if least[0] < MOST_A_PICTURE <= least[1] else [f"milliseconds between pictures: {least}"]
 
 
-def results(page: Page) -> Iterator[tuple[str, list[str]]]:
-    """The tests' names, and what is wrong."""
-    tests: list[Any] = [widths, contrast, touch, named, forced_colours, in_words, still]
-    for test in tests:
-        yield f"for everyone: {test.__name__.replace('_', ' ')}", test(page)
+def tests() -> Tests:
+    """The tests by their names."""
+    all_: list[Any] = [widths, contrast, touch, named, forced_colours, in_words, still]
+    yield from ((f"for everyone: {test.__name__.replace('_', ' ')}", test) for test in all_)

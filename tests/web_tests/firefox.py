@@ -8,7 +8,7 @@ from typing import Iterator
 from . import browser, embeds, everyone, firsts, inside, paths, reels, worths
 from .battles import random_battles, sample_battles
 from .marionette import firefox, program
-from .pages import Page, served
+from .pages import Page, Tests, judged
 
 
 def lacking(folder: str) -> str:
@@ -17,24 +17,31 @@ def lacking(folder: str) -> str:
     return f"there is no {' and no '.join(missing)}" if missing else ""
 
 
-def results(crobots: str, stages: str, folder: str) -> Iterator[tuple[str, list[str]]]:
-    """The tests' names, and what is wrong."""
-    with served(folder) as address, firefox() as driver:
-        page = Page(driver, address)
-        yield "first draw", browser.drawn_soon(page)
-        page.open()
-        yield "samples", browser.reports(page, crobots, sample_battles()[::3])
-        yield "random robots", browser.reports(page, crobots, random_battles(10, 8))
-        yield "explanations", browser.explanations(page)
-        yield "links", browser.links(page, crobots)
-        yield "watched matches", browser.watched(page, crobots)
-        yield "widths", everyone.widths(page)
-        yield from firsts.results(page)
-        yield from embeds.results(page, folder)
-        yield from reels.results(page)
-        yield from inside.results(page)
-        yield from worths.few(page, crobots, stages, folder)
-        yield from paths.results(page, folder)
-        other = Page(driver, "file://" + os.path.join(os.path.abspath(folder), "index.html"))
-        other.open()
-        yield "the page as a file", browser.reports(other, crobots, sample_battles()[20:21])
+def as_a_file(page: Page, crobots: str, folder: str) -> list[str]:
+    """A battle on the page as a file."""
+    other = Page(page.driver, "file://" + os.path.join(os.path.abspath(folder), "index.html"))
+    other.open()
+    return browser.reports(other, crobots, sample_battles()[20:21])
+
+
+def tests(crobots: str, stages: str, folder: str) -> Tests:
+    """The tests by their names."""
+    yield "first draw", browser.drawn_soon
+    yield "samples", lambda page: browser.reports(page, crobots, sample_battles()[::3])
+    yield "random robots", lambda page: browser.reports(page, crobots, random_battles(10, 8))
+    yield "explanations", browser.explanations
+    yield "links", lambda page: browser.links(page, crobots)
+    yield "watched matches", lambda page: browser.watched(page, crobots)
+    yield "widths", everyone.widths
+    yield from firsts.tests()
+    yield from embeds.tests(folder)
+    yield from reels.tests()
+    yield from inside.tests()
+    yield from worths.few(crobots, stages, folder)
+    yield from paths.tests("Firefox", folder)
+    yield "the page as a file", lambda page: as_a_file(page, crobots, folder)
+
+
+def results(crobots: str, stages: str, folder: str, place: str) -> Iterator[tuple[str, list[str]]]:
+    """The names of those tests that are taken here, and what is wrong."""
+    return judged("firefox", firefox, folder, tests(crobots, stages, folder), place)

@@ -2,10 +2,10 @@
 
 from __future__ import annotations
 
-from typing import Callable, Iterator
+from typing import Callable
 
 from .battles import Battle, Settings, samples
-from .pages import Page, fragment, is_in_time
+from .pages import Page, Tests, fragment, is_in_time
 
 SIZES = ((1366, 768), (1920, 1080), (740, 360), (360, 740))
 PLAYER = "document.getElementById('film').contentWindow?.player"
@@ -246,7 +246,6 @@ SHOWN: dict[str, Callable[[Page], list[str]]] = {
 DRIVEN: dict[str, Callable[[Page], list[str]]] = {"no motion": calm, "before the editor": before_the_editor, "no press is lost": heard, "soon": soon}
 
 
-def results(page: Page, is_chromium: bool = False) -> Iterator[tuple[str, list[str]]]:
-    """The tests' names, and what is wrong."""
-    for name, test in (SHOWN | DRIVEN if is_chromium else SHOWN).items():
-        yield f"the first second: {name}", test(page)
+def tests(is_chromium: bool = False) -> Tests:
+    """The tests by their names."""
+    yield from ((f"the first second: {name}", test) for name, test in (SHOWN | DRIVEN if is_chromium else SHOWN).items())

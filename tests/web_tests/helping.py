@@ -7,10 +7,8 @@ import html
 import json
 import os
 import re
-from typing import Any, Iterator
-
 from .battles import Battle, Settings, samples
-from .pages import Page
+from .pages import Page, Tests
 
 MIRROR = "document.querySelector('.CodeMirror').CodeMirror"
 MANUAL = os.path.join(os.path.dirname(os.path.abspath(__file__)), "..", "..", "man", "crobots-robots.6")
@@ -142,10 +140,12 @@ def other_pages(page: Page, folder: str) -> list[str]:
     return wrong + [f"the manual lacks: {line}" for line in plain if " ".join(line.split()) not in text]
 
 
-def results(page: Page, crobots: str, folder: str) -> Iterator[tuple[str, list[str]]]:
-    """The tests' names, and what is wrong."""
-    tests: dict[str, Any] = {"panel": lambda: panel(page, crobots), "arguments": lambda: arguments(page), "tooltip": lambda: tooltip(page),
-                             "completion": lambda: completion(page), "steps": lambda: steps(page, crobots, folder), "levels": lambda: levels(page),
-                             "other pages": lambda: other_pages(page, folder)}
-    for name, test in tests.items():
-        yield f"help: {name}", test()
+def tests(crobots: str, folder: str) -> Tests:
+    """The tests by their names."""
+    yield "help: panel", lambda page: panel(page, crobots)
+    yield "help: arguments", arguments
+    yield "help: tooltip", tooltip
+    yield "help: completion", completion
+    yield "help: steps", lambda page: steps(page, crobots, folder)
+    yield "help: levels", levels
+    yield "help: other pages", lambda page: other_pages(page, folder)

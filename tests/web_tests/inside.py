@@ -2,10 +2,8 @@
 
 from __future__ import annotations
 
-from typing import Iterator
-
 from .battles import Battle, Settings
-from .pages import Page
+from .pages import Page, Tests
 
 # CONST 1 and BRANCH of line 4; FRAME, CONST 0, CONST 5, FCALL scan, STORE a, CHOP of line 5; FETCH, CONST 1, BINOP +, STORE seen, CHOP of
 # line 6; CONST 0 and BRANCH back: a turn is 15 cycles
@@ -143,11 +141,11 @@ def kept_focus(page: Page) -> list[str]:
     return []
 
 
-def results(page: Page) -> Iterator[tuple[str, list[str]]]:
-    """The tests' names, and what is wrong."""
-    yield "moments inside", moments(page)
-    yield "lines inside", lines(page)
-    yield "calls inside", calls(page)
-    yield "steps inside", steps(page)
-    yield "a turned screen inside", turned(page)
-    yield "the focus inside", kept_focus(page)
+def tests() -> Tests:
+    """The tests by their names."""
+    yield "moments inside", moments
+    yield "lines inside", lines
+    yield "calls inside", calls
+    yield "steps inside", steps
+    yield "a turned screen inside", turned
+    yield "the focus inside", kept_focus

@@ -6,10 +6,10 @@ import json
 import os
 import tempfile
 import time
-from typing import Any, Iterator
+from typing import Any
 
 from .battles import Battle, samples
-from .pages import SECONDS, Page, fragment
+from .pages import SECONDS, Page, Tests, fragment
 
 OWN = "main() { while (1) drive(10, 20); }"
 FRIEND = "main() { while (1) drive(30, 40); }"
@@ -330,9 +330,8 @@ def own_link(page: Page) -> list[str]:
     return wrong + (["it is listed as one from a link"] if "from a link" in listed else [])
 
 
-def results(page: Page) -> Iterator[tuple[str, list[str]]]:
-    """The tests' names, and what is wrong."""
-    tests: list[Any] = [a_sample, a_link, a_link_in_the_open_page, next_day, many_steps, two_tabs, removing, full, undo, opening, saving, former,
+def tests() -> Tests:
+    """The tests by their names."""
+    all_: list[Any] = [a_sample, a_link, a_link_in_the_open_page, next_day, many_steps, two_tabs, removing, full, undo, opening, saving, former,
                         undo_leaves_newer, replaced_is_found, versions, carried, own_link]
-    for test in tests:
-        yield f"nothing is lost: {test.__name__.replace('_', ' ')}", test(page)
+    yield from ((f"nothing is lost: {test.__name__.replace('_', ' ')}", test) for test in all_)

@@ -7,13 +7,14 @@ import json
 import os
 import shutil
 import socket
-import subprocess
 import tempfile
 import time
 from typing import Any, Iterator
 
-# for an answer, and for the browser's start on a machine that has much else to do
-SECONDS, SECONDS_OF_A_START = 180, 300
+from tries import group, has_ended
+
+# for an answer, and for the browser's start, on a machine that has much else to do; and for its end
+SECONDS, SECONDS_OF_A_START, SECONDS_OF_AN_END = 180, 300, 10
 # a window is no narrower, so a narrower page is shown magnified by one of these
 LEAST_WIDTH, SCALES = 500, (1, 1.5, 2)
 ELEMENT = "element-6066-11e4-a52e-4f735466cecf"
@@ -52,7 +53,11 @@ class Firefox:
     def _hear(self) -> Any:
         """What the browser says next: a number of bytes, a colon, and these bytes."""
         while b":" not in self._rest or len(self._rest.partition(b":")[2]) < int(self._rest.partition(b":")[0]):
-            more = self._socket.recv(1 << 16)
+            try:
+                more = self._socket.recv(1 << 16)
+            except TimeoutError as why:
+                # nobody asks it more
+                raise RuntimeError("the browser doesn't answer") from why
             if not more:
                 raise RuntimeError("the browser ended")
             self._rest += more
@@ -146,11 +151,8 @@ def firefox() -> Iterator[Firefox]:
         with open(os.path.join(profile, "user.js"), "w", encoding="ascii") as file:
             file.writelines(f"user_pref({json.dumps(name)}, {json.dumps(value)});\n" for name, value in PREFERENCES.items())
         words = [program() or "", "--headless", "--no-remote", "--marionette", "--remote-allow-system-access", "--profile", profile, "about:blank"]
-        with subprocess.Popen(words, stdin=subprocess.DEVNULL, stdout=subprocess.DEVNULL, stderr=subprocess.DEVNULL) as child:
-            try:
-                driver = Firefox(port_of(profile))
-                yield driver
-                driver.quit()
-                child.wait(SECONDS)
-            finally:
-                child.kill()
+        with group(words) as child:
+            driver = Firefox(port_of(profile))
+            yield driver
+            driver.quit()
+            has_ended(child, SECONDS_OF_AN_END)

@@ -10,19 +10,21 @@ import importlib
 import json
 import os
 import shutil
+import socket
 import tempfile
 import threading
 import time
 import urllib.parse
 import zlib
-from typing import Any, Callable, Iterator
+from typing import Any, Callable, ContextManager, Iterable, Iterator
 
 from browsers import READ_BACK
+from tries import Tries, group
 
 from .battles import Battle
 
-# for what is waited for, on a machine that has much else to do
-SECONDS = 180
+# for what is waited for, and for an answer of a browser, on a machine that has much else to do
+SECONDS, SECONDS_OF_AN_ANSWER = 180, 400
 
 
 # counts the pictures since the layout was another one
@@ -102,6 +104,29 @@ def changed(folder: str, name: str, change: Callable[[str], str]) -> Iterator[st
 
 
 @contextlib.contextmanager
+def driven(program: str) -> Iterator[int]:
+    """The port at which a driver of browsers listens."""
+    with contextlib.closing(socket.create_server(("127.0.0.1", 0))) as taken:
+        port = int(taken.getsockname()[1])
+    connection: Any = importlib.import_module("selenium.webdriver.remote.remote_connection")
+    connection.RemoteConnection.set_timeout(SECONDS_OF_AN_ANSWER)
+    with group([shutil.which(program) or program, f"--port={port}"]):
+        end = time.monotonic() + SECONDS
+        while not listens(port):
+            if time.monotonic() > end:
+                raise TimeoutError(f"{program} doesn't listen")
+            time.sleep(0.05)
+        yield port
+
+
+def listens(port: int) -> bool:
+    """Whether something takes connections at a port of this machine."""
+    with contextlib.suppress(OSError), socket.create_connection(("127.0.0.1", port), SECONDS):
+        return True
+    return False
+
+
+@contextlib.contextmanager
 def chromium() -> Iterator[Any]:
     """A browser without a window."""
     webdriver: Any = importlib.import_module("selenium.webdriver")
@@ -111,12 +136,13 @@ def chromium() -> Iterator[Any]:
         options.add_argument(word)
     options.set_capability("goog:loggingPrefs", {"browser": "ALL"})
     service: Any = importlib.import_module("selenium.webdriver.chrome.service")
-    driver = webdriver.Chrome(service=service.Service(shutil.which("chromedriver")), options=options)
-    # a source of a megabyte takes long on a machine that has much else to do
-    driver.set_script_timeout(2 * SECONDS)
-    try:
+    with driven("chromedriver") as port:
+        begun = service.Service(shutil.which("chromedriver"), port=port)
+        begun.start = begun.stop = lambda: None
+        driver = webdriver.Chrome(service=begun, options=options)
+        # a source of a megabyte takes long on a machine that has much else to do
+        driver.set_script_timeout(2 * SECONDS)
         yield driver
-    finally:
         driver.quit()
 
 
@@ -305,3 +331,35 @@ def console(page: Page) -> list[str]:
     pages that nobody touched."""
     said = [entry["message"] for entry in page.driver.get_log("browser")] if page.driver.name == "chrome" else []
     return [line for line in said if READ_BACK not in line and "'beforeunload'" not in line]
+
+
+# the tests' names, and what is wrong by each on a page that is open
+Tests = Iterator[tuple[str, Callable[[Page], Iterable[str]]]]
+
+
+def taken(place: str, number: int) -> bool:
+    """Whether nobody else has taken the test of this number, of those that take them from a folder side by side."""
+    os.makedirs(place, exist_ok=True)
+    try:
+        os.close(os.open(os.path.join(place, str(number)), os.O_CREAT | os.O_EXCL))
+    except FileExistsError:
+        return False
+    return True
+
+
+def judged(part: str, begin: Callable[[], ContextManager[Any]], folder: str, tests: Tests, place: str) -> Iterator[tuple[str, list[str]]]:
+    """What is wrong by each test of a part that is taken from a folder, in browsers that are begun so, on the page that is served. What a test
+    leaves on the console is wrong."""
+    with served(folder) as address:
+
+        @contextlib.contextmanager
+        def opened() -> Iterator[Page]:
+            with begin() as driver:
+                page = Page(driver, address)
+                page.open()
+                yield page
+
+        with Tries(opened, console) as tries:
+            for number, (name, test) in enumerate(tests):
+                if taken(place, number):
+                    yield name, tries.wrong(f"{part}: {name}", test)

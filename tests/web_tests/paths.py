@@ -2,7 +2,7 @@
 
 The sample is changed and broken, the advice is read, the fault is mended. The robot is watched at the moment it is hit. A
 better one wins. It is saved, a link is made, a friend's link is opened, and the next day one's own robots are there. `WAYS`
-has who goes how. Each browser walks three of them; with CROBOTS_PATHS=all all ten, which are thirty in the three browsers."""
+has who goes how. Each browser walks a third of them; with CROBOTS_PATHS=all each walks all."""
 
 from __future__ import annotations
 
@@ -10,10 +10,11 @@ import contextlib
 import os
 import time
 from dataclasses import dataclass
+from functools import partial
 from typing import Any, Callable, Iterator
 
 from .battles import Battle
-from .pages import SECONDS, Page, fragment
+from .pages import SECONDS, Page, Tests, fragment
 
 LAPTOP, SCREEN, LOW, PHONE = (1366, 768), (1920, 1080), (740, 360), (360, 740)
 # how often the tab key is pressed again, for as many stops as then lie between
@@ -80,8 +81,8 @@ WAYS = (
     Way("touch", SCREEN, NAME, "report", "sample", "followed"),
     Way("mouse", LOW, TWICE, "report", "sample", "looked at"),
 )
-# who walks which of them at each run: all are walked, and by each browser some by mouse, by keys and by touch
-BROWSERS = ("chrome", "firefox", "MiniBrowser")
+# at each run each walks a third of them, some by mouse, some by keys and some by touch
+BROWSERS = ("Chromium", "Firefox", "WebKit")
 
 
 class Reader:
@@ -396,24 +397,29 @@ def whole(reader: Reader) -> Iterator[tuple[str, Callable[[], Any]]]:
     yield "come back", lambda: come_back(reader, names)
 
 
-def path(page: Page, way: Way) -> list[str]:
-    """The whole way; what is wrong with it."""
-    page.size(*way.size)
-    page.fresh()
-    for name, part in whole(Reader(page, way)):
+def path(page: Page, folder: str, way: Way) -> list[str]:
+    """The whole way; what is wrong with it. How long it took is printed."""
+    begun = time.monotonic()
+    walked = Page(page.driver, "file://" + os.path.join(os.path.abspath(folder), "index.html")) if way.is_file else page
+    walked.size(*way.size)
+    walked.fresh()
+    for name, part in whole(Reader(walked, way)):
         try:
             part()
         except TimeoutError as why:
-            return [f"{name}: {why}; {page.js('return document.body.innerText').splitlines()[:40]}"]
+            return [f"{name}: {why}; {walked.js('return document.body.innerText').splitlines()[:40]}"]
+    print(f"{way.name} in {page.driver.name} took {time.monotonic() - begun:.1f} s")
+    page.whole_window()
     return []
 
 
-def results(page: Page, folder: str) -> Iterator[tuple[str, list[str]]]:
-    """The tests' names, and what is wrong; how long each took is printed."""
-    file = Page(page.driver, "file://" + os.path.join(os.path.abspath(folder), "index.html"))
-    for way in WAYS if os.environ.get("CROBOTS_PATHS") == "all" else WAYS[:FEW]:
-        begun = time.monotonic()
-        wrong = path(file if way.is_file else page, way)
-        print(f"{way.name} in {page.driver.name} took {time.monotonic() - begun:.1f} s")
-        yield way.name, wrong
-    page.whole_window()
+def walked_by(browser: str) -> tuple[Way, ...]:
+    """The ways that a browser walks at each run."""
+    at = BROWSERS.index(browser)
+    first, last = (len(WAYS) * it // len(BROWSERS) for it in (at, at + 1))
+    return WAYS if os.environ.get("CROBOTS_PATHS") == "all" else WAYS[first:last]
+
+
+def tests(browser: str, folder: str) -> Tests:
+    """The tests by their names."""
+    yield from ((way.name, partial(path, folder=folder, way=way)) for way in walked_by(browser))

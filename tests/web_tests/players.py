@@ -2,11 +2,9 @@
 
 from __future__ import annotations
 
-from typing import Iterator
-
 from .battles import Battle, Settings
 from .keeping import BLOCKED, NO_DATABASE, OWN
-from .pages import Page
+from .pages import Page, Tests
 
 PLAYER = "document.getElementById('film').contentWindow.player"
 # what the film shows after a key: its cycle, whether it plays, the robot that is chosen
@@ -80,8 +78,8 @@ def leaving(page: Page) -> list[str]:
     return [] if asked == [False, False, False, True, True, False] else [f"{asked}"]
 
 
-def results(page: Page) -> Iterator[tuple[str, list[str]]]:
-    """The tests' names, and what is wrong."""
-    yield "the film's keys", keys(page)
-    yield "the whole screen", whole_screen(page)
-    yield "leaving what isn't kept", leaving(page)
+def tests() -> Tests:
+    """The tests by their names."""
+    yield "the film's keys", keys
+    yield "the whole screen", whole_screen
+    yield "leaving what isn't kept", leaving

@@ -3,10 +3,9 @@
 from __future__ import annotations
 
 import xml.etree.ElementTree
-from typing import Iterator
 
 from .battles import Battle, Settings, samples
-from .pages import Page
+from .pages import Page, Tests
 
 # the bytes that a WebM begins with
 EBML = [0x1A, 0x45, 0xDF, 0xA3]
@@ -69,7 +68,7 @@ def webm(page: Page) -> list[str]:
     return [] if right else [f"{begin} {codec} {kind} {page.text('film-webm')}"]
 
 
-def results(page: Page) -> Iterator[tuple[str, list[str]]]:
-    """The tests' names, and what is wrong."""
-    yield "a film as SVG", svg(page)
-    yield "a film as a video", webm(page)
+def tests() -> Tests:
+    """The tests by their names."""
+    yield "a film as SVG", svg
+    yield "a film as a video", webm

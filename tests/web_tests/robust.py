@@ -8,10 +8,10 @@ import os
 import re
 import time
 import zipfile
-from typing import Callable, Iterator
+from typing import Callable
 
 from .battles import Battle, Settings, samples
-from .pages import Page, changed, console, is_in_time, packed, without
+from .pages import Page, Tests, changed, console, is_in_time, packed, without
 
 FIELD = "document.querySelector('#writing textarea:not([style*=none])')"
 # a link of 78 KB that unpacks to 60 MB
@@ -217,21 +217,26 @@ def about(folder: str) -> list[str]:
     return wrong + [f"nothing of {it}" for it in told if it not in text]
 
 
-def hostile_links(page: Page) -> Iterator[tuple[str, list[str]]]:
-    """The tests of links that are no good."""
-    yield "robust: a link that is a bomb", bomb(page)
-    yield "robust: names in disguise", disguises(page)
-    yield "robust: strange settings", strange_settings(page)
+def missing(folder: str) -> Tests:
+    """The tests of files that are missing by their names."""
+    yield "robust: a missing part of the editor", lambda page: plain(page, folder)
+    yield "robust: missing data", lambda page: no_data(page, folder)
 
 
-def results(page: Page, folder: str) -> Iterator[tuple[str, list[str]]]:
-    """The tests' names, and what is wrong."""
-    yield "robust: a missing part of the editor", plain(page, folder)
-    yield "robust: missing data", no_data(page, folder)
-    yield "robust: damaged files", damaged(page, folder)
-    yield "robust: a module that doesn't fit", misfit(page, folder)
-    yield "robust: a worker that dies", dying(page)
-    yield from hostile_links(page)
-    yield "robust: the policy", policy(page, folder)
-    yield "robust: size and zip", size(folder)
-    yield "robust: about", about(folder)
+def hostile_links() -> Tests:
+    """The tests of links that are no good by their names."""
+    yield "robust: a link that is a bomb", bomb
+    yield "robust: names in disguise", disguises
+    yield "robust: strange settings", strange_settings
+
+
+def tests(folder: str) -> Tests:
+    """The tests by their names."""
+    yield from missing(folder)
+    yield "robust: damaged files", lambda page: damaged(page, folder)
+    yield "robust: a module that doesn't fit", lambda page: misfit(page, folder)
+    yield "robust: a worker that dies", dying
+    yield from hostile_links()
+    yield "robust: the policy", lambda page: policy(page, folder)
+    yield "robust: size and zip", lambda _: size(folder)
+    yield "robust: about", lambda _: about(folder)

@@ -3,11 +3,11 @@
 from __future__ import annotations
 
 import re
-from typing import Any, Iterator
+from typing import Any
 
 from .battles import Battle, Settings, samples
 from .keeping import NO_DATABASE
-from .pages import Page
+from .pages import Page, Tests
 
 MIRROR = "document.querySelector('.CodeMirror').CodeMirror"
 # windows of a usual laptop, a large screen, a phone
@@ -234,9 +234,8 @@ def one_name(page: Page) -> list[str]:
     return wrong
 
 
-def results(page: Page, crobots: str) -> Iterator[tuple[str, list[str]]]:
-    """The tests' names, and what is wrong."""
-    yield "in sight: series", series(page, crobots)
-    tests: list[Any] = [film_fits, messages, no_future, seeds, first_match, ages, diagnostic, listing_marks, progress, long_text, rows, found, one_name]
-    for test in tests:
-        yield f"in sight: {test.__name__.replace('_', ' ')}", test(page)
+def tests(crobots: str) -> Tests:
+    """The tests by their names."""
+    yield "in sight: series", lambda page: series(page, crobots)
+    all_: list[Any] = [film_fits, messages, no_future, seeds, first_match, ages, diagnostic, listing_marks, progress, long_text, rows, found, one_name]
+    yield from ((f"in sight: {test.__name__.replace('_', ' ')}", test) for test in all_)

@@ -4,11 +4,12 @@ from __future__ import annotations
 
 import os
 import random
-from typing import Callable, Iterator
+from functools import partial
+from typing import Any
 
 from .battles import Battle, Settings, samples
 from .keeping import dropped
-from .pages import Page, fragment
+from .pages import Page, Tests, fragment
 
 SIZES = ((1366, 768), (1920, 1080), (740, 360), (683, 384), (360, 740))
 STILL = ("still.r", b"main(){}")
@@ -32,7 +33,7 @@ COLOURS = """const it = document.getElementById('film').contentDocument.getEleme
     return count"""
 
 
-def wrong_link(page: Page, _folder: str) -> list[str]:
+def wrong_link(page: Page, folder: str) -> list[str]:
     """No link is made with a setting out of its limits, and it is said which one."""
     page.fresh()
     wrong = []
@@ -74,7 +75,7 @@ def long_links(page: Page, folder: str) -> list[str]:
     return wrong
 
 
-def zeros(page: Page, _folder: str) -> list[str]:
+def zeros(page: Page, folder: str) -> list[str]:
     """A seed may begin with zeros: it is the number that they begin."""
     page.show(Battle(samples()[:2], Settings(limit=3_000)))
     page.set("seed", "7")
@@ -83,7 +84,7 @@ def zeros(page: Page, _folder: str) -> list[str]:
     return [] if page.run() == plain else [page.text("said")]
 
 
-def mark(page: Page, _folder: str) -> list[str]:
+def mark(page: Page, folder: str) -> list[str]:
     """A byte order mark of a file is a letter of the source."""
     page.fresh()
     dropped(page, {"mark.r": "\ufeffmain() {}\n"})
@@ -91,7 +92,7 @@ def mark(page: Page, _folder: str) -> list[str]:
     return [] if page.source == "\ufeffmain() {}\n" else [repr(page.source)]
 
 
-def blanks(page: Page, _folder: str) -> list[str]:
+def blanks(page: Page, folder: str) -> list[str]:
     """Blanks around a name are no part of it: the tab and the report have it without them at once, and after a link too."""
     page.show(Battle([STILL, ("other.r", STILL[1])], Settings(limit=1)))
     page.set("name", "  a b.r  ")
@@ -101,7 +102,7 @@ def blanks(page: Page, _folder: str) -> list[str]:
     return [] if before == after and before[0] == "a b.r" else [f"{before}, and then {after}"]
 
 
-def many_matches(page: Page, _folder: str) -> list[str]:
+def many_matches(page: Page, folder: str) -> list[str]:
     """Of a long report the page says how many matches can be pressed; what has no number of a film is none of them."""
     page.show(Battle([STILL], Settings(6_000, 1)))
     page.run()
@@ -113,7 +114,7 @@ def many_matches(page: Page, _folder: str) -> list[str]:
     return wrong + ([] if page.seen("report-left") == "Matches after number 1,000,000 can't be watched." else [page.seen("report-left")])
 
 
-def reloaded(page: Page, _folder: str) -> list[str]:
+def reloaded(page: Page, folder: str) -> list[str]:
     """The report is there after a reload, its matches can be pressed, and it says whether it is of an older battle."""
     page.fresh()
     page.set("matches", "3")
@@ -125,7 +126,7 @@ def reloaded(page: Page, _folder: str) -> list[str]:
     return [] if got == (report, "", 3) and page.seen("report-age") else [f"{got}"]
 
 
-def in_sight(page: Page, _folder: str) -> list[str]:
+def in_sight(page: Page, folder: str) -> list[str]:
     """At each size of a window the field, the play button and Run are in sight at once, and the menu of speeds is beside them; also below
     a notice with a way back to one's own robots."""
     page.size(*SIZES[0])
@@ -145,7 +146,7 @@ def in_sight(page: Page, _folder: str) -> list[str]:
     return wrong
 
 
-def stepping(page: Page, _folder: str) -> list[str]:
+def stepping(page: Page, folder: str) -> list[str]:
     """While one steps inside a robot, the field and the line that it is at are in sight at once."""
     wrong = []
     for seed, size in enumerate(SIZES):
@@ -167,7 +168,7 @@ def stepping(page: Page, _folder: str) -> list[str]:
     return wrong
 
 
-def long_names(page: Page, _folder: str) -> list[str]:
+def long_names(page: Page, folder: str) -> list[str]:
     """No name makes the page wider than a narrow window, whatever is open."""
     wrong = []
     page.size(360, 740)
@@ -185,7 +186,7 @@ def long_names(page: Page, _folder: str) -> list[str]:
     return wrong
 
 
-def keys(page: Page, _folder: str) -> list[str]:
+def keys(page: Page, folder: str) -> list[str]:
     """Links lead past all else, to the editor and to the field; Run is a few keys away, and its button says the key that does it at once."""
     page.fresh()
     page.js("document.body.tabIndex = -1; document.body.focus()")
@@ -217,7 +218,7 @@ IN_SIGHT = """const it = document.activeElement, {left, top, right, bottom} = it
 MOST_TABS = 150
 
 
-def focus(page: Page, _folder: str) -> list[str]:
+def focus(page: Page, folder: str) -> list[str]:
     """Who goes through the page by the tab key sees what has the focus, at each size of a window: nothing lies over it."""
     wrong = []
     for size in SIZES:
@@ -236,7 +237,7 @@ def focus(page: Page, _folder: str) -> list[str]:
     return wrong
 
 
-def graph(page: Page, _folder: str) -> list[str]:
+def graph(page: Page, folder: str) -> list[str]:
     """The graph of damage doesn't tell what comes: it grows with the film; a switch shows all of it."""
     page.show(Battle(samples()[:2], Settings(limit=60_000)))
     page.watch(1)
@@ -248,7 +249,7 @@ def graph(page: Page, _folder: str) -> list[str]:
     return [] if counts[0] * 20 < counts[1] and counts[0] * 20 < counts[2] else [f"{counts} coloured pixels"]
 
 
-def totals(page: Page, _folder: str) -> list[str]:
+def totals(page: Page, folder: str) -> list[str]:
     """Who won is in sight at once, above the reports of many matches."""
     page.size(1366, 768)
     page.show(Battle([*samples()[:2]], Settings(100, 500)))
@@ -260,7 +261,7 @@ def totals(page: Page, _folder: str) -> list[str]:
     return [] if report.endswith(shown) and shown.startswith("Totals: 100 matches\n") and 0 < box[0] < box[1] < box[2] else [f"{box} {shown}"]
 
 
-def try_it(page: Page, _folder: str) -> list[str]:
+def try_it(page: Page, folder: str) -> list[str]:
     """After a step is tried, the battle is run where that is said."""
     page.fresh()
     page.js("document.getElementById('start').open = true; document.querySelector('#steps button').click()")
@@ -270,7 +271,7 @@ def try_it(page: Page, _folder: str) -> list[str]:
     return [] if "step1.r" in page.text("report") else [page.text("report")]
 
 
-def lazy_frame(page: Page, _folder: str) -> list[str]:
+def lazy_frame(page: Page, folder: str) -> list[str]:
     """If the film's frame doesn't load, it is made anew; Run and Watch can be pressed again."""
     with page.before(LAZY):
         page.fresh()
@@ -284,7 +285,7 @@ def lazy_frame(page: Page, _folder: str) -> list[str]:
     return [] if free == [False, False] else [f"{free}"]
 
 
-def bars(page: Page, _folder: str) -> list[str]:
+def bars(page: Page, folder: str) -> list[str]:
     """Beside each bar of a film stands that it is damage, in a narrow window too."""
     page.size(360, 740)
     page.fresh()
@@ -294,7 +295,7 @@ def bars(page: Page, _folder: str) -> list[str]:
     return [] if len(words) == 2 and all(word.startswith("damage") for word in words) else [f"{words}"]
 
 
-def own_work_beside_links(page: Page, _folder: str) -> list[str]:
+def own_work_beside_links(page: Page, folder: str) -> list[str]:
     """A link to a battle that is no sample, followed and run, leaves one's own battle the one to come back to."""
     page.fresh()
     page.write("main() { drive(1, 1); }")
@@ -306,7 +307,7 @@ def own_work_beside_links(page: Page, _folder: str) -> list[str]:
     return [] if page.seen("linked").startswith("This battle came with a link") else [page.seen("linked")]
 
 
-def moments(page: Page, _folder: str) -> list[str]:
+def moments(page: Page, folder: str) -> list[str]:
     """A link to a moment plays its match from some cycles before it on, whatever was set since; watching keeps the battle, as a run does."""
     page.show(Battle([("mover.r", b"main() { while (1) drive(90, 50); }"), STILL], Settings(limit=3_000, first=2)))
     page.watch(3, 900)
@@ -323,7 +324,7 @@ def moments(page: Page, _folder: str) -> list[str]:
     return [] if right else [f"{link[-30:]} {at} {kept}"]
 
 
-TESTS: dict[str, Callable[[Page, str], list[str]]] = {
+TESTS: dict[str, Any] = {
     "a link out of the limits": wrong_link, "links that are too long": long_links, "a seed with zeros": zeros, "a byte order mark": mark,
     "blanks around a name": blanks, "many matches": many_matches, "a report after a reload": reloaded, "in sight at once": in_sight,
     "stepping beside the field": stepping, "long names": long_names, "few keys": keys, "the focus": focus, "a graph that grows": graph, "totals": totals,
@@ -331,7 +332,6 @@ TESTS: dict[str, Callable[[Page, str], list[str]]] = {
 }
 
 
-def results(page: Page, folder: str) -> Iterator[tuple[str, list[str]]]:
-    """The tests' names, and what is wrong."""
-    for name, test in TESTS.items():
-        yield f"seen: {name}", test(page, folder)
+def tests(folder: str) -> Tests:
+    """The tests by their names."""
+    yield from ((f"seen: {name}", partial(test, folder=folder)) for name, test in TESTS.items())

@@ -11,9 +11,11 @@ import subprocess
 import tempfile
 from typing import Any, Iterator
 
+from tries import group
+
 from . import browser, embeds, everyone, firsts, inside, paths, reels, robust, worths
 from .battles import random_battles, sample_battles
-from .pages import Page, served
+from .pages import Tests, driven, judged
 
 BROWSERS = "/usr/lib/*/webkit2gtk-4.*/MiniBrowser"
 DRIVER, DISPLAY = "WebKitWebDriver", "Xvfb"
@@ -63,57 +65,54 @@ def style() -> Iterator[None]:
 def display() -> Iterator[None]:
     """A screen that nobody sees, for the programs that are started meanwhile."""
     words = [DISPLAY, "-displayfd", "1", "-screen", "0", SCREEN, "-nolisten", "tcp"]
-    with subprocess.Popen(words, stdout=subprocess.PIPE, stderr=subprocess.DEVNULL, text=True) as screen:
+    with group(words, stdout=subprocess.PIPE, text=True) as screen:
         assert screen.stdout
-        try:
-            with variable("DISPLAY", f":{screen.stdout.readline().strip()}"):
-                yield
-        finally:
-            screen.terminate()
+        with variable("DISPLAY", f":{screen.stdout.readline().strip()}"):
+            yield
 
 
 @contextlib.contextmanager
 def webkit() -> Iterator[Any]:
-    """A browser on the screen."""
+    """A browser on a screen of its own."""
     webdriver: Any = importlib.import_module("selenium.webdriver")
     options = webdriver.WebKitGTKOptions()
     options.binary_location = mini_browser()
     options.add_argument("--automation")
-    driver = webdriver.WebKitGTK(executable_path=shutil.which(DRIVER), options=options)
-    try:
+    with display(), style(), driven(DRIVER) as port:
+        driver = webdriver.Remote(f"http://127.0.0.1:{port}", options=options)
         driver.set_window_size(1280, 1000)
         yield driver
-    finally:
         driver.quit()
 
 
-def results(crobots: str, stages: str, folder: str) -> Iterator[tuple[str, list[str]]]:
-    """The tests' names, and what is wrong."""
-    with display(), style(), served(folder) as address, webkit() as driver:
-        page = Page(driver, address)
-        yield "first draw", browser.drawn_soon(page)
-        page.open()
-        yield "samples", browser.reports(page, crobots, sample_battles())
-        yield "random robots", browser.reports(page, crobots, random_battles(30, 7))
-        yield "diagnostics", browser.marks(page)
-        yield "explanations", browser.explanations(page)
-        yield "hostile sources", browser.alive(page, crobots, MOST_HOSTILE)
-        yield "listing", browser.listing(page)
-        yield "links", browser.links(page, crobots)
-        yield "a link from the second tab", browser.second_tab(page)
-        yield "settings that are none", browser.unset(page)
-        yield "watched matches", browser.watched(page, crobots)
-        yield "a cycle beyond a film", browser.far(page)
-        yield "a stopped series", browser.stopped(page, crobots)
-        yield "widths", everyone.widths(page)
-        yield "keys", browser.keys(page)
-        yield from firsts.results(page)
-        yield from embeds.results(page, folder)
-        yield from reels.results(page)
-        yield from inside.results(page)
-        yield from worths.few(page, crobots, stages, folder)
-        yield from paths.results(page, folder)
-        yield "the page as a file", browser.story(page, crobots, folder, webkit)
-        yield "a plain text field", robust.plain(page, folder)
-        yield "missing data", robust.no_data(page, folder)
-        yield from robust.hostile_links(page)
+def tests(crobots: str, stages: str, folder: str) -> Tests:
+    """The tests by their names."""
+    yield "first draw", browser.drawn_soon
+    yield "samples", lambda page: browser.reports(page, crobots, sample_battles())
+    yield "random robots", lambda page: browser.reports(page, crobots, random_battles(30, 7))
+    yield "diagnostics", browser.marks
+    yield "explanations", browser.explanations
+    yield "hostile sources", lambda page: browser.alive(page, crobots, MOST_HOSTILE)
+    yield "listing", browser.listing
+    yield "links", lambda page: browser.links(page, crobots)
+    yield "a link from the second tab", browser.second_tab
+    yield "settings that are none", browser.unset
+    yield "watched matches", lambda page: browser.watched(page, crobots)
+    yield "a cycle beyond a film", browser.far
+    yield "a stopped series", lambda page: browser.stopped(page, crobots)
+    yield "widths", everyone.widths
+    yield "keys", browser.keys
+    yield from firsts.tests()
+    yield from embeds.tests(folder)
+    yield from reels.tests()
+    yield from inside.tests()
+    yield from worths.few(crobots, stages, folder)
+    yield from paths.tests("WebKit", folder)
+    yield "the page as a file", lambda page: browser.story(page, crobots, folder, webkit)
+    yield from robust.missing(folder)
+    yield from robust.hostile_links()
+
+
+def results(crobots: str, stages: str, folder: str, place: str) -> Iterator[tuple[str, list[str]]]:
+    """The names of those tests that are taken here, and what is wrong."""
+    return judged("webkit", webkit, folder, tests(crobots, stages, folder), place)

@@ -3,6 +3,7 @@ against a sample by the module in the page, sent to the league, and tried agains
 
 from __future__ import annotations
 
+import itertools
 import json
 import os
 import sys
@@ -16,7 +17,7 @@ sys.path += [os.path.join(HERE, "..", "..", "scripts"), DEBIAN]
 import packages  # noqa: E402
 from harness import skip  # noqa: E402
 from ladder_tests.base import BAD, IDLE, SHOOTER, Base, Ladder, installed  # noqa: E402
-from ladder_tests.windows import BROWSERS, Driver, Window  # noqa: E402
+from ladder_tests.windows import BROWSERS, Driver, Window, tries  # noqa: E402
 
 SIZES = ((360, 740), (1366, 768))
 # Gives the robot in work a name and a source, one after the other as whoever writes them does.
@@ -42,7 +43,7 @@ def results(crobots: str, _stages: str, folder: str) -> Iterator[tuple[str, list
     with tempfile.TemporaryDirectory() as place:
         for package, (find, begin) in BROWSERS.items():
             if find():
-                yield f"by {package}", [*ways(crobots, folder, os.path.join(place, package), begin)]
+                yield f"by {package}", [*ways(crobots, folder, os.path.join(place, package), begin, package)]
             else:
                 skip(f"the workbench in {package}", packages.lacking([package]))
 
@@ -61,15 +62,15 @@ class League(Base):
         return ladder
 
 
-def ways(crobots: str, page: str, place: str, begin: Callable[[], AbstractContextManager[Driver]]) -> Iterator[str]:
-    """What is wrong on the way of an author in the workbench."""
+def ways(crobots: str, page: str, place: str, begin: Callable[[], AbstractContextManager[Driver]], package: str) -> Iterator[str]:
+    """What is wrong on the way of an author in the workbench, each time of another one."""
     installed(place, [crobots])
-    league = League(place)
-    with league, begin() as driver:
+    league, numbers = League(place), itertools.count()
+    with league, tries(begin, "a status of 4") as browsers:
         ladder = league.served(page)
         for width, height in SIZES:
-            yield from (f"{width}: {why}" for why in way(Window(driver, ladder, width, height), f"still{width}"))
-        yield from (it for it in driver.messages if "a status of 4" not in it)
+            wrong = browsers.wrong(f"workbench: by {package} at {width}", lambda driver: way(Window(driver, ladder, width, height), f"still{next(numbers)}"))
+            yield from (f"{width}: {why}" for why in wrong)
 
 
 def way(it: Window, name: str) -> Iterator[str]:

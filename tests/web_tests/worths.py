@@ -4,11 +4,9 @@ from __future__ import annotations
 
 import re
 from collections import Counter, defaultdict
-from typing import Iterator
-
 from . import contests, module
 from .battles import Battle, Settings
-from .pages import Page, is_in_time
+from .pages import Page, Tests, is_in_time
 
 OPPONENT = "jumpy.r"
 LIMIT, SEED = 20_000, 3
@@ -47,6 +45,7 @@ def changed(page: Page) -> None:
 
 def weighed(page: Page, crobots: str) -> list[str]:
     """What a change is worth, and which matches it changed, is what crobots-challenge says by the same words."""
+    page.fresh()
     changed(page)
     weigh(page, 40)
     page.wait("return document.querySelector('#contest table')")
@@ -235,18 +234,16 @@ def refused(page: Page) -> list[str]:
     return [] if said == wanted else [f"{said}, not {wanted}"]
 
 
-def few(page: Page, crobots: str, stages: str, folder: str) -> Iterator[tuple[str, list[str]]]:
-    """The tests' names, and what is wrong: those of each browser."""
-    page.fresh()
-    yield "what a change is worth", weighed(page, crobots)
-    yield "two films in step", together(page, folder)
-    yield "a sweep", swept(page, crobots, stages)
-    yield "a sweep that is typed into", cancelled(page)
+def few(crobots: str, stages: str, folder: str) -> Tests:
+    """The tests of each browser by their names."""
+    yield "what a change is worth, and two films in step", lambda page: weighed(page, crobots) + together(page, folder)
+    yield "a sweep", lambda page: swept(page, crobots, stages)
+    yield "a sweep that is typed into", cancelled
 
 
-def results(page: Page, crobots: str, stages: str, folder: str) -> Iterator[tuple[str, list[str]]]:
-    """The tests' names, and what is wrong."""
-    yield from few(page, crobots, stages, folder)
-    yield "a contest that is stopped", stopped(page)
-    yield "nobody to play against", nobody(page)
-    yield "marks that are refused", refused(page)
+def tests(crobots: str, stages: str, folder: str) -> Tests:
+    """The tests by their names."""
+    yield from few(crobots, stages, folder)
+    yield "a contest that is stopped", stopped
+    yield "nobody to play against", nobody
+    yield "marks that are refused", refused
