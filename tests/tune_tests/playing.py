@@ -509,7 +509,7 @@ class Playing:
 
     def matches_that_the_limit_ended(self) -> list[str]:
         """A line says how many they were, if they are more than a half: of two values one loses all its matches, and of three one does."""
-        wrong, said = [], "{} of {} matches were tied at the limit of 400 cycles: with a greater -l they may say more\n"
+        wrong, said = [], "{} of {} matches were tied: with a limit above 400 cycles (-l) they may say more\n"
         (self._folder / "half.r").write_text(DRAWS.replace("400 /* tune 0..1000 step 100", "0 /* tune 0..1000 step 1000"), encoding="utf-8")
         (self._folder / "third.r").write_text(SWITCH, encoding="utf-8")
         for words, line in ((("--sweep", "half.r", "still.r"), ""), (("--sweep", "third.r", "still.r"), said.format(40, 60)),
