@@ -36,7 +36,7 @@ LISTENING = """if (top === window) { const add = EventTarget.prototype.addEventL
         .map(it => it.id || (it.labels?.[0] ?? it).textContent.trim());
     document.addEventListener('DOMContentLoaded', () => new MutationObserver(() => { window.firstIdle ??= window.idle(); })
         .observe(document.getElementById('main'), {attributeFilter: ['hidden']})); }"""
-# the most milliseconds until then, by hand, on a processor that is slowed down four times; and in any case the most that the page's thread
+# the most milliseconds until then, by hand, on a processor that is slowed down four times; and the most that the page's thread
 # takes of one that isn't. Of some openings the fastest counts
 MOST, SLOWDOWN, MOST_BUSY, OPENINGS = 1000, 4, 400, 5
 # what is read when a button is pressed: how many matches 'Play both' plays, as tests/web_tests/worths.py has it
@@ -192,7 +192,7 @@ def soon(page: Page) -> list[str]:
     page.driver.execute_cdp_cmd("Emulation.setCPUThrottlingRate", {"rate": 1})
     shown = ", ".join(f"{it:.0f}" for it in times)
     print(f"the first match moves in {page.driver.name}, slowed down {SLOWDOWN} times, after {shown} ms, and the thread is busy for {busy:.0f} ms")
-    right = is_in_time(times[len(times) // 2], MOST) and busy <= MOST_BUSY
+    right = is_in_time(times[len(times) // 2], MOST) and is_in_time(busy, MOST_BUSY)
     return [] if right else [f"the first match moves after {shown} ms, and the thread is busy for {busy:.0f} ms"]
 
 
