@@ -12,7 +12,9 @@ from .base import Base, seed_of, sha256, FILES
 
 class Refusals(Base):
     def a_robot_with_a_fault(self) -> list[str]:
-        return self._answers(self._run("-m10", "a.r", "bad.r"), "", "bad.r:2: reserved word\n", 1) + self._answers(
+        """It's said with the path as it was given."""
+        there = self._answers(self._run("-m10", "a.r", "./bad.r"), "", "./bad.r:2: reserved word\n", 1)
+        return there + self._answers(self._run("-m10", "a.r", "bad.r"), "", "bad.r:2: reserved word\n", 1) + self._answers(
             self._run("bad.r", "--old", "a.r", "b.r", script="challenge"), "", "bad.r:2: reserved word\n", 1)
 
     def a_robot_for_the_second_profile(self) -> list[str]:
