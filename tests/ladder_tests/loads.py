@@ -137,6 +137,11 @@ def hand_in(ladder: Ladder, at: int, token: str, sent: list[float], wrong: list[
     sent.append(time.monotonic() - begun)
 
 
+def is_whole(table: str) -> bool:
+    """Whether the answer of a table is all of it: the player may write one before the first robot is handed in."""
+    return "</table>" in table or "No robot plays yet." in table
+
+
 def poll(ladder: Ladder, wait: float, read: list[float], wrong: list[str]) -> None:
     """Reads the tag each two seconds, and the table when it is another one, and notes how long each took."""
     time.sleep(min(wait, SECONDS))
@@ -144,7 +149,7 @@ def poll(ladder: Ladder, wait: float, read: list[float], wrong: list[str]) -> No
     while (begun := time.monotonic()) < end:
         try:
             now = ladder.ask("GET", "/tag").text
-            if now != tag and "</table>" not in ladder.ask("GET", "/table").text and tag:
+            if now != tag and tag and not is_whole(ladder.ask("GET", "/table").text):
                 wrong.append("a table is cut short")
             tag = now
         except (OSError, http.client.HTTPException) as why:
