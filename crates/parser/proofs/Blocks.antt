@@ -58,7 +58,7 @@ braced before after at now there h b =
 -- How long the code is.
 
 -- the code of functions and one more is what was reported up to its return
-code_with : (p : Profile) (functions : List Definition) (scope : Scope) (body : Body) (parameters number : ℕ) →
+pub code_with : (p : Profile) (functions : List Definition) (scope : Scope) (body : Body) (parameters number : ℕ) →
     definitions_length p (functions ++ definition_of scope body ∷ []) ≡
     code_length p
     (((definitions_actions functions ++ BeginFunction number parameters ∷ []) ++ body_actions body) ++
@@ -80,11 +80,11 @@ code_with p functions scope body parameters number =
       code_length-append p (definitions_actions functions) (BeginFunction number parameters ∷ []),
     )
 
-within_limit : (profile : Profile) (n m : ℕ) → n ≡ m → m + 1 ≤ profile.instructions →
+pub within_limit : (profile : Profile) (n m : ℕ) → n ≡ m → m + 1 ≤ profile.instructions →
     nat_lt profile.instructions (n + 1) ≡ false
 within_limit profile n m e h = grind (arith, nat_tests)
 
-past_limit : (profile : Profile) (n m : ℕ) → n ≡ m → profile.instructions < m + 1 →
+pub past_limit : (profile : Profile) (n m : ℕ) → n ≡ m → profile.instructions < m + 1 →
     nat_lt profile.instructions (n + 1) ≡ true
 past_limit profile n m e h = grind (arith, nat_tests)
 

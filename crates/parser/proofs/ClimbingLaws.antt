@@ -123,7 +123,7 @@ all_looser n t b none is = by (operator_of t) none is
         (subst (λ (d : AnOperator). (if nat_le n d.level then Some d else None) ≡ None) it h)
 
 -- none is of a level past the tenth
-none_past : (n : ℕ) (t : Token) → 10 < n → operator_from n t ≡ None
+pub none_past : (n : ℕ) (t : Token) → 10 < n → operator_from n t ≡ None
 none_past n t past = by (operator_of t) (ten_levels t)
   where
     by : (o : Option AnOperator) → ((b : AnOperator) → o ≡ Some b → b.level ≤ 10) → if_from n o ≡ None
@@ -133,7 +133,7 @@ none_past n t past = by (operator_of t) (ten_levels t)
         let less : b.level < n = omega arith in rw (looser n b.level less) refl
 
 -- if none is found from a level on, there is none of any tighter level
-none_at : (n l : ℕ) (t : Token) → operator_from n t ≡ None → n ≤ l → operator_at l t ≡ None
+pub none_at : (n l : ℕ) (t : Token) → operator_from n t ≡ None → n ≤ l → operator_at l t ≡ None
 none_at n l (token.Punctuator m) none tighter = by (binary_of m) (λ b is. all_looser n (token.Punctuator m) b none is)
   where
     by : (o : Option AnOperator) → ((b : AnOperator) → o ≡ Some b → b.level < n) → if_at l o ≡ None
@@ -236,7 +236,7 @@ reaches at depth n sound = by (nat_le n 11) refl
 
 -- Closing levels.
 
-no_operator : (n : ℕ) (t after : Token) → operator_at n t ≡ None → choice (Tail n) t after ≡ Some []
+pub no_operator : (n : ℕ) (t after : Token) → operator_at n t ≡ None → choice (Tail n) t after ≡ Some []
 no_operator n (token.Punctuator m) after none = rw none refl
 no_operator n (token.Name name) after none = refl
 no_operator n (token.Keyword word) after none = refl

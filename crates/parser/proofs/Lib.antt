@@ -36,3 +36,5 @@ pub mod Wholes
 pub mod Built
 pub mod PathLaws
 pub mod ListPaths
+pub mod AutomatonLaws
+pub mod StatementSteps

@@ -98,6 +98,14 @@ constant_stands : (at : UnreadPosition) (value : ℕ) → (next_at at).token ≡
 constant_stands at value is depth =
     chosen at depth Primary (AConstant ∷ []) [] (constant_chooses at value is) (constant_enters at value is)
 
+pub constant_stops : (used : ℕ) (at : UnreadPosition) (value : ℕ) (f : ParseFault) → (next_at at).token ≡ token.Constant value →
+    Refused (StopsAt at) ⊥ used f → Refused (FailsItem AConstant at) ⊥ used f
+constant_stops used at value f is stop =
+    refused_map used (StopsAt at) (FailsItem AConstant at) ⊥ ⊥ f
+    (λ d s depth. stops at.lookahead.cursor (scope_at at) (scope_at at) at.to_come d depth (AConstant ∷ []) [] []
+    (AnExpr (Constant (pos value)) ∷ []) (λ rest b. constant_leads (next_at at) value is depth (scope_at at) rest) s)
+    (λ same. same) stop
+
 pub constant_ends : (used : ℕ) (at : UnreadPosition) (value : ℕ) (more : Type 0) (f : ParseFault) →
     (next_at at).token ≡ token.Constant value → Refused (StopsAt at) ⊥ used f →
     Refused (FailsItem (Part Primary) at) more used f
@@ -153,7 +161,7 @@ name_enters : (name : List ℕ) (after : Token) → is_punctuator punctuator.Ope
 name_enters name (token.Punctuator punctuator.OpenRound) call = absurd (cc)
 name_enters name after call = refl
 
-name_enters_none : (at : UnreadPosition) → IsNamed (next_at at).token →
+pub name_enters_none : (at : UnreadPosition) → IsNamed (next_at at).token →
     is_punctuator punctuator.OpenRound (after_at at) ≡ false → EntersNone at Primary
 name_enters_none at n call after more = rw (n.is, after_name at after n more) (name_enters n.name (after_at at) call)
 
@@ -161,7 +169,7 @@ name_enters_none at n call after more = rw (n.is, after_name at after n more) (n
 abbrev pub NoIncrement : UnreadPosition → Type 0
 NoIncrement at = (s : IncrementOp) → is_punctuator (increment_punctuator s) (after_at at) ≡ false
 
-fetch_chooses : (at : UnreadPosition) → IsNamed (next_at at).token →
+pub fetch_chooses : (at : UnreadPosition) → IsNamed (next_at at).token →
     is_punctuator punctuator.OpenRound (after_at at) ≡ false →
     NoIncrement at → Chooses at Primary (AName Mentioned ∷ Make Fetch ∷ [])
 fetch_chooses at n call none = record {
@@ -186,7 +194,7 @@ fetch_ends used at more f n call none =
     item_exit used (Part Primary) (AName Mentioned) (Make Fetch ∷ []) [] at at more f (fetch_stands at n call none)
     (λ depth stack same. same)
 
-fetch_makes : (v : Var) → MakesOnly Fetch (AVariable v ∷ []) (AnExpr (Variable v) ∷ [])
+pub fetch_makes : (v : Var) → MakesOnly Fetch (AVariable v ∷ []) (AnExpr (Variable v) ∷ [])
 fetch_makes v =
     record {
       makes = λ values. refl;

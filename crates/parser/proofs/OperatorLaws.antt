@@ -34,14 +34,14 @@ use Rattle.grammar.proofs.RepresentationLaws.{appends_both, may_first, may_then}
 
 -- An operator and its right side.
 
-record SpellsOperator (n : ℕ) (o : Op) (t : Token) : Type 0 where
-  m : Punctuator
-  is : t ≡ token.Punctuator m
-  choice_is : (after : Token) →
+pub record SpellsOperator (n : ℕ) (o : Op) (t : Token) : Type 0 where
+  pub m : Punctuator
+  pub is : t ≡ token.Punctuator m
+  pub choice_is : (after : Token) →
       choice (Tail n) t after ≡ Some (Exactly m ∷ Part (Level (n + 1)) ∷ Make (Operate o) ∷ Part (Tail n) ∷ [])
-  fits : is_punctuator m t ≡ true
+  pub fits : is_punctuator m t ≡ true
 
-spells : (n : ℕ) (o : Op) (t : Token) → operator_at n t ≡ Some o → SpellsOperator n o t
+pub spells : (n : ℕ) (o : Op) (t : Token) → operator_at n t ≡ Some o → SpellsOperator n o t
 spells n o (token.Punctuator m) is = record { m = m; is = refl; choice_is = λ after. rw is refl; fits = same_self m }
 spells n o (token.Name name) is = absurd (cc)
 spells n o (token.Keyword word) is = absurd (cc)
@@ -97,7 +97,7 @@ right_refused used at now depth n o denied f is goes =
     (Make (Operate o) ∷ Part (Tail n) ∷ []) (AnExpr left ∷ []) [] (AnExpr left ∷ []) at now d
     (operator_past at now depth n o left is goes) (λ stack same. same) h) (λ same. same)
 
-operate_makes : (o : Op) (left right : Expr) →
+pub operate_makes : (o : Op) (left right : Expr) →
     MakesOnly (Operate o) (AnExpr right ∷ AnExpr left ∷ []) (AnExpr (Binary o left right) ∷ [])
 operate_makes o left right =
     record {

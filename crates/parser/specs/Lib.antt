@@ -18,3 +18,4 @@ pub mod Statements
 pub mod ParsedFiles
 pub mod Progress
 pub mod Paths
+pub mod Automata

@@ -48,3 +48,9 @@ pub record StartsVariable (at : ScopedCursor) : Type 0 where
 pub record StartsPostfix (increment : IncrementOp) (at : ScopedCursor) : Type 0 where
   pub named : StartsName at
   pub is : is_punctuator (increment_punctuator increment) (token_after at) ≡ true
+
+-- a name, and neither `(` nor `++` nor `--` after it
+pub record StartsPlainVariable (at : ScopedCursor) : Type 0 where
+  pub named : StartsName at
+  pub plain : is_punctuator punctuator.OpenRound (token_after at) ≡ false
+  pub none : (increment : IncrementOp) → is_punctuator (increment_punctuator increment) (token_after at) ≡ false

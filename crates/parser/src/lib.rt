@@ -2,7 +2,9 @@
 //! the file or the first diagnostic.
 #![tactic(auto)]
 
+mod automaton;
 mod expressions;
+mod frames;
 mod function_headers;
 mod functions;
 mod name_lists;
@@ -11,6 +13,7 @@ mod parser;
 mod roles;
 mod scoped_cursor;
 mod sources;
+mod statement_steps;
 mod statements;
 mod token_predicates;
 mod unary_ops;

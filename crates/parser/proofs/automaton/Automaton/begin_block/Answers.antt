@@ -1,0 +1,46 @@
+use Rattle.std.proofs.Common.{◌≡◌, ◌+◌, ◌∙◌, [], ◌∷◌, refl, ap, true, false, arith}
+use Rattle.tokens.specs.declared.located_tokens.Punctuator.TheVariants as punctuator
+use Rattle.tokens.specs.declared.located_tokens.Keyword.TheVariants as keyword
+use Rattle.grammar.specs.Grammar.{AKeyword, Exactly, Part, Make, Statement, Statements, Block, Declarations, Empty, Evaluate, GiveBack, Zero, Decide, DecideElse, Repeat, is_keyword, is_punctuator}
+use Rattle.parser.specs.ScopedCursors.{token_of}
+use Rattle.parser.proofs.AutomatonLaws.{awaits, comes_to, has_place, hands_on, punctuator_nests, word_nests}
+use Rattle.parser.proofs.Forms.{behind_if, behind_while, begins_block, conditioned, if_chosen, if_enters, in_braces, while_chosen, while_enters}
+use Rattle.parser.proofs.Growing.{refuses}
+use Rattle.parser.proofs.PathLaws.{closed, falls, made, may, out_of_memory, punctuator_falls, punctuator_past, word_falls, word_past}
+use Rattle.parser.proofs.StatementSteps.{block_path, braces_path, else_path, empty_path, evaluation_path, if_path, no_else_path, no_statement_path, return_path, statement_path, value_path, while_path, zero_path}
+use Rattle.parser.proofs.automaton.Automaton.begin_block.Goals as goal
+
+pub returns-in_err-check_nesting-clause-moves : goal.returns-in_err-check_nesting-clause-moves
+returns-in_err-check_nesting-clause-moves g c =
+    let b = begins_block (token_of c.args.self.now.tokens) c.requires.starts in
+    hands_on c.from_residual.ensures.1 (λ o h.
+    punctuator_nests Block punctuator.OpenCurly in_braces (block_path c.requires.starts h.path) h.depth
+    c.in_err-check_nesting.ensures.refused b.chosen c.requires.starts b.opened)
+
+pub returns-in_err-advance-clause-moves : goal.returns-in_err-advance-clause-moves
+returns-in_err-advance-clause-moves g c =
+    hands_on c.from_residual-in_err-advance.ensures.1 (λ o h.
+    punctuator_falls punctuator.OpenCurly c.requires.starts h.told c.in_err-advance.ensures.kept
+    c.in_err-advance.ensures.consumes (braces_path c.requires.starts (rw h.depth c.in_ok-check_nesting.ensures.ok)
+    (block_path c.requires.starts h.path)))
+
+pub returns-in_err-declarations-clause-moves : goal.returns-in_err-declarations-clause-moves
+returns-in_err-declarations-clause-moves g c =
+    hands_on c.from_residual-in_err-declarations.ensures.1 (λ o h.
+    falls (Part Declarations ∷ []) _ c.in_err-declarations.field-0.0
+    (punctuator_past punctuator.OpenCurly c.requires.starts c.in_ok-advance.ensures.consumes
+    c.in_ok-advance.ensures.kept (braces_path c.requires.starts (rw h.depth c.in_ok-check_nesting.ensures.ok)
+    (block_path c.requires.starts h.path))) h.told c.in_err-declarations.ensures.kept
+    c.in_err-declarations.ensures.matches)
+
+pub push-requires : goal.push-requires
+push-requires g c = let h = c.requires.at.is in has_place 0 (omega arith) h.fits (rw h.depth h.few)
+
+pub returns-clause-moves : goal.returns-clause-moves
+returns-clause-moves g c = λ o h.
+    rw c.push.ensures (comes_to
+    (c.in_ok-declarations.ensures.passes o _ _ _
+    (punctuator_past punctuator.OpenCurly c.requires.starts c.in_ok-advance.ensures.consumes
+    c.in_ok-advance.ensures.kept (braces_path c.requires.starts (rw h.depth c.in_ok-check_nesting.ensures.ok)
+    (block_path c.requires.starts h.path)))) h.told (ap (λ n. n + 1) h.depth)
+    (omega (arith, c.in_ok-check_nesting.ensures.ok)) (record { level = 0; takes = (refl, h.fits); ends = tt }))

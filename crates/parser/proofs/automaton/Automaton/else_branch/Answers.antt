@@ -1,0 +1,43 @@
+use Rattle.std.proofs.Common.{◌≡◌, ◌+◌, ◌∙◌, [], ◌∷◌, refl, ap, true, false, arith}
+use Rattle.tokens.specs.declared.located_tokens.Punctuator.TheVariants as punctuator
+use Rattle.tokens.specs.declared.located_tokens.Keyword.TheVariants as keyword
+use Rattle.grammar.specs.Grammar.{AKeyword, Exactly, Part, Make, Statement, Statements, Block, Declarations, Empty, Evaluate, GiveBack, Zero, Decide, DecideElse, Repeat, is_keyword, is_punctuator}
+use Rattle.parser.specs.ScopedCursors.{token_of}
+use Rattle.parser.proofs.AutomatonLaws.{awaits, comes_to, has_place, hands_on, punctuator_nests, word_nests}
+use Rattle.parser.proofs.Forms.{behind_if, behind_while, begins_block, conditioned, if_chosen, if_enters, in_braces, while_chosen, while_enters}
+use Rattle.parser.proofs.Growing.{refuses}
+use Rattle.parser.proofs.PathLaws.{closed, falls, made, may, out_of_memory, punctuator_falls, punctuator_past, word_falls, word_past}
+use Rattle.parser.proofs.StatementSteps.{block_path, braces_path, else_path, empty_path, evaluation_path, if_path, no_else_path, no_statement_path, return_path, statement_path, value_path, while_path, zero_path}
+use Rattle.parser.proofs.automaton.Automaton.else_branch.Goals as goal
+
+pub returns-in_err-advance-clause-moves : goal.returns-in_err-advance-clause-moves
+returns-in_err-advance-clause-moves g c =
+    hands_on c.from_residual.ensures.1 (λ o h.
+    word_falls keyword.Else c.requires.starts h.told c.in_err-advance.ensures.kept c.in_err-advance.ensures.consumes
+    (else_path c.requires.starts h.path))
+
+pub act-requires : goal.act-requires
+act-requires g c =
+    let h = c.requires.at.is in
+    record {
+      follows = may h.acts h.told (made Empty tt (word_past keyword.Else c.requires.starts c.in_ok-advance.ensures.consumes
+          c.in_ok-advance.ensures.kept (else_path c.requires.starts h.path)));
+    }
+
+pub returns-in_err-act-clause-moves : goal.returns-in_err-act-clause-moves
+returns-in_err-act-clause-moves g c =
+    hands_on c.from_residual-in_err-act.ensures.1 (λ o h.
+    out_of_memory
+    (word_past keyword.Else c.requires.starts c.in_ok-advance.ensures.consumes c.in_ok-advance.ensures.kept
+    (else_path c.requires.starts h.path)) (refuses c.in_err-act.field-0.0 _ c.in_err-act.ensures.judged))
+
+pub push-requires : goal.push-requires
+push-requires g c =
+    let h = c.requires.at.is in has_place 0 (omega arith) h.fits.takes.1 (omega (arith, h.depth, h.few))
+
+pub returns-clause-moves : goal.returns-clause-moves
+returns-clause-moves g c = λ o h.
+    rw c.push.ensures (comes_to
+    (made Empty tt (word_past keyword.Else c.requires.starts c.in_ok-advance.ensures.consumes
+    c.in_ok-advance.ensures.kept (else_path c.requires.starts h.path)))
+    (c.in_ok-act.ensures.ok o.profile h.acts h.told) h.depth h.few (refl, h.fits.takes.1))
