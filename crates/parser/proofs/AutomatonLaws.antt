@@ -1,28 +1,38 @@
 -- What the steps of an automaton share: where it is before and after, and how they are refused.
-use Rattle.std.proofs.Common.{◌≡◌, ℕ, zero, suc, ◌+◌, ◌-◌, ◌*◌, ◌<◌, ◌≤◌, List, [], ◌∷◌, ◌++◌, refl, sym, ap, ◌∙◌, subst, Bool, true, false, length, arith}
-use Rattle.std.specs.Prelude.{Result, Ok, Err, IsErrAnd}
+use Rattle.std.proofs.Common.{◌≡◌, ℕ, zero, suc, ◌+◌, ◌-◌, ◌*◌, ◌<◌, ◌≤◌, List, [], ◌∷◌, ◌++◌, refl, sym, ap, ◌∙◌, subst, Bool, true, false, length, append-nil, arith}
+use Rattle.std.specs.Prelude.{None, Result, Ok, Err, IsErrAnd}
 use Rattle.std.proofs.lemmas.Result.{err_from_is_err_and}
-use Rattle.tokens.specs.declared.located_tokens.Punctuator.{Punctuator}
-use Rattle.tokens.specs.declared.located_tokens.Keyword.{Keyword}
 use Rattle.tokens.specs.declared.located_tokens.Token.{Token}
 use Rattle.grammar.specs.declared.actions.Action.{Action}
+use Rattle.grammar.specs.declared.build.BuildFault.{BuildFault}
+use Rattle.grammar.specs.declared.build.BuildFault.TheVariants as build_fault
+use Rattle.grammar.specs.declared.diagnostics.Code.TheVariants as fault_code
 use Rattle.grammar.specs.declared.diagnostics.ParseFault.{ParseFault}
+use Rattle.grammar.specs.declared.diagnostics.ParseFault.TheVariants as parse_fault
 use Rattle.grammar.specs.declared.name_limits.TheConstants.{MOST_NESTED}
-use Rattle.grammar.specs.Building.{Representation}
-use Rattle.grammar.specs.Derivation.{PartialTree}
+use Rattle.grammar.specs.Building.{AppendsAll, MayFollowAll, Refuses, Representation}
+use Rattle.grammar.specs.Compiled.{diagnostic}
+use Rattle.grammar.specs.Derivation.{PartialTree, AnExpr}
 use Rattle.grammar.specs.Faults.{nested_count}
-use Rattle.grammar.specs.Grammar.{Item, Symbol, AKeyword, Exactly, Part, Tail, enters, is_keyword, is_punctuator}
+use Rattle.grammar.specs.Grammar.{Item, Symbol, Part, Tail}
+use Rattle.grammar.specs.Laws.Climbing.{operator_from}
+use Rattle.grammar.specs.Profile.{Profile}
+use Rattle.grammar.specs.Tree.{Expr}
+use Rattle.grammar_laws.specs.Emission.{and_then}
 use Rattle.parser.specs.declared.automaton.Automaton.{Automaton}
 use Rattle.parser.specs.declared.frames.Frame.{Frame}
 use Rattle.parser.specs.declared.frames.Frame.TheVariants as frame
 use Rattle.parser.specs.declared.frames.Front.{Front}
 use Rattle.parser.specs.declared.frames.Front.TheVariants as front
 use Rattle.parser.specs.declared.frames.TheConstants.{MOST_FRAMES, UNARY_LEVEL}
-use Rattle.parser.specs.Automata.{Awaits, Fits, Trees, IsTooDeep, Moves, Stands, Takes, front_items, frame_items, stack_of, tails}
+use Rattle.parser.specs.Automata.{Fits, InExpression, IsTooDeep, Moves, OnExpr, Stands, Takes, Trees, all_tails, front_items, frame_items, stack_of, tails}
 use Rattle.parser.specs.Paths.{Origin, Path, Refused}
 use Rattle.parser.specs.ScopedCursors.{ScopedCursor, next_at, taken_at, token_of}
-use Rattle.parser.proofs.Parts.{Chooses, punctuator_too_deep, word_too_deep}
-use Rattle.parser.proofs.PathLaws.{faulty}
+use Rattle.parser.specs.Segment.{FailsAt}
+use Rattle.parser.specs.Stopping.{stop_with}
+use Rattle.parser.proofs.ExpressionSteps.{operators_path}
+use Rattle.parser.proofs.Operators.{none_past}
+use Rattle.parser.proofs.PathLaws.{faulty, may_all}
 
 -- Before and after.
 
@@ -93,30 +103,76 @@ has_place {frames} n small t few =
     omega (arith, small, nested, few_frames n frames (omega (arith, small)) t)
 
 -- an expression is to be derived
-pub awaits : {f : Frame} {frames : List Frame} {values : List PartialTree} → Takes 1 (f ∷ frames) →
-    Trees (f ∷ frames) values → Awaits 1 (f ∷ frames) values
+pub awaits : {frames : List Frame} {trees : Type 0} → Takes 1 frames → trees → InExpression 1 frames trees
 awaits takes trees = record { least = omega arith; most = omega arith; takes = takes; trees = trees }
+
+-- A builder that was refused memory, or to which all was reported that was emitted.
+
+pub refuses : (e : BuildFault) (denied : Type 0) → Refuses {A = Unit {0}} (Err e) denied → denied
+refuses build_fault.Memory denied h = h
+refuses build_fault.Full denied h = absurd h
+
+pub told_all : {now after : Representation} {profile : Profile} {acts : List Action} (more : List Action) →
+    AppendsAll now after more → now profile acts → after profile (and_then acts more)
+told_all {after = after} {profile = profile} {acts = acts} [] added told =
+    subst (λ (xs : List Action). after profile xs) (append-nil acts) (added profile acts told)
+told_all (a ∷ more) added told = added _ _ told
+
+and_then_is : (acts more : List Action) → and_then acts more ≡ acts ++ more
+and_then_is acts [] = sym (append-nil acts)
+and_then_is acts (a ∷ more) = refl
+
+pub may_report : {o : Origin} {now : Representation} {stack : List Item} {values : List PartialTree}
+    {acts : List Action} {at : ScopedCursor} (more : List Action) → now o.profile acts →
+    Path o stack values (and_then acts more) at → MayFollowAll now more
+may_report {o} {now} {stack} {values} {acts} {at} more told path =
+    may_all acts told (subst (λ (xs : List Action). Path o stack values xs at) (and_then_is acts more) path)
 
 -- Nested too deeply.
 
-pub word_nests : {F B : Type 0} {o : Origin} {denied : Type 0} {now : Representation} {at : Automaton F B}
-    {values : List PartialTree} {acts : List Action} {f : ParseFault} (symbol : Symbol) (w : Keyword)
-    (items : List Item) → Path o (Part symbol ∷ stack_of at.frames) values acts at.tokens →
-    nested_count (stack_of at.frames) ≡ at.depth → IsTooDeep at f →
-    Chooses symbol (token_of at.tokens) (AKeyword w ∷ items) → is_keyword w (token_of at.tokens) ≡ true →
-    ((after : Token) → enters symbol (token_of at.tokens) after ≡ true) → Refused o denied now f at.tokens
-word_nests {at = at} symbol w items h depth n chosen is nested =
-    rw n.is (faulty (Part symbol ∷ []) (stack_of at.frames) h
-    (word_too_deep at.tokens.position (taken_at at.tokens.position) h.ready.near (nested_count (stack_of at.frames))
-    symbol w items [] h.ready.sound chosen is nested (rw depth n.deep)))
+-- operators below what is in front open nothing
+pub under_tails : (floor depth : ℕ) (frames : List Frame) → nested_count (stack_of frames) ≡ depth →
+    nested_count (all_tails floor ++ stack_of frames) ≡ depth
+under_tails floor depth frames h = nested_tails (11 - floor) floor (stack_of frames) ∙ h
 
-pub punctuator_nests : {F B : Type 0} {o : Origin} {denied : Type 0} {now : Representation} {at : Automaton F B}
-    {values : List PartialTree} {acts : List Action} {f : ParseFault} (symbol : Symbol) (m : Punctuator)
-    (items : List Item) → Path o (Part symbol ∷ stack_of at.frames) values acts at.tokens →
-    nested_count (stack_of at.frames) ≡ at.depth → IsTooDeep at f →
-    Chooses symbol (token_of at.tokens) (Exactly m ∷ items) → is_punctuator m (token_of at.tokens) ≡ true →
-    ((after : Token) → enters symbol (token_of at.tokens) after ≡ true) → Refused o denied now f at.tokens
-punctuator_nests {at = at} symbol m items h depth n chosen is nested =
-    rw n.is (faulty (Part symbol ∷ []) (stack_of at.frames) h
-    (punctuator_too_deep at.tokens.position (taken_at at.tokens.position) h.ready.near
-    (nested_count (stack_of at.frames)) symbol m items [] h.ready.sound chosen is nested (rw depth n.deep)))
+pub nests : {F B : Type 0} {o : Origin} {denied : Type 0} {now : Representation} {at : Automaton F B}
+    {stack : List Item} {values : List PartialTree} {acts : List Action} {f : ParseFault} {symbol : Symbol} →
+    Path o (Part symbol ∷ stack) values acts at.tokens → nested_count stack ≡ at.depth → IsTooDeep at f →
+    ((depth : ℕ) → MOST_NESTED ≤ depth → FailsAt depth (Part symbol ∷ []) [] at.tokens.position
+    (stop_with (parse_fault.Source (diagnostic (next_at at.tokens.position).line fault_code.NestedTooDeeply))
+    (taken_at at.tokens.position))) →
+    Refused o denied now f at.tokens
+nests {stack = stack} {symbol = symbol} h depth n fails =
+    rw n.is (faulty (Part symbol ∷ []) stack h (fails (nested_count stack) (rw depth n.deep)))
+
+-- Operators.
+
+-- operators of these levels follow
+pub operators_stand : {F B : Type 0} {o : Origin} {stands : B → Representation} {new : Automaton F B}
+    {values : List PartialTree} {acts : List Action} (count floor : ℕ) →
+    operator_from (floor + count) (token_of new.tokens) ≡ None →
+    Path o (tails count floor ++ stack_of new.frames) values acts new.tokens → stands new.builder.now o.profile acts →
+    nested_count (stack_of new.frames) ≡ new.depth → new.depth ≤ MOST_NESTED →
+    InExpression floor new.frames (OnExpr (Trees new.frames) values) → Stands o stands (front.Operators floor) new
+operators_stand count floor none path told depth few fits =
+    comes_to (operators_path count floor none path) told depth few fits
+
+-- of all levels from one on
+pub operand_stands : {F B : Type 0} {o : Origin} {stands : B → Representation} {new : Automaton F B}
+    {values : List PartialTree} {acts : List Action} (floor : ℕ) →
+    Path o (all_tails floor ++ stack_of new.frames) values acts new.tokens → stands new.builder.now o.profile acts →
+    nested_count (stack_of new.frames) ≡ new.depth → new.depth ≤ MOST_NESTED →
+    InExpression floor new.frames (OnExpr (Trees new.frames) values) → Stands o stands (front.Operators floor) new
+operand_stands {new = new} floor path told depth few fits =
+    operators_stand (11 - floor) floor (none_past _ (token_of new.tokens) (omega (arith, fits.most))) path told depth few
+    fits
+
+-- an operand was derived
+pub operand_done : {F B : Type 0} {o : Origin} {stands : B → Representation} {at new : Automaton F B}
+    {acts : List Action} {e : Expr} (floor : ℕ) (h : Stands o stands (front.Operand floor) at) →
+    Path o (all_tails floor ++ stack_of at.frames) (AnExpr e ∷ h.values) acts new.tokens →
+    stands new.builder.now o.profile acts → new.frames ≡ at.frames → new.depth ≡ at.depth →
+    Stands o stands (front.Operators floor) new
+operand_done floor h path told frames depth =
+    operand_stands floor (rw frames path) told (rw (frames, depth) h.depth) (rw depth h.few)
+    (rw frames (record { least = h.fits.least; most = h.fits.most; takes = h.fits.takes; trees = h.fits.trees }))

@@ -14,7 +14,7 @@ use Rattle.grammar.specs.Building.{Representation}
 use Rattle.grammar.specs.Compiled.{diagnostic}
 use Rattle.grammar.specs.Derivation.{PartialTree, AnExpr, AVariable, ACall}
 use Rattle.grammar.specs.Faults.{nested_count}
-use Rattle.grammar.specs.Grammar.{Item, AnEnd, Exactly, Part, Make, Close, Source, Statement, Statements, ElsePart, Expression, Level, Tail, MoreArguments}
+use Rattle.grammar.specs.Grammar.{Item, AnEnd, Exactly, Part, Make, Close, Source, Head, Statement, Statements, ElsePart, Expression, Unary, Tail, MoreArguments, definition_items}
 use Rattle.grammar.specs.Grammar.{Operate, Store, AddArgument, Invoke, Evaluate, GiveBack, Empty, DecideElse, Repeat, Define}
 use Rattle.grammar.specs.Laws.Climbing.{operator_from}
 use Rattle.parser.specs.declared.automaton.Automaton.{Automaton}
@@ -69,10 +69,14 @@ stack_of (f ∷ frames) = frame_items f ++ stack_of frames
 -- What is in front, where this is the next token.
 abbrev pub front_items : Front → Token → List Item
 front_items front.Source next = Part Source ∷ []
+front_items front.Head next = Part Head ∷ Part Source ∷ []
+front_items front.Definition next = definition_items ++ Part Source ∷ []
 front_items front.Statement next = Part Statement ∷ []
 front_items front.Expression next = Part Expression ∷ []
-front_items (front.Operand floor) next = Part (Level floor) ∷ []
+front_items (front.Operand floor) next = Part Unary ∷ all_tails floor
 front_items (front.Operators floor) next = tails_to (operator_from floor next) floor
+front_items (front.CallEnd callee floor) next =
+    Exactly punctuator.CloseRound ∷ Make Invoke ∷ Close ∷ all_tails floor
 front_items front.Enclosing next = []
 front_items front.End next = AnEnd ∷ []
 
@@ -119,19 +123,12 @@ Trees (frame.Call callee floor ∷ frames) values = OnCall callee (Trees frames)
 Trees (frame.Store var op ∷ frames) values = OnVariable var (Trees frames) values
 Trees frames values = Unit {0}
 
--- an expression is to be derived, of operators from this level on
-pub record Awaits (floor : ℕ) (frames : List Frame) (values : List PartialTree) : Type 0 where
+-- operators from this level on are in front of these frames, and these trees were made
+pub record InExpression (floor : ℕ) (frames : List Frame) (trees : Type 0) : Type 0 where
   pub least : 1 ≤ floor
   pub most : floor ≤ UNARY_LEVEL
   pub takes : Takes floor frames
-  pub trees : Trees frames values
-
--- its first operand was derived
-pub record Follows (floor : ℕ) (frames : List Frame) (values : List PartialTree) : Type 0 where
-  pub least : 1 ≤ floor
-  pub most : floor ≤ UNARY_LEVEL
-  pub takes : Takes floor frames
-  pub trees : OnExpr (Trees frames) values
+  pub trees : trees
 
 -- nothing is asked of a statement; of an expression, that no operator follows, and that its tree was made
 abbrev pub Ends : (level : ℕ) → List Frame → Token → List PartialTree → Type 0
@@ -147,12 +144,16 @@ pub record IsDone (frames : List Frame) (next : Token) (values : List PartialTre
 -- What is in front fits what is behind.
 abbrev pub Fits : Front → List Frame → Token → List PartialTree → Type 0
 Fits front.Source frames next values = (frames ≡ []) × (values ≡ [])
+Fits front.Head frames next values = (frames ≡ []) × (values ≡ [])
+Fits front.Definition frames next values = (frames ≡ []) × (values ≡ [])
 Fits front.Statement frames next values = Takes 0 frames
-Fits front.Expression frames next values = Awaits 1 frames values
-Fits (front.Operand floor) frames next values = Awaits floor frames values
-Fits (front.Operators floor) frames next values = Follows floor frames values
+Fits front.Expression frames next values = InExpression 1 frames (Trees frames values)
+Fits (front.Operand floor) frames next values = InExpression floor frames (Trees frames values)
+Fits (front.Operators floor) frames next values = InExpression floor frames (OnExpr (Trees frames) values)
+Fits (front.CallEnd callee floor) frames next values =
+    InExpression floor frames (OnCall callee (Trees frames) values)
 Fits front.Enclosing frames next values = IsDone frames next values
-Fits front.End frames next values = frames ≡ []
+Fits front.End frames next values = (frames ≡ []) × (values ≡ [])
 
 -- The derivation from the file's start is where the automaton is, and the builder was told what it emitted.
 pub record Stands {F B : Type 0} (o : Origin) (stands : B → Representation) (front : Front) (at : Automaton F B) : Type 0
@@ -180,6 +181,21 @@ Moves (Ok next) denied stands front old new = (o : Origin) → Stands o stands f
 Moves (Err fault) denied stands front old new =
     (o : Origin) → Stands o stands front old → Refused o denied (stands new.builder.now) fault new.tokens
 
+-- what all steps do
+abbrev pub Runs : {A F B : Type 0} → Result A ParseFault → (denied : Type 0) → (B → Representation) →
+    (old new : Automaton F B) → Type 0
+Runs (Ok x) denied stands old new = Moves (Ok front.End) denied stands front.Source old new
+Runs (Err fault) denied stands old new = Moves (Err fault) denied stands front.Source old new
+
+-- it reports to the same builder
+abbrev pub KeepsBuilder : {F B : Type 0} → (old new : Automaton F B) → Type 0
+KeepsBuilder old new = new.builder.ghost_name ≡ old.builder.ghost_name
+
+-- the file's end is not in front
+abbrev pub HasMore : Front → Type 0
+HasMore front.End = ⊥
+HasMore at = Unit {0}
+
 -- the most constructs are open, and the next token is refused for that
 pub record IsTooDeep {F B : Type 0} (at : Automaton F B) (fault : ParseFault) : Type 0 where
   pub deep : MOST_NESTED ≤ at.depth
@@ -188,12 +204,15 @@ pub record IsTooDeep {F B : Type 0} (at : Automaton F B) (fault : ParseFault) : 
 -- What is left to do at most: tokens, then frames, then what is in front.
 
 abbrev pub rank : Front → ℕ
-rank front.Source = 4
-rank front.Statement = 3
-rank front.Expression = 0
+rank front.Source = 1
+rank front.Head = 1
+rank front.Definition = 0
+rank front.Statement = 4
+rank front.Expression = 1
 rank (front.Operand floor) = 0
-rank (front.Operators floor) = 4
-rank front.Enclosing = 4
+rank (front.Operators floor) = 6
+rank (front.CallEnd callee floor) = 0
+rank front.Enclosing = 5
 rank front.End = 0
 
 abbrev pub left_at : {F B : Type 0} → Front → Automaton F B → ℕ

@@ -4,7 +4,7 @@ ghost use Rattle.std.specs.Prelude.{◌≡◌, ◌<◌, ◌∷◌, [], length, I
 
 use crate::unary_ops::UnaryOp;
 use arrayvec::ArrayVec;
-use grammar::{Callee, MOST_NESTED, Op, StoreOp, Var};
+use grammar::{Callee, Op, StoreOp, Var};
 use std::marker::Model;
 
 /// The level of unary operators, past those of binary ones.
@@ -18,14 +18,20 @@ pub const MOST_FRAMES: usize = 715;
 pub enum Front {
     /// `source`
     Source,
+    /// `head source`
+    Head,
+    /// `name ( params ) pdecls block source`
+    Definition,
     /// `stmt`
     Statement,
     /// `expr`
     Expression,
-    /// `levelN`
+    /// `level11 tail10 .. tailN`
     Operand(u8),
-    /// `tail10` .. `tailN`, after an operand
+    /// `tail10 .. tailN`, after an operand
     Operators(u8),
+    /// `)` of a call, and `tail10 .. tailN`
+    CallEnd(Callee, u8),
     /// nothing: the inner part of the frame on top is done
     Enclosing,
     /// the end of the file
@@ -85,6 +91,7 @@ impl Model for Frames {
 
 impl Frames {
     /// Makes no frames.
+    #[inline(always)]
     pub fn new() -> Frames
         ensures { result ≡ [] }
     {
