@@ -102,6 +102,13 @@ has_place {frames} n small t few =
     let nested : nested_count (stack_of frames) ≤ 64 = few in
     omega (arith, small, nested, few_frames n frames (omega (arith, small)) t)
 
+-- so there is while fewer constructs are open than the most, whatever the level is
+pub has_room : {frames : List Frame} (n : ℕ) → n ≤ 11 → Takes n frames →
+    nested_count (stack_of frames) < MOST_NESTED → length frames < MOST_FRAMES
+has_room {frames} n small t few =
+    let nested : nested_count (stack_of frames) < 64 = few in
+    omega (arith, small, nested, few_frames n frames small t)
+
 -- an expression is to be derived
 pub awaits : {frames : List Frame} {trees : Type 0} → Takes 1 frames → trees → InExpression 1 frames trees
 awaits takes trees = record { least = omega arith; most = omega arith; takes = takes; trees = trees }
@@ -134,6 +141,11 @@ may_report {o} {now} {stack} {values} {acts} {at} more told path =
 pub under_tails : (floor depth : ℕ) (frames : List Frame) → nested_count (stack_of frames) ≡ depth →
     nested_count (all_tails floor ++ stack_of frames) ≡ depth
 under_tails floor depth frames h = nested_tails (11 - floor) floor (stack_of frames) ∙ h
+
+-- the construct around them is closed
+pub closes : (floor depth : ℕ) (frames : List Frame) →
+    nested_count (all_tails floor ++ stack_of frames) + 1 ≡ depth → nested_count (stack_of frames) ≡ depth - 1
+closes floor depth frames h = omega (arith, h, nested_tails (11 - floor) floor (stack_of frames))
 
 pub nests : {F B : Type 0} {o : Origin} {denied : Type 0} {now : Representation} {at : Automaton F B}
     {stack : List Item} {values : List PartialTree} {acts : List Action} {f : ParseFault} {symbol : Symbol} →

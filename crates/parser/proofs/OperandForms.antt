@@ -1,19 +1,24 @@
 -- Which production of an operand a token chooses.
-use Rattle.std.proofs.Common.{◌≡◌, ℕ, ◌+◌, ◌≤◌, List, [], ◌∷◌, refl, Bool, true, false}
+use Rattle.std.proofs.Common.{◌≡◌, ℕ, pos, ◌+◌, ◌≤◌, List, [], ◌∷◌, refl, Bool, true, false}
 use Rattle.std.specs.Prelude.{Some, None}
 use Rattle.tokens.specs.Cursors.{IsNearTo}
 use Rattle.tokens.specs.declared.located_tokens.Punctuator.{Punctuator}
 use Rattle.tokens.specs.declared.located_tokens.Punctuator.TheVariants as punctuator
 use Rattle.tokens.specs.declared.located_tokens.Token.{Token}
 use Rattle.tokens.specs.declared.located_tokens.Token.TheVariants as token
+use Rattle.tokens.specs.declared.located_tokens.LocatedToken.{LocatedToken}
+use Rattle.grammar.specs.declared.diagnostics.ParseFault.{ParseFault}
 use Rattle.grammar.specs.declared.diagnostics.ParseFault.TheVariants as parse_fault
 use Rattle.grammar.specs.Compiled.{diagnostic}
 use Rattle.grammar.specs.Faults.{unexpected_token_code}
-use Rattle.grammar.specs.Grammar.{AName, Arguments, AddArgument, Called, Close, Exactly, Expression, Fetch, Invoke, Make, Mentioned, MoreArguments, Part, PostfixIncrement, PrefixIncrement, Primary, Unary, choice, enters, is_lexical_error, is_punctuator}
+use Rattle.grammar.specs.Derivation.{AnExpr, constant_value}
+use Rattle.grammar.specs.Tree.{Constant}
+use Rattle.grammar.proofs.Steps.{constant}
+use Rattle.grammar.specs.Grammar.{AConstant, AName, Arguments, AddArgument, Called, Close, Exactly, Expression, Fetch, Invoke, Make, Mentioned, MoreArguments, Part, PostfixIncrement, PrefixIncrement, Primary, Unary, choice, enters, is_lexical_error, is_punctuator}
 use Rattle.grammar.specs.Scope.{Scope}
 use Rattle.grammar_laws.specs.Emission.{on_choice}
-use Rattle.parser.specs.ScopedCursors.{UnreadPosition, after_at, next_at}
-use Rattle.parser.specs.Segment.{FailsAt}
+use Rattle.parser.specs.ScopedCursors.{UnreadPosition, after_at, next_at, scope_at}
+use Rattle.parser.specs.Segment.{FailsAt, FailsItem, Refused, StopsAt}
 use Rattle.parser.specs.Stopping.{stop_with}
 use Rattle.parser.specs.declared.unary_ops.IncrementOp.{IncrementOp}
 use Rattle.parser.specs.declared.unary_ops.IncrementOp.TheVariants as increment_op
@@ -22,6 +27,7 @@ use Rattle.parser.specs.declared.unary_ops.UnaryOp.TheVariants as unary_op
 use Rattle.parser.specs.UnaryOps.{actions_before_operand, increment_punctuator, increment_store_op, unary_action, unary_punctuator}
 use Rattle.parser.proofs.NameLaws.{IsNamed, after_name, named_sound}
 use Rattle.parser.proofs.Parts.{punctuator_is}
+use Rattle.parser.proofs.Segments.{Leads, refused_map, stops}
 use Rattle.parser.proofs.Productions.{Chooses, EntersNone, IsNested, none_chosen, punctuator_sound}
 
 -- A variable's value.
@@ -314,3 +320,24 @@ pub primary_misfits : (at : UnreadPosition) (used : ℕ) (near : IsNearTo at.loo
 primary_misfits at used near depth sound n =
     none_chosen at used near depth Primary sound (λ after more. no_primary (next_at at).token after n)
     (λ after more. no_primary_enters (next_at at).token after n)
+
+-- A constant, behind which the next token is refused.
+
+constant_leads : (located_token : LocatedToken) (value : ℕ) → located_token.token ≡ token.Constant value →
+    (depth : ℕ) (in_scope : Scope) (rest : List LocatedToken) →
+    Leads depth (AConstant ∷ []) [] [] (AnExpr (Constant (pos value)) ∷ []) in_scope in_scope (located_token ∷ rest)
+    rest
+constant_leads located_token value is depth in_scope rest = record {
+  passes = λ profile stack values functions depths.
+      let sound : is_lexical_error located_token.token ≡ false = rw is refl in
+      let found : constant_value located_token.token ≡ Some value = rw is refl in
+      constant profile value stack (located_token ∷ rest) values in_scope functions sound found;
+}
+
+pub constant_stops : (used : ℕ) (at : UnreadPosition) (value : ℕ) (f : ParseFault) → (next_at at).token ≡ token.Constant value →
+    Refused (StopsAt at) ⊥ used f → Refused (FailsItem AConstant at) ⊥ used f
+constant_stops used at value f is stop =
+    refused_map used (StopsAt at) (FailsItem AConstant at) ⊥ ⊥ f
+    (λ d s depth. stops at.lookahead.cursor (scope_at at) (scope_at at) at.to_come d depth (AConstant ∷ []) [] []
+    (AnExpr (Constant (pos value)) ∷ []) (λ rest b. constant_leads (next_at at) value is depth (scope_at at) rest) s)
+    (λ same. same) stop

@@ -3,21 +3,26 @@ use Rattle.std.proofs.Common.{◌≡◌, ◌<◌, ℕ, List, [], ◌∷◌, ◌+
 use Rattle.tokens.specs.declared.located_tokens.Punctuator.TheVariants as punctuator
 use Rattle.tokens.specs.declared.located_tokens.Token.TheVariants as token
 use Rattle.grammar.specs.declared.actions.Action.{Action}
+use Rattle.grammar.specs.declared.diagnostics.ParseFault.TheVariants as parse_fault
 use Rattle.grammar.specs.declared.name_limits.TheConstants.{MOST_NESTED}
-use Rattle.grammar.specs.Derivation.{PartialTree}
-use Rattle.grammar.specs.Faults.{nested_count}
-use Rattle.grammar.specs.Grammar.{Item, AConstant, AName, AddArgument, Arguments, Called, Close, Exactly, Expression, Fetch, Invoke, Make, Mentioned, MoreArguments, Part, PostfixIncrement, PrefixIncrement, Primary, Unary, is_punctuator}
+use Rattle.grammar.specs.Building.{Representation}
+use Rattle.grammar.specs.Compiled.{diagnostic}
+use Rattle.grammar.specs.Derivation.{PartialTree, AnExpr}
+use Rattle.grammar.specs.Faults.{nested_count, unexpected_token_code}
+use Rattle.grammar.specs.Grammar.{Item, AConstant, AName, AddArgument, Arguments, Called, Close, Complement, Exactly, Expression, Fetch, Invoke, Make, Mentioned, MoreArguments, Negate, Not, Part, PostfixIncrement, PrefixIncrement, Primary, Unary, is_punctuator}
+use Rattle.grammar.specs.Tree.{Expr}
 use Rattle.grammar_laws.specs.Emission.{and_then}
-use Rattle.parser.specs.Paths.{Origin, Path}
-use Rattle.parser.specs.ScopedCursors.{ScopedCursor, token_of}
+use Rattle.parser.specs.Paths.{Origin, Path, Refused}
+use Rattle.parser.specs.ScopedCursors.{ScopedCursor, next_at, token_of}
 use Rattle.parser.specs.Starts.{StartsCall, StartsPostfix, StartsVariable}
-use Rattle.parser.specs.UnaryOps.{actions_before_operand, increment_punctuator, increment_store_op, unary_action, unary_punctuator}
+use Rattle.parser.specs.UnaryOps.{actions_after_operand, actions_before_operand, increment_punctuator, increment_store_op, unary_action, unary_punctuator, unary_tree}
 use Rattle.parser.specs.declared.unary_ops.IncrementOp.{IncrementOp}
 use Rattle.parser.specs.declared.unary_ops.UnaryOp.{UnaryOp}
+use Rattle.parser.specs.declared.unary_ops.UnaryOp.TheVariants as unary_op
 use Rattle.parser.proofs.NameLaws.{IsNamed, is_named}
-use Rattle.parser.proofs.OperandForms.{NoOperator, before_chooses, before_emits, before_enters_none, behind_chooses, behind_enters_none, call_chooses, comma_choice, end_choice, fetch_chooses, first_choice, name_enters_none, open_chooses, primary_choice, primary_emits, primary_enters, sign_chooses, sign_emits}
+use Rattle.parser.proofs.OperandForms.{NoOperator, NoPrimary, before_chooses, before_emits, before_enters_none, behind_chooses, behind_enters_none, call_chooses, comma_choice, end_choice, fetch_chooses, first_choice, name_enters_none, open_chooses, primary_choice, primary_emits, primary_enters, primary_misfits, sign_chooses, sign_emits}
 use Rattle.parser.proofs.Parts.{punctuator_is}
-use Rattle.parser.proofs.PathLaws.{chosen, opened}
+use Rattle.parser.proofs.PathLaws.{chosen, faulty, made, opened}
 
 module _ {o : Origin} {stack : List Item} {values : List PartialTree} {acts : List Action} {at : ScopedCursor} where
   -- Unary operators, and ++ and --.
@@ -132,3 +137,21 @@ module _ {o : Origin} {stack : List Item} {values : List PartialTree} {acts : Li
       opened {more = []} Primary
       (Exactly punctuator.OpenRound ∷ Part Expression ∷ Exactly punctuator.CloseRound ∷ Close ∷ [])
       (open_chooses at.position is).is few refl (bracketed_path is h)
+
+  -- The tree of a unary operator.
+
+  pub signed_path : {e : Expr} (s : UnaryOp) → Path o (Make (unary_action s) ∷ stack) (AnExpr e ∷ values) acts at →
+      Path o stack (AnExpr (unary_tree s e) ∷ values) (and_then acts (actions_after_operand s)) at
+  signed_path unary_op.Negation h = made Negate tt h
+  signed_path unary_op.Denial h = made Not tt h
+  signed_path unary_op.Complement h = made Complement tt h
+
+  -- No operand.
+
+  pub operand_misfits : {denied : Type 0} {now : Representation} → NoOperator (token_of at) → NoPrimary (token_of at) →
+      Path o (Part Unary ∷ stack) values acts at →
+      Refused o denied now
+      (parse_fault.Source (diagnostic (next_at at.position).line (unexpected_token_code (token_of at)))) at
+  operand_misfits n p h =
+      faulty (Part Primary ∷ []) stack (primary_path n h)
+      (primary_misfits at.position _ h.ready.near (nested_count stack) h.ready.sound p)

@@ -146,10 +146,10 @@ impl<F: Feed, B: Build> Automaton<'_, '_, '_, F, B> {
         let callee = self.tokens.expect_callee()?;
         self.builder.act(Action::BeginCall)?;
         self.tokens.expect(Punctuator::OpenRound)?;
-        self.depth += 1;
         if is_punctuator(&self.tokens.peek().token, Punctuator::CloseRound) {
             return Ok(Front::CallEnd(callee, floor));
         }
+        self.depth += 1;
         self.frames.push(Frame::Call(callee, floor));
         Ok(Front::Expression)
     }
@@ -163,6 +163,7 @@ impl<F: Feed, B: Build> Automaton<'_, '_, '_, F, B> {
         ensures builder { KeepsBuilder self.old self.new }
     {
         if !is_punctuator(&self.tokens.peek().token, Punctuator::Comma) {
+            self.depth -= 1;
             return Ok(Front::CallEnd(callee, floor));
         }
         self.tokens.advance()?;
@@ -180,7 +181,6 @@ impl<F: Feed, B: Build> Automaton<'_, '_, '_, F, B> {
     {
         self.tokens.expect(Punctuator::CloseRound)?;
         self.builder.act(Action::EndCall(callee))?;
-        self.depth -= 1;
         Ok(Front::Operators(floor))
     }
 

@@ -1,10 +1,13 @@
 use Rattle.std.proofs.Common.{◌≡◌, ◌+◌, ◌∙◌, [], ◌∷◌, refl, ap, true, false, arith}
+use Rattle.std.specs.Prelude.{None}
 use Rattle.tokens.specs.declared.located_tokens.Punctuator.TheVariants as punctuator
 use Rattle.tokens.specs.declared.located_tokens.Keyword.TheVariants as keyword
 use Rattle.grammar.specs.Grammar.{AKeyword, Exactly, Part, Make, Statement, Statements, Block, Declarations, Empty, Evaluate, GiveBack, Zero, Decide, DecideElse, Repeat, is_keyword, is_punctuator}
+use Rattle.grammar.specs.Laws.Climbing.{operator_from}
 use Rattle.parser.specs.ScopedCursors.{token_of}
 use Rattle.parser.proofs.AutomatonLaws.{awaits, comes_to, has_place, hands_on, nests, refuses}
 use Rattle.parser.proofs.Forms.{behind_if, behind_while, begins_block, conditioned, if_chosen, if_enters, in_braces, while_chosen, while_enters}
+use Rattle.parser.proofs.Parts.{punctuator_is, punctuator_too_deep, word_too_deep}
 use Rattle.parser.proofs.PathLaws.{closed, falls, made, may, out_of_memory, punctuator_falls, punctuator_past, word_falls, word_past}
 use Rattle.parser.proofs.StatementSteps.{block_path, braces_path, else_path, empty_path, evaluation_path, if_path, no_else_path, no_statement_path, return_path, statement_path, value_path, while_path, zero_path}
 use Rattle.parser.proofs.automaton.Automaton.return_statement.Goals as goal
@@ -14,6 +17,9 @@ returns-in_err-advance-clause-moves g c =
     hands_on c.from_residual.ensures.1 (λ o h.
     word_falls keyword.Return c.requires.starts h.told c.in_err-advance.ensures.kept c.in_err-advance.ensures.consumes
     (return_path c.requires.starts h.path))
+
+pub push-requires : goal.push-requires
+push-requires g c = let h = c.requires.at.is in has_place 0 (omega arith) h.fits (rw h.depth h.few)
 
 pub act-requires : goal.act-requires
 act-requires g c =
@@ -31,8 +37,16 @@ returns-in_err-act-clause-moves g c =
     (word_past keyword.Return c.requires.starts c.in_ok-advance.ensures.consumes c.in_ok-advance.ensures.kept
     (return_path c.requires.starts h.path)) (refuses c.in_err-act.field-0.0 _ c.in_err-act.ensures.judged))
 
-pub push-requires : goal.push-requires
-push-requires g c = let h = c.requires.at.is in has_place 0 (omega arith) h.fits (rw h.depth h.few)
+pub returns-then-is_punctuator-clause-moves : goal.returns-then-is_punctuator-clause-moves
+returns-then-is_punctuator-clause-moves g c =
+    let is : is_punctuator punctuator.Semicolon (token_of c.advance.new.self) ≡ true = cc in
+    let none : operator_from 1 (token_of c.advance.new.self) ≡ None = rw (punctuator_is punctuator.Semicolon _ is) refl in
+    λ o h.
+    rw c.push.ensures (comes_to
+    (made Zero tt (zero_path is (word_past keyword.Return c.requires.starts c.in_ok-advance.ensures.consumes
+    c.in_ok-advance.ensures.kept (return_path c.requires.starts h.path))))
+    (c.in_ok-act.ensures.ok o.profile h.acts h.told) h.depth h.few
+    (record { level = 1; takes = (refl, h.fits); ends = (none, tt) }))
 
 pub returns-clause-moves : goal.returns-clause-moves
 returns-clause-moves g c =
