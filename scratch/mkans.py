@@ -15,7 +15,7 @@ use Rattle.parser.specs.ScopedCursors.{token_of}
 use Rattle.parser.proofs.AutomatonLaws.{awaits, comes_to, has_place, hands_on, nests, refuses}
 use Rattle.parser.proofs.Forms.{behind_if, behind_while, begins_block, conditioned, if_chosen, if_enters, in_braces, while_chosen, while_enters}
 use Rattle.parser.proofs.Parts.{punctuator_is, punctuator_too_deep, word_too_deep}
-use Rattle.parser.proofs.PathLaws.{closed, falls, made, may, out_of_memory, punctuator_falls, punctuator_past, word_falls, word_past}
+use Rattle.parser.proofs.PathLaws.{closed, falls, made, may, told_more, out_of_memory, punctuator_falls, punctuator_past, word_falls, word_past}
 use Rattle.parser.proofs.StatementSteps.{block_path, braces_path, else_path, empty_path, evaluation_path, if_path, no_else_path, no_statement_path, return_path, statement_path, value_path, while_path, zero_path}'''
 write('empty_statement',COMMON,'''
 pub returns-in_err-advance-clause-moves : goal.returns-in_err-advance-clause-moves
@@ -26,14 +26,14 @@ returns-in_err-advance-clause-moves g c =
 
 pub returns-clause-moves : goal.returns-clause-moves
 returns-clause-moves g c = λ o h.
-    comes_to
+    comes_to h
     (punctuator_past punctuator.Semicolon c.requires.starts c.in_ok-advance.ensures.consumes
     c.in_ok-advance.ensures.kept (empty_path c.requires.starts h.path)) h.told h.depth h.few
     (record { level = 0; takes = h.fits; ends = tt })
 ''')
 write('if_statement',COMMON,'''
 pub push-requires : goal.push-requires
-push-requires g c = let h = c.requires.at.is in has_place 0 (omega arith) h.fits (rw h.depth h.few)
+push-requires g c = let h = c.requires.at.is in has_place _ 0 (omega arith) h.fits (rw h.depth h.few)
 
 pub returns-in_err-check_nesting-clause-moves : goal.returns-in_err-check_nesting-clause-moves
 returns-in_err-check_nesting-clause-moves g c =
@@ -58,8 +58,8 @@ returns-in_err-expect-clause-moves g c =
 
 pub returns-clause-moves : goal.returns-clause-moves
 returns-clause-moves g c = λ o h.
-    rw c.push.ensures (comes_to
-    (c.in_ok-expect.ensures.passes o _ _ _
+    rw c.push.ensures (comes_to h
+    (c.in_ok-expect.ensures.passes _ _ _ _
     (word_past keyword.If c.requires.starts c.in_ok-advance.ensures.consumes c.in_ok-advance.ensures.kept
     (if_path c.requires.starts (rw h.depth c.in_ok-check_nesting.ensures.ok) h.path))) h.told
     (ap (λ n. n + 1) h.depth) (omega (arith, c.in_ok-check_nesting.ensures.ok)) (awaits (refl, h.fits) tt))
@@ -75,22 +75,22 @@ returns-in_err-expect-clause-moves g c =
 pub act-requires : goal.act-requires
 act-requires g c =
     let h = c.requires.at.is in
-    record {{ follows = may h.acts h.told (made Empty tt (c.in_ok-expect.ensures.passes _ _ _ _ h.path)) }}
+    record {{ follows = may h.acts h.told h.new (made Empty tt (c.in_ok-expect.ensures.passes _ _ _ _ h.path)) }}
 
 pub returns-in_err-act-clause-moves : goal.returns-in_err-act-clause-moves
 returns-in_err-act-clause-moves g c =
     hands_on c.from_residual-in_err-act.ensures.1 (λ o h.
-    out_of_memory (c.in_ok-expect.ensures.passes o _ _ _ h.path)
+    out_of_memory (c.in_ok-expect.ensures.passes _ _ _ _ h.path)
     (refuses c.in_err-act.field-0.0 _ c.in_err-act.ensures.judged))
 
 pub push-requires : goal.push-requires
 push-requires g c =
-    let h = c.requires.at.is in has_place 0 (omega arith) h.fits.takes.1 (omega (arith, h.depth, h.few))
+    let h = c.requires.at.is in has_place _ 0 (omega arith) h.fits.takes.1 (omega (arith, h.depth, h.few))
 
 pub returns-clause-moves : goal.returns-clause-moves
 returns-clause-moves g c = λ o h.
-    rw c.push.ensures (comes_to (made Empty tt (c.in_ok-expect.ensures.passes o _ _ _ h.path))
-    (c.in_ok-act.ensures.ok o.profile h.acts h.told) h.depth h.few (refl, h.fits.takes.1))
+    rw c.push.ensures (comes_to h (made Empty tt (c.in_ok-expect.ensures.passes _ _ _ _ h.path))
+    (told_more _ _ c.in_ok-act.ensures.ok h.told) h.depth h.few (refl, h.fits.takes.1))
 ''')
 test('if_test','If','IfTest','')
 test('while_test','While','WhileTest','')
@@ -105,7 +105,7 @@ pub act-requires : goal.act-requires
 act-requires g c =
     let h = c.requires.at.is in
     record {
-      follows = may h.acts h.told (made Empty tt (word_past keyword.Else c.requires.starts c.in_ok-advance.ensures.consumes
+      follows = may h.acts h.told h.new (made Empty tt (word_past keyword.Else c.requires.starts c.in_ok-advance.ensures.consumes
           c.in_ok-advance.ensures.kept (else_path c.requires.starts h.path)));
     }
 
@@ -118,20 +118,20 @@ returns-in_err-act-clause-moves g c =
 
 pub push-requires : goal.push-requires
 push-requires g c =
-    let h = c.requires.at.is in has_place 0 (omega arith) h.fits.takes.1 (omega (arith, h.depth, h.few))
+    let h = c.requires.at.is in has_place _ 0 (omega arith) h.fits.takes.1 (omega (arith, h.depth, h.few))
 
 pub returns-clause-moves : goal.returns-clause-moves
 returns-clause-moves g c = λ o h.
-    rw c.push.ensures (comes_to
+    rw c.push.ensures (comes_to h
     (made Empty tt (word_past keyword.Else c.requires.starts c.in_ok-advance.ensures.consumes
     c.in_ok-advance.ensures.kept (else_path c.requires.starts h.path)))
-    (c.in_ok-act.ensures.ok o.profile h.acts h.told) h.depth h.few (refl, h.fits.takes.1))
+    (told_more _ _ c.in_ok-act.ensures.ok h.told) h.depth h.few (refl, h.fits.takes.1))
 ''')
 def end(name, rule):
     write(name,COMMON,f'''
 pub act-requires : goal.act-requires
 act-requires g c =
-    let h = c.requires.at.is in record {{ follows = may h.acts h.told (made {rule} tt h.path) }}
+    let h = c.requires.at.is in record {{ follows = may h.acts h.told h.new (made {rule} tt h.path) }}
 
 pub returns-in_err-act-clause-moves : goal.returns-in_err-act-clause-moves
 returns-in_err-act-clause-moves g c =
@@ -140,7 +140,7 @@ returns-in_err-act-clause-moves g c =
 
 pub returns-clause-moves : goal.returns-clause-moves
 returns-clause-moves g c = λ o h.
-    comes_to (closed (made {rule} tt h.path)) (c.in_ok-act.ensures.ok o.profile h.acts h.told)
+    comes_to h (closed (made {rule} tt h.path)) (told_more _ _ c.in_ok-act.ensures.ok h.told)
     (omega (arith, h.depth)) (omega (arith, h.few)) (record {{ level = 0; takes = h.fits.takes.1; ends = tt }})
 ''')
 end('end_if','DecideElse')
@@ -150,7 +150,7 @@ pub act-requires : goal.act-requires
 act-requires g c =
     let h = c.requires.at.is in
     let other : is_keyword keyword.Else (token_of c.args.self.now.tokens) ≡ false = cc in
-    record { follows = may h.acts h.told (made Decide tt (no_else_path other h.path)) }
+    record { follows = may h.acts h.told h.new (made Decide tt (no_else_path other h.path)) }
 
 pub returns-in_err-act-clause-moves : goal.returns-in_err-act-clause-moves
 returns-in_err-act-clause-moves g c =
@@ -161,7 +161,7 @@ pub returns-in_ok-act-clause-moves : goal.returns-in_ok-act-clause-moves
 returns-in_ok-act-clause-moves g c =
     let other : is_keyword keyword.Else (token_of c.args.self.now.tokens) ≡ false = cc in
     λ o h.
-    comes_to (closed (made Decide tt (no_else_path other h.path))) (c.in_ok-act.ensures.ok o.profile h.acts h.told)
+    comes_to h (closed (made Decide tt (no_else_path other h.path))) (told_more _ _ c.in_ok-act.ensures.ok h.told)
     (omega (arith, h.depth)) (omega (arith, h.few)) (record { level = 0; takes = h.fits.takes.1; ends = tt })
 ''')
 write('while_statement',COMMON,'''
@@ -176,7 +176,7 @@ pub act-requires : goal.act-requires
 act-requires g c =
     let h = c.requires.at.is in
     record {
-      follows = may h.acts h.told (while_path c.requires.starts (rw h.depth c.in_ok-check_nesting.ensures.ok) h.path);
+      follows = may h.acts h.told h.new (while_path c.requires.starts (rw h.depth c.in_ok-check_nesting.ensures.ok) h.path);
     }
 
 pub returns-in_err-act-clause-moves : goal.returns-in_err-act-clause-moves
@@ -187,7 +187,7 @@ returns-in_err-act-clause-moves g c =
 pub returns-in_err-advance-clause-moves : goal.returns-in_err-advance-clause-moves
 returns-in_err-advance-clause-moves g c =
     hands_on c.from_residual-in_err-advance.ensures.1 (λ o h.
-    word_falls keyword.While c.requires.starts (c.in_ok-act.ensures.ok o.profile h.acts h.told)
+    word_falls keyword.While c.requires.starts (told_more _ _ c.in_ok-act.ensures.ok h.told)
     c.in_err-advance.ensures.kept c.in_err-advance.ensures.consumes
     (while_path c.requires.starts (rw h.depth c.in_ok-check_nesting.ensures.ok) h.path))
 
@@ -197,18 +197,18 @@ returns-in_err-expect-clause-moves g c =
     falls (Exactly punctuator.OpenRound ∷ []) _ c.in_err-expect.field-0.0
     (word_past keyword.While c.requires.starts c.in_ok-advance.ensures.consumes c.in_ok-advance.ensures.kept
     (while_path c.requires.starts (rw h.depth c.in_ok-check_nesting.ensures.ok) h.path))
-    (c.in_ok-act.ensures.ok o.profile h.acts h.told) c.in_err-expect.ensures.kept c.in_err-expect.ensures.matches)
+    (told_more _ _ c.in_ok-act.ensures.ok h.told) c.in_err-expect.ensures.kept c.in_err-expect.ensures.matches)
 
 pub push-requires : goal.push-requires
-push-requires g c = let h = c.requires.at.is in has_place 0 (omega arith) h.fits (rw h.depth h.few)
+push-requires g c = let h = c.requires.at.is in has_place _ 0 (omega arith) h.fits (rw h.depth h.few)
 
 pub returns-clause-moves : goal.returns-clause-moves
 returns-clause-moves g c = λ o h.
-    rw c.push.ensures (comes_to
-    (c.in_ok-expect.ensures.passes o _ _ _
+    rw c.push.ensures (comes_to h
+    (c.in_ok-expect.ensures.passes _ _ _ _
     (word_past keyword.While c.requires.starts c.in_ok-advance.ensures.consumes c.in_ok-advance.ensures.kept
     (while_path c.requires.starts (rw h.depth c.in_ok-check_nesting.ensures.ok) h.path)))
-    (c.in_ok-act.ensures.ok o.profile h.acts h.told) (ap (λ n. n + 1) h.depth)
+    (told_more _ _ c.in_ok-act.ensures.ok h.told) (ap (λ n. n + 1) h.depth)
     (omega (arith, c.in_ok-check_nesting.ensures.ok)) (awaits (refl, h.fits) tt))
 ''')
 write('return_statement',COMMON,'''
@@ -219,14 +219,14 @@ returns-in_err-advance-clause-moves g c =
     (return_path c.requires.starts h.path))
 
 pub push-requires : goal.push-requires
-push-requires g c = let h = c.requires.at.is in has_place 0 (omega arith) h.fits (rw h.depth h.few)
+push-requires g c = let h = c.requires.at.is in has_place _ 0 (omega arith) h.fits (rw h.depth h.few)
 
 pub act-requires : goal.act-requires
 act-requires g c =
     let h = c.requires.at.is in
     let is : is_punctuator punctuator.Semicolon (token_of c.advance.new.self) ≡ true = cc in
     record {
-      follows = may h.acts h.told (made Zero tt (zero_path is (word_past keyword.Return c.requires.starts
+      follows = may h.acts h.told h.new (made Zero tt (zero_path is (word_past keyword.Return c.requires.starts
           c.in_ok-advance.ensures.consumes c.in_ok-advance.ensures.kept (return_path c.requires.starts h.path))));
     }
 
@@ -240,19 +240,19 @@ returns-in_err-act-clause-moves g c =
 pub returns-then-is_punctuator-clause-moves : goal.returns-then-is_punctuator-clause-moves
 returns-then-is_punctuator-clause-moves g c =
     let is : is_punctuator punctuator.Semicolon (token_of c.advance.new.self) ≡ true = cc in
-    let none : operator_from 1 (token_of c.advance.new.self) ≡ None = rw (punctuator_is punctuator.Semicolon _ is) refl in
+    let none : operator_from 1 (token_of c.advance.new.self) ≡ None = rw (punctuator_is punctuator.Semicolon (token_of c.advance.new.self) is) refl in
     λ o h.
-    rw c.push.ensures (comes_to
+    rw c.push.ensures (comes_to h
     (made Zero tt (zero_path is (word_past keyword.Return c.requires.starts c.in_ok-advance.ensures.consumes
     c.in_ok-advance.ensures.kept (return_path c.requires.starts h.path))))
-    (c.in_ok-act.ensures.ok o.profile h.acts h.told) h.depth h.few
+    (told_more _ _ c.in_ok-act.ensures.ok h.told) h.depth h.few
     (record { level = 1; takes = (refl, h.fits); ends = (none, tt) }))
 
 pub returns-clause-moves : goal.returns-clause-moves
 returns-clause-moves g c =
     let other : is_punctuator punctuator.Semicolon (token_of c.advance.new.self) ≡ false = cc in
     λ o h.
-    rw c.push.ensures (comes_to (value_path other (word_past keyword.Return c.requires.starts
+    rw c.push.ensures (comes_to h (value_path other (word_past keyword.Return c.requires.starts
     c.in_ok-advance.ensures.consumes c.in_ok-advance.ensures.kept (return_path c.requires.starts h.path))) h.told
     h.depth h.few (awaits (refl, h.fits) tt))
 ''')
@@ -282,12 +282,12 @@ returns-in_err-declarations-clause-moves g c =
     c.in_err-declarations.ensures.matches)
 
 pub push-requires : goal.push-requires
-push-requires g c = let h = c.requires.at.is in has_place 0 (omega arith) h.fits (rw h.depth h.few)
+push-requires g c = let h = c.requires.at.is in has_place _ 0 (omega arith) h.fits (rw h.depth h.few)
 
 pub returns-clause-moves : goal.returns-clause-moves
 returns-clause-moves g c = λ o h.
-    rw c.push.ensures (comes_to
-    (c.in_ok-declarations.ensures.passes o _ _ _
+    rw c.push.ensures (comes_to h
+    (c.in_ok-declarations.ensures.passes _ _ _ _
     (punctuator_past punctuator.OpenCurly c.requires.starts c.in_ok-advance.ensures.consumes
     c.in_ok-advance.ensures.kept (braces_path c.requires.starts (rw h.depth c.in_ok-check_nesting.ensures.ok)
     (block_path c.requires.starts h.path)))) h.told (ap (λ n. n + 1) h.depth)
@@ -296,13 +296,13 @@ returns-clause-moves g c = λ o h.
 write('block',COMMON,'''
 pub push-requires : goal.push-requires
 push-requires g c =
-    let h = c.requires.at.is in has_place 0 (omega arith) h.fits.takes.1 (omega (arith, h.depth, h.few))
+    let h = c.requires.at.is in has_place _ 0 (omega arith) h.fits.takes.1 (omega (arith, h.depth, h.few))
 
 pub returns-then-not-is_punctuator-clause-moves : goal.returns-then-not-is_punctuator-clause-moves
 returns-then-not-is_punctuator-clause-moves g c =
     let other : is_punctuator punctuator.CloseCurly (token_of c.args.self.now.tokens) ≡ false = cc in
     λ o h.
-    rw c.push.ensures (comes_to (statement_path other h.path) h.told h.depth h.few (refl, h.fits.takes.1))
+    rw c.push.ensures (comes_to h (statement_path other h.path) h.told h.depth h.few (refl, h.fits.takes.1))
 
 pub returns-in_err-advance-clause-moves : goal.returns-in_err-advance-clause-moves
 returns-in_err-advance-clause-moves g c =
@@ -315,19 +315,19 @@ pub returns-clause-moves : goal.returns-clause-moves
 returns-clause-moves g c =
     let is : is_punctuator punctuator.CloseCurly (token_of c.args.self.now.tokens) ≡ true = cc in
     λ o h.
-    comes_to
+    comes_to h
     (closed (punctuator_past punctuator.CloseCurly is c.in_ok-advance.ensures.consumes c.in_ok-advance.ensures.kept
     (no_statement_path is h.path))) h.told (omega (arith, h.depth)) (omega (arith, h.few))
     (record { level = 0; takes = h.fits.takes.1; ends = tt })
 ''')
 write('evaluation',COMMON,'''
 pub push-requires : goal.push-requires
-push-requires g c = let h = c.requires.at.is in has_place 0 (omega arith) h.fits (rw h.depth h.few)
+push-requires g c = let h = c.requires.at.is in has_place _ 0 (omega arith) h.fits (rw h.depth h.few)
 
 pub returns-clause-moves : goal.returns-clause-moves
 returns-clause-moves g c = λ o h.
     rw c.push.ensures
-    (comes_to (evaluation_path c.requires.starts h.path) h.told h.depth h.few (awaits (refl, h.fits) tt))
+    (comes_to h (evaluation_path c.requires.starts h.path) h.told h.depth h.few (awaits (refl, h.fits) tt))
 ''')
 def semicolon(name, rule, action):
     write(name,COMMON,f'''
@@ -340,18 +340,18 @@ returns-in_err-expect-clause-moves g c =
 pub act-requires : goal.act-requires
 act-requires g c =
     let h = c.requires.at.is in
-    record {{ follows = may h.acts h.told (made {rule} tt (c.in_ok-expect.ensures.passes _ _ _ _ h.path)) }}
+    record {{ follows = may h.acts h.told h.new (made {rule} tt (c.in_ok-expect.ensures.passes _ _ _ _ h.path)) }}
 
 pub returns-in_err-act-clause-moves : goal.returns-in_err-act-clause-moves
 returns-in_err-act-clause-moves g c =
     hands_on c.from_residual-in_err-act.ensures.1 (λ o h.
-    out_of_memory (c.in_ok-expect.ensures.passes o _ _ _ h.path)
+    out_of_memory (c.in_ok-expect.ensures.passes _ _ _ _ h.path)
     (refuses c.in_err-act.field-0.0 _ c.in_err-act.ensures.judged))
 
 pub returns-clause-moves : goal.returns-clause-moves
 returns-clause-moves g c = λ o h.
-    comes_to (made {rule} tt (c.in_ok-expect.ensures.passes o _ _ _ h.path))
-    (c.in_ok-act.ensures.ok o.profile h.acts h.told) h.depth h.few
+    comes_to h (made {rule} tt (c.in_ok-expect.ensures.passes _ _ _ _ h.path))
+    (told_more _ _ c.in_ok-act.ensures.ok h.told) h.depth h.few
     (record {{ level = 0; takes = h.fits.takes.1; ends = tt }})
 ''')
 semicolon('end_evaluation','Evaluate','Chop')

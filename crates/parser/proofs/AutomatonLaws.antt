@@ -25,8 +25,8 @@ use Rattle.parser.specs.declared.frames.Frame.TheVariants as frame
 use Rattle.parser.specs.declared.frames.Front.{Front}
 use Rattle.parser.specs.declared.frames.Front.TheVariants as front
 use Rattle.parser.specs.declared.frames.TheConstants.{MOST_FRAMES, UNARY_LEVEL}
-use Rattle.parser.specs.Automata.{Fits, InExpression, IsTooDeep, Moves, OnExpr, Stands, Takes, Trees, all_tails, front_items, frame_items, stack_of, tails}
-use Rattle.parser.specs.Paths.{Origin, Path, Refused}
+use Rattle.parser.specs.Automata.{Fits, InExpression, IsTooDeep, Moves, OnExpr, Stands, Start, Takes, Trees, all_tails, front_items, frame_items, stack_of, tails}
+use Rattle.parser.specs.Paths.{HasTold, Origin, Path, Refused}
 use Rattle.parser.specs.ScopedCursors.{ScopedCursor, next_at, taken_at, token_of}
 use Rattle.parser.specs.Segment.{FailsAt}
 use Rattle.parser.specs.Stopping.{stop_with}
@@ -36,28 +36,21 @@ use Rattle.parser.proofs.PathLaws.{faulty, may_all}
 
 -- Before and after.
 
-pub comes_to : {F B : Type 0} {o : Origin} {stands : B → Representation} {next : Front} {new : Automaton F B}
-    {values : List PartialTree} {acts : List Action} →
-    Path o (front_items next (token_of new.tokens) ++ stack_of new.frames) values acts new.tokens →
-    stands new.builder.now o.profile acts → nested_count (stack_of new.frames) ≡ new.depth → new.depth ≤ MOST_NESTED →
-    Fits next new.frames (token_of new.tokens) values → Stands o stands next new
-comes_to path told depth few fits =
-    record { values = _; acts = _; path = path; told = told; depth = depth; few = few; fits = fits }
+pub comes_to : {F B : Type 0} {o : Start B} {stands : B → Representation} {old next : Front} {at new : Automaton F B}
+    {values : List PartialTree} {acts : List Action} → Stands o stands old at →
+    Path o.origin (front_items next (token_of new.tokens) ++ stack_of new.frames) values acts new.tokens →
+    HasTold (stands o.builder) (stands new.builder.now) acts → nested_count (stack_of new.frames) ≡ new.depth →
+    new.depth ≤ MOST_NESTED → Fits next new.frames (token_of new.tokens) values → Stands o stands next new
+comes_to h path told depth few fits =
+    record { values = _; acts = _; path = path; new = h.new; told = told; depth = depth; few = few; fits = fits }
 
 -- a fault that a `?` hands on
 pub hands_on : {F B : Type 0} {f : ParseFault} {r : Result Front ParseFault} {denied : Type 0}
     {stands : B → Representation} {at : Front} {old new : Automaton F B} → IsErrAnd r (λ g. g ≡ f) →
-    ((o : Origin) → Stands o stands at old → Refused o denied (stands new.builder.now) f new.tokens) →
+    ((o : Start B) → Stands o stands at old →
+    Refused o.origin denied (HasTold (stands o.builder) (stands new.builder.now)) f new.tokens) →
     Moves r denied stands at old new
 hands_on {r = r} is h = let p = err_from_is_err_and r is in rw (p.1, p.2) h
-
--- a step that goes on with another
-pub moves_from : {F B : Type 0} {denied : Type 0} {stands : B → Representation} {at between : Front}
-    {old mid new : Automaton F B} (r : Result Front ParseFault) →
-    ((o : Origin) → Stands o stands at old → Stands o stands between mid) →
-    Moves r denied stands between mid new → Moves r denied stands at old new
-moves_from (Ok next) on moves o h = moves o (on o h)
-moves_from (Err fault) on moves o h = moves o (on o h)
 
 -- How many frames there are.
 
@@ -96,16 +89,16 @@ few_frames n (frame.Block ∷ frames) small t = omega (arith, t.0, few_frames 0 
 few_frames n (frame.Function ∷ frames) small t = rw t.1 (omega (arith, t.0))
 
 -- there is room for one more
-pub has_place : {frames : List Frame} (n : ℕ) → n < 11 → Takes n frames →
+pub has_place : (frames : List Frame) (n : ℕ) → n < 11 → Takes n frames →
     nested_count (stack_of frames) ≤ MOST_NESTED → length frames < MOST_FRAMES
-has_place {frames} n small t few =
+has_place frames n small t few =
     let nested : nested_count (stack_of frames) ≤ 64 = few in
     omega (arith, small, nested, few_frames n frames (omega (arith, small)) t)
 
 -- so there is while fewer constructs are open than the most, whatever the level is
-pub has_room : {frames : List Frame} (n : ℕ) → n ≤ 11 → Takes n frames →
+pub has_room : (frames : List Frame) (n : ℕ) → n ≤ 11 → Takes n frames →
     nested_count (stack_of frames) < MOST_NESTED → length frames < MOST_FRAMES
-has_room {frames} n small t few =
+has_room frames n small t few =
     let nested : nested_count (stack_of frames) < 64 = few in
     omega (arith, small, nested, few_frames n frames small t)
 
@@ -119,21 +112,21 @@ pub refuses : (e : BuildFault) (denied : Type 0) → Refuses {A = Unit {0}} (Err
 refuses build_fault.Memory denied h = h
 refuses build_fault.Full denied h = absurd h
 
-pub told_all : {now after : Representation} {profile : Profile} {acts : List Action} (more : List Action) →
-    AppendsAll now after more → now profile acts → after profile (and_then acts more)
-told_all {after = after} {profile = profile} {acts = acts} [] added told =
-    subst (λ (xs : List Action). after profile xs) (append-nil acts) (added profile acts told)
-told_all (a ∷ more) added told = added _ _ told
+pub told_all : {began now : Representation} (after : Representation) (acts more : List Action) →
+    AppendsAll now after more → HasTold began now acts → HasTold began after (and_then acts more)
+told_all after acts [] added told profile new =
+    subst (λ (xs : List Action). after profile xs) (append-nil acts) (added profile acts (told profile new))
+told_all after acts (a ∷ more) added told profile new = added profile _ (told profile new)
 
 and_then_is : (acts more : List Action) → and_then acts more ≡ acts ++ more
 and_then_is acts [] = sym (append-nil acts)
 and_then_is acts (a ∷ more) = refl
 
-pub may_report : {o : Origin} {now : Representation} {stack : List Item} {values : List PartialTree}
-    {acts : List Action} {at : ScopedCursor} (more : List Action) → now o.profile acts →
+pub may_report : {o : Origin} {began now : Representation} {stack : List Item} {values : List PartialTree}
+    {at : ScopedCursor} (acts more : List Action) → HasTold began now acts → began o.profile [] →
     Path o stack values (and_then acts more) at → MayFollowAll now more
-may_report {o} {now} {stack} {values} {acts} {at} more told path =
-    may_all acts told (subst (λ (xs : List Action). Path o stack values xs at) (and_then_is acts more) path)
+may_report {o} {began} {now} {stack} {values} {at} acts more told new path =
+    may_all acts told new (subst (λ (xs : List Action). Path o stack values xs at) (and_then_is acts more) path)
 
 -- Nested too deeply.
 
@@ -147,44 +140,46 @@ pub closes : (floor depth : ℕ) (frames : List Frame) →
     nested_count (all_tails floor ++ stack_of frames) + 1 ≡ depth → nested_count (stack_of frames) ≡ depth - 1
 closes floor depth frames h = omega (arith, h, nested_tails (11 - floor) floor (stack_of frames))
 
-pub nests : {F B : Type 0} {o : Origin} {denied : Type 0} {now : Representation} {at : Automaton F B}
+pub nests : {F B : Type 0} {o : Origin} {denied : Type 0} {told : List Action → Type 0} {at : Automaton F B}
     {stack : List Item} {values : List PartialTree} {acts : List Action} {f : ParseFault} {symbol : Symbol} →
     Path o (Part symbol ∷ stack) values acts at.tokens → nested_count stack ≡ at.depth → IsTooDeep at f →
     ((depth : ℕ) → MOST_NESTED ≤ depth → FailsAt depth (Part symbol ∷ []) [] at.tokens.position
     (stop_with (parse_fault.Source (diagnostic (next_at at.tokens.position).line fault_code.NestedTooDeeply))
     (taken_at at.tokens.position))) →
-    Refused o denied now f at.tokens
+    Refused o denied told f at.tokens
 nests {stack = stack} {symbol = symbol} h depth n fails =
     rw n.is (faulty (Part symbol ∷ []) stack h (fails (nested_count stack) (rw depth n.deep)))
 
 -- Operators.
 
 -- operators of these levels follow
-pub operators_stand : {F B : Type 0} {o : Origin} {stands : B → Representation} {new : Automaton F B}
-    {values : List PartialTree} {acts : List Action} (count floor : ℕ) →
+pub operators_stand : {F B : Type 0} {o : Start B} {stands : B → Representation} {old : Front} {at new : Automaton F B}
+    {values : List PartialTree} {acts : List Action} → Stands o stands old at → (count floor : ℕ) →
     operator_from (floor + count) (token_of new.tokens) ≡ None →
-    Path o (tails count floor ++ stack_of new.frames) values acts new.tokens → stands new.builder.now o.profile acts →
+    Path o.origin (tails count floor ++ stack_of new.frames) values acts new.tokens →
+    HasTold (stands o.builder) (stands new.builder.now) acts →
     nested_count (stack_of new.frames) ≡ new.depth → new.depth ≤ MOST_NESTED →
     InExpression floor new.frames (OnExpr (Trees new.frames) values) → Stands o stands (front.Operators floor) new
-operators_stand count floor none path told depth few fits =
-    comes_to (operators_path count floor none path) told depth few fits
+operators_stand h count floor none path told depth few fits =
+    comes_to h (operators_path _ count floor none path) told depth few fits
 
 -- of all levels from one on
-pub operand_stands : {F B : Type 0} {o : Origin} {stands : B → Representation} {new : Automaton F B}
-    {values : List PartialTree} {acts : List Action} (floor : ℕ) →
-    Path o (all_tails floor ++ stack_of new.frames) values acts new.tokens → stands new.builder.now o.profile acts →
+pub operand_stands : {F B : Type 0} {o : Start B} {stands : B → Representation} {old : Front} {at new : Automaton F B}
+    {values : List PartialTree} {acts : List Action} → Stands o stands old at → (floor : ℕ) →
+    Path o.origin (all_tails floor ++ stack_of new.frames) values acts new.tokens →
+    HasTold (stands o.builder) (stands new.builder.now) acts →
     nested_count (stack_of new.frames) ≡ new.depth → new.depth ≤ MOST_NESTED →
     InExpression floor new.frames (OnExpr (Trees new.frames) values) → Stands o stands (front.Operators floor) new
-operand_stands {new = new} floor path told depth few fits =
-    operators_stand (11 - floor) floor (none_past _ (token_of new.tokens) (omega (arith, fits.most))) path told depth few
-    fits
+operand_stands {new = new} h floor path told depth few fits =
+    operators_stand h (11 - floor) floor (none_past _ (token_of new.tokens) (omega (arith, fits.most))) path told depth
+    few fits
 
 -- an operand was derived
-pub operand_done : {F B : Type 0} {o : Origin} {stands : B → Representation} {at new : Automaton F B}
+pub operand_done : {F B : Type 0} {o : Start B} {stands : B → Representation} {at new : Automaton F B}
     {acts : List Action} {e : Expr} (floor : ℕ) (h : Stands o stands (front.Operand floor) at) →
-    Path o (all_tails floor ++ stack_of at.frames) (AnExpr e ∷ h.values) acts new.tokens →
-    stands new.builder.now o.profile acts → new.frames ≡ at.frames → new.depth ≡ at.depth →
+    Path o.origin (all_tails floor ++ stack_of at.frames) (AnExpr e ∷ h.values) acts new.tokens →
+    HasTold (stands o.builder) (stands new.builder.now) acts → new.frames ≡ at.frames → new.depth ≡ at.depth →
     Stands o stands (front.Operators floor) new
 operand_done floor h path told frames depth =
-    operand_stands floor (rw frames path) told (rw (frames, depth) h.depth) (rw depth h.few)
+    operand_stands h floor (rw frames path) told (rw (frames, depth) h.depth) (rw depth h.few)
     (rw frames (record { least = h.fits.least; most = h.fits.most; takes = h.fits.takes; trees = h.fits.trees }))

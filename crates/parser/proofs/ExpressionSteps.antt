@@ -50,16 +50,16 @@ operand_path {at = at} floor most h =
 
 -- Levels of which no operator is next end.
 
-drop_to : {o : Origin} {stack : List Item} {values : List PartialTree} {acts : List Action} {at : ScopedCursor}
+drop_to : {o : Origin} {values : List PartialTree} {acts : List Action} {at : ScopedCursor} (stack : List Item)
     (kept more floor : ℕ) → operator_from (floor + kept) (token_of at) ≡ None →
     Path o (tails (more + kept) floor ++ stack) values acts at → Path o (tails kept floor ++ stack) values acts at
-drop_to {o} {stack} {values} {acts} {at} kept zero floor none h =
+drop_to {o} {values} {acts} {at} stack kept zero floor none h =
     subst (λ (n : ℕ). Path o (tails n floor ++ stack) values acts at) (zero-add kept) h
-drop_to {o} {stack} {values} {acts} {at} kept (suc more) floor none h =
+drop_to {o} {values} {acts} {at} stack kept (suc more) floor none h =
     let level : ℕ = floor + (more + kept) in
     let absent : operator_at level (token_of at) ≡ None =
     none_at (floor + kept) level (token_of at) none (omega arith) in
-    drop_to kept more floor none
+    drop_to stack kept more floor none
     (chosen {more = []} (Tail level) [] (λ after last. no_operator level (token_of at) after absent)
     (λ after last. refl) (rw absent refl)
     (subst (λ (n : ℕ). Path o (tails n floor ++ stack) values acts at) (suc-add more kept) h))
@@ -71,16 +71,16 @@ none_from t b n is less = let test : nat_le n b.level ≡ false = below n b.leve
     below n k less = grind (arith, nat_tests)
 
 -- what is in front after an operand: the levels up to the next operator
-pub operators_path : {o : Origin} {stack : List Item} {values : List PartialTree} {acts : List Action}
-    {at : ScopedCursor} (count floor : ℕ) → operator_from (floor + count) (token_of at) ≡ None →
+pub operators_path : {o : Origin} {values : List PartialTree} {acts : List Action} {at : ScopedCursor}
+    (stack : List Item) (count floor : ℕ) → operator_from (floor + count) (token_of at) ≡ None →
     Path o (tails count floor ++ stack) values acts at →
     Path o (tails_to (operator_from floor (token_of at)) floor ++ stack) values acts at
-operators_path {o} {stack} {values} {acts} {at} count floor none h = by (operator_from floor (token_of at)) refl
+operators_path {o} {values} {acts} {at} stack count floor none h = by (operator_from floor (token_of at)) refl
   where
     by : (found : Option BinaryOperator) → operator_from floor (token_of at) ≡ found →
         Path o (tails_to found floor ++ stack) values acts at
     by None is =
-        drop_to 0 count floor (subst (λ (n : ℕ). operator_from n (token_of at) ≡ None) (omega arith) is)
+        drop_to stack 0 count floor (subst (λ (n : ℕ). operator_from n (token_of at) ≡ None) (omega arith) is)
         (subst (λ (n : ℕ). Path o (tails n floor ++ stack) values acts at) (omega arith) h)
     by (Some b) is =
         let it = found floor (token_of at) b is in
@@ -88,18 +88,18 @@ operators_path {o} {stack} {values} {acts} {at} count floor none h = by (operato
         let under : b.level < floor + count = all_looser (floor + count) (token_of at) b none it.0 in
         let kept : ℕ = b.level + 1 - floor in
         let whole : count ≡ count - kept + kept = omega (arith, under, order) in
-        drop_to kept (count - kept) floor (none_from (token_of at) b (floor + kept) it.0 (omega (arith, order)))
+        drop_to stack kept (count - kept) floor (none_from (token_of at) b (floor + kept) it.0 (omega (arith, order)))
         (subst (λ (n : ℕ). Path o (tails n floor ++ stack) values acts at) whole h)
 
-module _ {o : Origin} {stack : List Item} {values : List PartialTree} {acts : List Action} {at : ScopedCursor} where
+module _ {o : Origin} {values : List PartialTree} {acts : List Action} {at : ScopedCursor} where
   -- An operator.
 
-  pub operator_path : (b : BinaryOperator) (floor : ℕ) (s : SpellsOperator b.level b.op (token_of at)) →
+  pub operator_path : (stack : List Item) (b : BinaryOperator) (floor : ℕ) (s : SpellsOperator b.level b.op (token_of at)) →
       operator_from floor (token_of at) ≡ Some b →
       Path o (tails_to (operator_from floor (token_of at)) floor ++ stack) values acts at →
       Path o (Exactly s.m ∷ Part (Level (b.level + 1)) ∷ Make (Operate b.op) ∷ tails (b.level + 1 - floor) floor ++ stack)
       values (and_then acts (middle b.op)) at
-  operator_path b floor s is h =
+  operator_path stack b floor s is h =
       let order : floor ≤ b.level = (found floor (token_of at) b is).1 in
       let top : b.level + 1 - floor ≡ suc (b.level - floor) = omega (arith, order) in
       let level : floor + (b.level - floor) ≡ b.level = omega (arith, order) in
@@ -108,14 +108,14 @@ module _ {o : Origin} {stack : List Item} {values : List PartialTree} {acts : Li
       let own : operator_at b.level (token_of at) ≡ Some b.op =
       at_its_own (token_of at) b (found floor (token_of at) b is).0 in
       rw whole
-      (chosen (Tail b.level) (Exactly s.m ∷ Part (Level (b.level + 1)) ∷ Make (Operate b.op) ∷ Part (Tail b.level) ∷ [])
+      (chosen {more = middle b.op} (Tail b.level) (Exactly s.m ∷ Part (Level (b.level + 1)) ∷ Make (Operate b.op) ∷ Part (Tail b.level) ∷ [])
       (λ after last. s.choice_is after) (λ after last. refl) (rw own refl)
       (subst (λ (xs : List Item). Path o (xs ++ stack) values acts at) whole
       (subst (λ (b : Option BinaryOperator). Path o (tails_to b floor ++ stack) values acts at) is h)))
 
   -- An assignment, or none.
 
-  pub plain_path : StartsNoAssignment at → Path o (Part Expression ∷ stack) values acts at →
+  pub plain_path : {stack : List Item} → StartsNoAssignment at → Path o (Part Expression ∷ stack) values acts at →
       Path o (Part Unary ∷ all_tails 1 ++ stack) values acts at
   plain_path none h =
       operand_path 1 (omega arith)
@@ -123,7 +123,7 @@ module _ {o : Origin} {stack : List Item} {values : List PartialTree} {acts : Li
       (λ after last. plain_choice (token_of at) after (none_behind at.position after none last))
       (λ after last. plain_enters (token_of at) after (none_behind at.position after none last)) refl h)
 
-  pub store_path : (op : StoreOp) (a : IsAssignment at.position op) (s : SpellsStore op (token_after at)) →
+  pub store_path : {stack : List Item} (op : StoreOp) (a : IsAssignment at.position op) (s : SpellsStore op (token_after at)) →
       nested_count stack < MOST_NESTED → Path o (Part Expression ∷ stack) values acts at →
       Path o (AName Mentioned ∷ Exactly s.m ∷ Part Expression ∷ Make (Store op) ∷ Close ∷ stack) values acts at
   store_path op a s few h =

@@ -21,3 +21,5 @@ pub mod OperandForms
 pub mod ExpressionSteps
 pub mod OperandSteps
 pub mod TreeLaws
+pub mod SourceSteps
+pub mod FunctionEnds

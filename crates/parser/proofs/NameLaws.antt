@@ -1,15 +1,17 @@
 -- If a name was matched, the token after it is next.
 use Rattle.std.proofs.Common.{◌≡◌, ℕ, zero, suc, List, [], ◌∷◌, ◌++◌, refl, sym, ap, ◌∙◌, Bool, true, false, drop}
-use Rattle.std.specs.Prelude.{Some}
-use Rattle.tokens.specs.Tokens.{followed_by}
+use Rattle.std.specs.Prelude.{Some, is_some}
+use Rattle.tokens.specs.Tokens.{followed_by, is_last}
 use Rattle.tokens.specs.declared.located_tokens.LocatedToken.{LocatedToken}
+use Rattle.tokens.specs.declared.located_tokens.Token.{Token}
+use Rattle.tokens.specs.declared.located_tokens.Token.TheVariants as token
 use Rattle.grammar.specs.Derivation.{State, PartialTree, Definition, name_of_token, next_token, line_at, name_tree, derived, stepped}
 use Rattle.grammar.specs.Laws.StateParts.{state}
 use Rattle.grammar.specs.Grammar.{AName, Role, is_lexical_error}
 use Rattle.grammar.specs.Laws.Parsing.{DerivesWithoutFault}
 use Rattle.grammar.specs.ProfileNumbers.{first_profile}
 use Rattle.grammar.specs.Scope.{Scope, scope_after_name}
-use Rattle.parser.specs.ScopedCursors.{MayContinue, UnreadPosition, next_at, scope_at}
+use Rattle.parser.specs.ScopedCursors.{MayContinue, UnreadPosition, after_at, next_at, scope_at}
 use Rattle.parser.specs.Segment.{Derives, DerivesItem}
 
 -- Names.

@@ -5,7 +5,6 @@ use Rattle.tokens.specs.declared.located_tokens.Token.TheVariants as token
 use Rattle.grammar.specs.declared.actions.Action.{Action}
 use Rattle.grammar.specs.declared.diagnostics.ParseFault.TheVariants as parse_fault
 use Rattle.grammar.specs.declared.name_limits.TheConstants.{MOST_NESTED}
-use Rattle.grammar.specs.Building.{Representation}
 use Rattle.grammar.specs.Compiled.{diagnostic}
 use Rattle.grammar.specs.Derivation.{PartialTree, AnExpr}
 use Rattle.grammar.specs.Faults.{nested_count, unexpected_token_code}
@@ -99,7 +98,7 @@ module _ {o : Origin} {stack : List Item} {values : List PartialTree} {acts : Li
   pub no_arguments_path : is_punctuator punctuator.CloseRound (token_of at) ≡ true →
       Path o (Part Arguments ∷ stack) values acts at → Path o stack values acts at
   no_arguments_path is h =
-      chosen {more = []} Arguments [] (λ after last. rw (punctuator_is punctuator.CloseRound _ is) refl)
+      chosen {more = []} Arguments [] (λ after last. rw (punctuator_is punctuator.CloseRound (token_of at) is) refl)
       (λ after last. refl) refl h
 
   pub first_argument_path : is_punctuator punctuator.CloseRound (token_of at) ≡ false →
@@ -148,9 +147,9 @@ module _ {o : Origin} {stack : List Item} {values : List PartialTree} {acts : Li
 
   -- No operand.
 
-  pub operand_misfits : {denied : Type 0} {now : Representation} → NoOperator (token_of at) → NoPrimary (token_of at) →
+  pub operand_misfits : {denied : Type 0} {told : List Action → Type 0} → NoOperator (token_of at) → NoPrimary (token_of at) →
       Path o (Part Unary ∷ stack) values acts at →
-      Refused o denied now
+      Refused o denied told
       (parse_fault.Source (diagnostic (next_at at.position).line (unexpected_token_code (token_of at)))) at
   operand_misfits n p h =
       faulty (Part Primary ∷ []) stack (primary_path n h)

@@ -24,14 +24,14 @@ module _ {o : Origin} {stack : List Item} {values : List PartialTree} {acts : Li
       Path o (Exactly punctuator.Semicolon ∷ stack) values acts at
   empty_path is h =
       chosen {more = []} Statement (Exactly punctuator.Semicolon ∷ []) (λ after last. empty_chosen _ is after)
-      (λ after last. empty_shallow _ is after) (rw (punctuator_is punctuator.Semicolon _ is) refl) h
+      (λ after last. empty_shallow _ is after) (rw (punctuator_is punctuator.Semicolon (token_of at) is) refl) h
 
   pub if_path : is_keyword keyword.If (token_of at) ≡ true → nested_count stack < MOST_NESTED →
       Path o (Part Statement ∷ stack) values acts at →
       Path o (AKeyword keyword.If ∷ conditioned behind_if ++ stack) values acts at
   if_path is few h =
       opened {more = []} Statement (AKeyword keyword.If ∷ conditioned behind_if) (λ after last. if_chosen _ is after) few
-      (rw (word_is keyword.If _ is) refl) h
+      (rw (word_is keyword.If (token_of at) is) refl) h
 
   pub else_path : is_keyword keyword.Else (token_of at) ≡ true → Path o (Part ElsePart ∷ stack) values acts at →
       Path o (AKeyword keyword.Else ∷ Make Empty ∷ Part Statement ∷ Make DecideElse ∷ stack) values acts at
@@ -50,7 +50,7 @@ module _ {o : Origin} {stack : List Item} {values : List PartialTree} {acts : Li
       Path o (AKeyword keyword.While ∷ conditioned behind_while ++ stack) values (acts ++ BeginWhile ∷ []) at
   while_path is few h =
       opened {more = BeginWhile ∷ []} Statement (AKeyword keyword.While ∷ conditioned behind_while)
-      (λ after last. while_chosen _ is after) few (rw (word_is keyword.While _ is) refl) h
+      (λ after last. while_chosen _ is after) few (rw (word_is keyword.While (token_of at) is) refl) h
 
   pub return_path : is_keyword keyword.Return (token_of at) ≡ true → Path o (Part Statement ∷ stack) values acts at →
       Path o (AKeyword keyword.Return ∷ Part Back ∷ Exactly punctuator.Semicolon ∷ Make GiveBack ∷ stack) values acts at
@@ -58,7 +58,7 @@ module _ {o : Origin} {stack : List Item} {values : List PartialTree} {acts : Li
       chosen {more = []} Statement
       (AKeyword keyword.Return ∷ Part Back ∷ Exactly punctuator.Semicolon ∷ Make GiveBack ∷ [])
       (λ after last. return_chosen _ is after) (λ after last. return_shallow _ is after)
-      (rw (word_is keyword.Return _ is) refl) h
+      (rw (word_is keyword.Return (token_of at) is) refl) h
 
   pub zero_path : is_punctuator punctuator.Semicolon (token_of at) ≡ true → Path o (Part Back ∷ stack) values acts at →
       Path o (Make Zero ∷ stack) values acts at
@@ -91,7 +91,7 @@ module _ {o : Origin} {stack : List Item} {values : List PartialTree} {acts : Li
   block_path is h =
       let b : BeginsBlock (token_of at) = begins_block (token_of at) is in
       chosen {more = []} Statement (Part Block ∷ []) (λ after last. b.statement after) (λ after last. b.shallow after)
-      (rw (punctuator_is punctuator.OpenCurly _ is) refl) h
+      (rw (punctuator_is punctuator.OpenCurly (token_of at) is) refl) h
 
   pub braces_path : is_punctuator punctuator.OpenCurly (token_of at) ≡ true → nested_count stack < MOST_NESTED →
       Path o (Part Block ∷ stack) values acts at →

@@ -1,6 +1,7 @@
 -- Where an automaton is in the derivation: what it has in front and in its frames is the derivation's stack.
 use Rattle.std.specs.Prelude.{ℕ, zero, suc, ◌+◌, ◌-◌, ◌*◌, ◌≡◌, ◌<◌, ◌≤◌, List, [], ◌∷◌, ◌++◌, length, Option, Some, None, Result, Ok, Err}
 use Rattle.tokens.specs.declared.located_tokens.Token.{Token}
+use Rattle.tokens.specs.declared.located_tokens.Token.TheVariants as token
 use Rattle.tokens.specs.declared.located_tokens.Punctuator.TheVariants as punctuator
 use Rattle.grammar.specs.declared.actions.Action.{Action}
 use Rattle.grammar.specs.declared.diagnostics.Code.TheVariants as fault_code
@@ -23,7 +24,7 @@ use Rattle.parser.specs.declared.frames.Frame.TheVariants as frame
 use Rattle.parser.specs.declared.frames.Front.{Front}
 use Rattle.parser.specs.declared.frames.Front.TheVariants as front
 use Rattle.parser.specs.declared.frames.TheConstants.{UNARY_LEVEL}
-use Rattle.parser.specs.Paths.{Origin, Path, Refused}
+use Rattle.parser.specs.Paths.{HasTold, Origin, Path, Refused}
 use Rattle.parser.specs.ScopedCursors.{next_at, to_go, token_of}
 use Rattle.parser.specs.UnaryOps.{unary_action}
 
@@ -124,11 +125,11 @@ Trees (frame.Store var op ∷ frames) values = OnVariable var (Trees frames) val
 Trees frames values = Unit {0}
 
 -- operators from this level on are in front of these frames, and these trees were made
-pub record InExpression (floor : ℕ) (frames : List Frame) (trees : Type 0) : Type 0 where
+pub record InExpression (floor : ℕ) (frames : List Frame) (made : Type 0) : Type 0 where
   pub least : 1 ≤ floor
   pub most : floor ≤ UNARY_LEVEL
   pub takes : Takes floor frames
-  pub trees : trees
+  pub trees : made
 
 -- nothing is asked of a statement; of an expression, that no operator follows, and that its tree was made
 abbrev pub Ends : (level : ℕ) → List Frame → Token → List PartialTree → Type 0
@@ -153,22 +154,28 @@ Fits (front.Operators floor) frames next values = InExpression floor frames (OnE
 Fits (front.CallEnd callee floor) frames next values =
     InExpression floor frames (OnCall callee (Trees frames) values)
 Fits front.Enclosing frames next values = IsDone frames next values
-Fits front.End frames next values = (frames ≡ []) × (values ≡ [])
+Fits front.End frames next values = (frames ≡ []) × (values ≡ []) × (next ≡ token.End)
+
+-- what an automaton began with: the path's origin, and a builder
+pub record Start (B : Type 0) : Type 0 where
+  pub origin : Origin
+  pub builder : B
 
 -- The derivation from the file's start is where the automaton is, and the builder was told what it emitted.
-pub record Stands {F B : Type 0} (o : Origin) (stands : B → Representation) (front : Front) (at : Automaton F B) : Type 0
-  where
-    pub values : List PartialTree
-    pub acts : List Action
-    pub path : Path o (front_items front (token_of at.tokens) ++ stack_of at.frames) values acts at.tokens
-    pub told : stands at.builder.now o.profile acts
-    pub depth : nested_count (stack_of at.frames) ≡ at.depth
-    pub few : at.depth ≤ MOST_NESTED
-    pub fits : Fits front at.frames (token_of at.tokens) values
+pub record Stands {F B : Type 0} (o : Start B) (stands : B → Representation) (front : Front) (at : Automaton F B)
+    : Type 0 where
+  pub values : List PartialTree
+  pub acts : List Action
+  pub path : Path o.origin (front_items front (token_of at.tokens) ++ stack_of at.frames) values acts at.tokens
+  pub new : stands o.builder o.origin.profile []
+  pub told : HasTold (stands o.builder) (stands at.builder.now) acts
+  pub depth : nested_count (stack_of at.frames) ≡ at.depth
+  pub few : at.depth ≤ MOST_NESTED
+  pub fits : Fits front at.frames (token_of at.tokens) values
 
 pub record IsAt {F B : Type 0} (stands : B → Representation) (front : Front) (at : Automaton F B) : Type 0 where
-  pub origin : Origin
-  pub is : Stands origin stands front at
+  pub start : Start B
+  pub is : Stands start stands front at
 
 -- an automaton with a further frame on top
 abbrev pub with_frame : {F B : Type 0} → Frame → Automaton F B → Automaton F B
@@ -177,9 +184,11 @@ with_frame frame at = record at { frames = frame ∷ at.frames }
 -- What a step does: the derivation goes on with it, or the parse is over.
 abbrev pub Moves : {F B : Type 0} → Result Front ParseFault → (denied : Type 0) → (B → Representation) → Front →
     (old new : Automaton F B) → Type 0
-Moves (Ok next) denied stands front old new = (o : Origin) → Stands o stands front old → Stands o stands next new
-Moves (Err fault) denied stands front old new =
-    (o : Origin) → Stands o stands front old → Refused o denied (stands new.builder.now) fault new.tokens
+Moves {B = B} (Ok next) denied stands front old new =
+    (o : Start B) → Stands o stands front old → Stands o stands next new
+Moves {B = B} (Err fault) denied stands front old new =
+    (o : Start B) → Stands o stands front old →
+    Refused o.origin denied (HasTold (stands o.builder) (stands new.builder.now)) fault new.tokens
 
 -- what all steps do
 abbrev pub Runs : {A F B : Type 0} → Result A ParseFault → (denied : Type 0) → (B → Representation) →

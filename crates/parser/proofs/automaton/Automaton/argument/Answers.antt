@@ -13,13 +13,13 @@ use Rattle.parser.specs.Automata.{stack_of}
 use Rattle.parser.specs.ScopedCursors.{token_of}
 use Rattle.parser.specs.UnaryOps.{actions_after_operand, actions_before_operand, increment_punctuator, increment_store_op, postfix_actions, prefix_actions, unary_action, unary_punctuator}
 use Rattle.parser.proofs.AssignmentForms.{sign_fits, sign_goes_on, sign_of, store_chooses, store_is_nested}
-use Rattle.parser.proofs.AutomatonLaws.{awaits, closes, comes_to, hands_on, has_place, has_room, may_report, moves_from, nested_tails, nests, operand_done, operand_stands, operators_stand, refuses, told_all, under_tails}
+use Rattle.parser.proofs.AutomatonLaws.{awaits, closes, comes_to, hands_on, has_place, has_room, may_report, nested_tails, nests, operand_done, operand_stands, operators_stand, refuses, told_all, under_tails}
 use Rattle.parser.proofs.ExpressionSteps.{assigned, operand_path, operator_path, plain_path, store_path}
 use Rattle.parser.proofs.NameLaws.{is_named, named_found}
 use Rattle.parser.proofs.OperandForms.{NoOperator, NoPrimary, call_chooses, call_enters, constant_stops, open_chooses, open_enters, no_punctuator, plain_operand, sign_chooses, sign_is_nested}
 use Rattle.parser.proofs.OperandSteps.{bracket_path, bracketed_path, call_path, constant_path, first_argument_path, last_argument_path, named_path, next_argument_path, no_arguments_path, operand_misfits, postfix_path, prefix_path, sign_path, signed_path, variable_path}
 use Rattle.parser.proofs.Operators.{at_its_own, found, spells, ten_levels}
-use Rattle.parser.proofs.PathLaws.{closed, constant_past, falls, made, may, out_of_memory, punctuator_falls, punctuator_past}
+use Rattle.parser.proofs.PathLaws.{closed, constant_past, falls, made, may, told_more, out_of_memory, punctuator_falls, punctuator_past}
 use Rattle.parser.proofs.Productions.{name_too_deep, punctuator_too_deep}
 use Rattle.parser.proofs.TreeLaws.{done_at, ends_at, has_call, has_expr, has_variable, on_both, valued}
 use Rattle.parser.proofs.automaton.Automaton.argument.Goals as goal
@@ -30,7 +30,7 @@ returns-then-not-is_punctuator-clause-moves g c =
     λ o h.
     let x = has_expr _ h.values (done_at 0 h.fits h.fits.takes.0).1 in
     let y = has_call c.args.callee _ x.rest x.below in
-    comes_to (last_argument_path other (made AddArgument tt (valued (on_both x.is y.is) h.path))) h.told (closes c.args.floor _ _ h.depth) (omega (arith, h.few))
+    comes_to h (last_argument_path other (made AddArgument tt (valued (on_both x.is y.is) h.path))) h.told (closes c.args.floor _ _ h.depth) (omega (arith, h.few))
     (record { least = h.fits.takes.1; most = h.fits.takes.2; takes = h.fits.takes.3; trees = (refl, y.below) })
 
 pub returns-in_err-advance-clause-moves : goal.returns-in_err-advance-clause-moves
@@ -45,7 +45,7 @@ returns-in_err-advance-clause-moves g c =
 pub push-requires : goal.push-requires
 push-requires g c =
     let h = c.requires.at.is in
-    has_room c.args.floor h.fits.takes.2 h.fits.takes.3
+    has_room _ c.args.floor h.fits.takes.2 h.fits.takes.3
     (let few : nested_count (all_tails c.args.floor ++ stack_of c.args.self.now.frames) + 1 ≡ c.args.self.now.depth = h.depth in
     let most : c.args.self.now.depth ≤ 64 = h.few in
     omega (arith, few, most, nested_tails (11 - c.args.floor) c.args.floor (stack_of c.args.self.now.frames)))
@@ -56,7 +56,7 @@ returns-clause-moves g c =
     λ o h.
     let x = has_expr _ h.values (done_at 0 h.fits h.fits.takes.0).1 in
     let y = has_call c.args.callee _ x.rest x.below in
-    rw c.push.ensures (comes_to
+    rw c.push.ensures (comes_to h
     (punctuator_past punctuator.Comma is c.in_ok-advance.ensures.consumes c.in_ok-advance.ensures.kept
     (next_argument_path is (made AddArgument tt (valued (on_both x.is y.is) h.path)))) h.told h.depth h.few
     (awaits (refl, h.fits.takes.1, h.fits.takes.2, h.fits.takes.3) (refl, y.below)))

@@ -13,13 +13,13 @@ use Rattle.parser.specs.Automata.{stack_of}
 use Rattle.parser.specs.ScopedCursors.{token_of}
 use Rattle.parser.specs.UnaryOps.{actions_after_operand, actions_before_operand, increment_punctuator, increment_store_op, postfix_actions, prefix_actions, unary_action, unary_punctuator}
 use Rattle.parser.proofs.AssignmentForms.{sign_fits, sign_goes_on, sign_of, store_chooses, store_is_nested}
-use Rattle.parser.proofs.AutomatonLaws.{awaits, closes, comes_to, hands_on, has_place, has_room, may_report, moves_from, nested_tails, nests, operand_done, operand_stands, operators_stand, refuses, told_all, under_tails}
+use Rattle.parser.proofs.AutomatonLaws.{awaits, closes, comes_to, hands_on, has_place, has_room, may_report, nested_tails, nests, operand_done, operand_stands, operators_stand, refuses, told_all, under_tails}
 use Rattle.parser.proofs.ExpressionSteps.{assigned, operand_path, operator_path, plain_path, store_path}
 use Rattle.parser.proofs.NameLaws.{is_named, named_found}
 use Rattle.parser.proofs.OperandForms.{NoOperator, NoPrimary, call_chooses, call_enters, constant_stops, open_chooses, open_enters, no_punctuator, plain_operand, sign_chooses, sign_is_nested}
 use Rattle.parser.proofs.OperandSteps.{bracket_path, bracketed_path, call_path, constant_path, first_argument_path, last_argument_path, named_path, next_argument_path, no_arguments_path, operand_misfits, postfix_path, prefix_path, sign_path, signed_path, variable_path}
 use Rattle.parser.proofs.Operators.{at_its_own, found, spells, ten_levels}
-use Rattle.parser.proofs.PathLaws.{closed, constant_past, falls, made, may, out_of_memory, punctuator_falls, punctuator_past}
+use Rattle.parser.proofs.PathLaws.{closed, constant_past, falls, made, may, told_more, out_of_memory, punctuator_falls, punctuator_past}
 use Rattle.parser.proofs.Productions.{name_too_deep, punctuator_too_deep}
 use Rattle.parser.proofs.TreeLaws.{done_at, ends_at, has_call, has_expr, has_variable, on_both, valued}
 use Rattle.parser.proofs.automaton.Automaton.assignment.Goals as goal
@@ -55,20 +55,20 @@ returns-in_err-advance-clause-moves g c =
     let s = sign_of _ c.args.op a in
     hands_on c.from_residual-in_err-advance.ensures.1 (λ o h.
     punctuator_falls s.m (sign_fits _ _ c.args.op c.in_ok-var.var a c.in_ok-var.ensures.matches s) h.told c.in_err-advance.ensures.kept c.in_err-advance.ensures.consumes
-    (c.in_ok-var.ensures.passes o _ _ _
+    (c.in_ok-var.ensures.passes _ _ _ _
     (store_path c.args.op a s (rw h.depth c.in_ok-check_nesting.ensures.ok) h.path)))
 
 pub push-requires : goal.push-requires
 push-requires g c =
-    let h = c.requires.at.is in has_room 1 (omega arith) h.fits.takes (rw h.depth c.in_ok-check_nesting.ensures.ok)
+    let h = c.requires.at.is in has_room _ 1 (omega arith) h.fits.takes (rw h.depth c.in_ok-check_nesting.ensures.ok)
 
 pub returns-clause-moves : goal.returns-clause-moves
 returns-clause-moves g c =
     let a = assigned c.args.op c.requires.starts in
     let s = sign_of _ c.args.op a in
     λ o h.
-    rw c.push.ensures (comes_to
+    rw c.push.ensures (comes_to h
     (punctuator_past s.m (sign_fits _ _ c.args.op c.in_ok-var.var a c.in_ok-var.ensures.matches s)
-    c.in_ok-advance.ensures.consumes c.in_ok-advance.ensures.kept (c.in_ok-var.ensures.passes o _ _ _
+    c.in_ok-advance.ensures.consumes c.in_ok-advance.ensures.kept (c.in_ok-var.ensures.passes _ _ _ _
     (store_path c.args.op a s (rw h.depth c.in_ok-check_nesting.ensures.ok) h.path))) h.told
     (ap (λ n. n + 1) h.depth) (omega (arith, c.in_ok-check_nesting.ensures.ok)) (awaits (refl, h.fits.takes) (refl, h.fits.trees)))

@@ -8,19 +8,19 @@ use Rattle.parser.specs.ScopedCursors.{token_of}
 use Rattle.parser.proofs.AutomatonLaws.{awaits, comes_to, has_place, hands_on, nests, refuses}
 use Rattle.parser.proofs.Forms.{behind_if, behind_while, begins_block, conditioned, if_chosen, if_enters, in_braces, while_chosen, while_enters}
 use Rattle.parser.proofs.Parts.{punctuator_is, punctuator_too_deep, word_too_deep}
-use Rattle.parser.proofs.PathLaws.{closed, falls, made, may, out_of_memory, punctuator_falls, punctuator_past, word_falls, word_past}
+use Rattle.parser.proofs.PathLaws.{closed, falls, made, may, told_more, out_of_memory, punctuator_falls, punctuator_past, word_falls, word_past}
 use Rattle.parser.proofs.StatementSteps.{block_path, braces_path, else_path, empty_path, evaluation_path, if_path, no_else_path, no_statement_path, return_path, statement_path, value_path, while_path, zero_path}
 use Rattle.parser.proofs.automaton.Automaton.block.Goals as goal
 
 pub push-requires : goal.push-requires
 push-requires g c =
-    let h = c.requires.at.is in has_place 0 (omega arith) h.fits.takes.1 (omega (arith, h.depth, h.few))
+    let h = c.requires.at.is in has_place _ 0 (omega arith) h.fits.takes.1 (omega (arith, h.depth, h.few))
 
 pub returns-then-not-is_punctuator-clause-moves : goal.returns-then-not-is_punctuator-clause-moves
 returns-then-not-is_punctuator-clause-moves g c =
     let other : is_punctuator punctuator.CloseCurly (token_of c.args.self.now.tokens) ≡ false = cc in
     λ o h.
-    rw c.push.ensures (comes_to (statement_path other h.path) h.told h.depth h.few (refl, h.fits.takes.1))
+    rw c.push.ensures (comes_to h (statement_path other h.path) h.told h.depth h.few (refl, h.fits.takes.1))
 
 pub returns-in_err-advance-clause-moves : goal.returns-in_err-advance-clause-moves
 returns-in_err-advance-clause-moves g c =
@@ -33,7 +33,7 @@ pub returns-clause-moves : goal.returns-clause-moves
 returns-clause-moves g c =
     let is : is_punctuator punctuator.CloseCurly (token_of c.args.self.now.tokens) ≡ true = cc in
     λ o h.
-    comes_to
+    comes_to h
     (closed (punctuator_past punctuator.CloseCurly is c.in_ok-advance.ensures.consumes c.in_ok-advance.ensures.kept
     (no_statement_path is h.path))) h.told (omega (arith, h.depth)) (omega (arith, h.few))
     (record { level = 0; takes = h.fits.takes.1; ends = tt })

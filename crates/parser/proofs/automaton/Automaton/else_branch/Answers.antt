@@ -8,7 +8,7 @@ use Rattle.parser.specs.ScopedCursors.{token_of}
 use Rattle.parser.proofs.AutomatonLaws.{awaits, comes_to, has_place, hands_on, nests, refuses}
 use Rattle.parser.proofs.Forms.{behind_if, behind_while, begins_block, conditioned, if_chosen, if_enters, in_braces, while_chosen, while_enters}
 use Rattle.parser.proofs.Parts.{punctuator_is, punctuator_too_deep, word_too_deep}
-use Rattle.parser.proofs.PathLaws.{closed, falls, made, may, out_of_memory, punctuator_falls, punctuator_past, word_falls, word_past}
+use Rattle.parser.proofs.PathLaws.{closed, falls, made, may, told_more, out_of_memory, punctuator_falls, punctuator_past, word_falls, word_past}
 use Rattle.parser.proofs.StatementSteps.{block_path, braces_path, else_path, empty_path, evaluation_path, if_path, no_else_path, no_statement_path, return_path, statement_path, value_path, while_path, zero_path}
 use Rattle.parser.proofs.automaton.Automaton.else_branch.Goals as goal
 
@@ -22,7 +22,7 @@ pub act-requires : goal.act-requires
 act-requires g c =
     let h = c.requires.at.is in
     record {
-      follows = may h.acts h.told (made Empty tt (word_past keyword.Else c.requires.starts c.in_ok-advance.ensures.consumes
+      follows = may h.acts h.told h.new (made Empty tt (word_past keyword.Else c.requires.starts c.in_ok-advance.ensures.consumes
           c.in_ok-advance.ensures.kept (else_path c.requires.starts h.path)));
     }
 
@@ -35,11 +35,11 @@ returns-in_err-act-clause-moves g c =
 
 pub push-requires : goal.push-requires
 push-requires g c =
-    let h = c.requires.at.is in has_place 0 (omega arith) h.fits.takes.1 (omega (arith, h.depth, h.few))
+    let h = c.requires.at.is in has_place _ 0 (omega arith) h.fits.takes.1 (omega (arith, h.depth, h.few))
 
 pub returns-clause-moves : goal.returns-clause-moves
 returns-clause-moves g c = λ o h.
-    rw c.push.ensures (comes_to
+    rw c.push.ensures (comes_to h
     (made Empty tt (word_past keyword.Else c.requires.starts c.in_ok-advance.ensures.consumes
     c.in_ok-advance.ensures.kept (else_path c.requires.starts h.path)))
-    (c.in_ok-act.ensures.ok o.profile h.acts h.told) h.depth h.few (refl, h.fits.takes.1))
+    (told_more _ _ c.in_ok-act.ensures.ok h.told) h.depth h.few (refl, h.fits.takes.1))

@@ -8,7 +8,7 @@ use Rattle.parser.specs.ScopedCursors.{token_of}
 use Rattle.parser.proofs.AutomatonLaws.{awaits, comes_to, has_place, hands_on, nests, refuses}
 use Rattle.parser.proofs.Forms.{behind_if, behind_while, begins_block, conditioned, if_chosen, if_enters, in_braces, while_chosen, while_enters}
 use Rattle.parser.proofs.Parts.{punctuator_is, punctuator_too_deep, word_too_deep}
-use Rattle.parser.proofs.PathLaws.{closed, falls, made, may, out_of_memory, punctuator_falls, punctuator_past, word_falls, word_past}
+use Rattle.parser.proofs.PathLaws.{closed, falls, made, may, told_more, out_of_memory, punctuator_falls, punctuator_past, word_falls, word_past}
 use Rattle.parser.proofs.StatementSteps.{block_path, braces_path, else_path, empty_path, evaluation_path, if_path, no_else_path, no_statement_path, return_path, statement_path, value_path, while_path, zero_path}
 use Rattle.parser.proofs.automaton.Automaton.empty_statement.Goals as goal
 
@@ -20,7 +20,7 @@ returns-in_err-advance-clause-moves g c =
 
 pub returns-clause-moves : goal.returns-clause-moves
 returns-clause-moves g c = λ o h.
-    comes_to
+    comes_to h
     (punctuator_past punctuator.Semicolon c.requires.starts c.in_ok-advance.ensures.consumes
     c.in_ok-advance.ensures.kept (empty_path c.requires.starts h.path)) h.told h.depth h.few
     (record { level = 0; takes = h.fits; ends = tt })

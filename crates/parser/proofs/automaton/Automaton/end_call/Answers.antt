@@ -13,13 +13,13 @@ use Rattle.parser.specs.Automata.{stack_of}
 use Rattle.parser.specs.ScopedCursors.{token_of}
 use Rattle.parser.specs.UnaryOps.{actions_after_operand, actions_before_operand, increment_punctuator, increment_store_op, postfix_actions, prefix_actions, unary_action, unary_punctuator}
 use Rattle.parser.proofs.AssignmentForms.{sign_fits, sign_goes_on, sign_of, store_chooses, store_is_nested}
-use Rattle.parser.proofs.AutomatonLaws.{awaits, closes, comes_to, hands_on, has_place, has_room, may_report, moves_from, nested_tails, nests, operand_done, operand_stands, operators_stand, refuses, told_all, under_tails}
+use Rattle.parser.proofs.AutomatonLaws.{awaits, closes, comes_to, hands_on, has_place, has_room, may_report, nested_tails, nests, operand_done, operand_stands, operators_stand, refuses, told_all, under_tails}
 use Rattle.parser.proofs.ExpressionSteps.{assigned, operand_path, operator_path, plain_path, store_path}
 use Rattle.parser.proofs.NameLaws.{is_named, named_found}
 use Rattle.parser.proofs.OperandForms.{NoOperator, NoPrimary, call_chooses, call_enters, constant_stops, open_chooses, open_enters, no_punctuator, plain_operand, sign_chooses, sign_is_nested}
 use Rattle.parser.proofs.OperandSteps.{bracket_path, bracketed_path, call_path, constant_path, first_argument_path, last_argument_path, named_path, next_argument_path, no_arguments_path, operand_misfits, postfix_path, prefix_path, sign_path, signed_path, variable_path}
 use Rattle.parser.proofs.Operators.{at_its_own, found, spells, ten_levels}
-use Rattle.parser.proofs.PathLaws.{closed, constant_past, falls, made, may, out_of_memory, punctuator_falls, punctuator_past}
+use Rattle.parser.proofs.PathLaws.{closed, constant_past, falls, made, may, told_more, out_of_memory, punctuator_falls, punctuator_past}
 use Rattle.parser.proofs.Productions.{name_too_deep, punctuator_too_deep}
 use Rattle.parser.proofs.TreeLaws.{done_at, ends_at, has_call, has_expr, has_variable, on_both, valued}
 use Rattle.parser.proofs.automaton.Automaton.end_call.Goals as goal
@@ -34,16 +34,16 @@ pub act-requires : goal.act-requires
 act-requires g c =
     let h = c.requires.at.is in
     let y = has_call c.args.callee _ h.values h.fits.trees in
-    record { follows = may h.acts h.told (made Invoke tt (c.in_ok-expect.ensures.passes _ _ _ _ (valued y.is h.path))) }
+    record { follows = may h.acts h.told h.new (made Invoke tt (c.in_ok-expect.ensures.passes _ _ _ _ (valued y.is h.path))) }
 
 pub returns-in_err-act-clause-moves : goal.returns-in_err-act-clause-moves
 returns-in_err-act-clause-moves g c =
     hands_on c.from_residual-in_err-act.ensures.1 (λ o h.
-    out_of_memory (c.in_ok-expect.ensures.passes o _ _ _ h.path)
+    out_of_memory (c.in_ok-expect.ensures.passes _ _ _ _ h.path)
     (refuses c.in_err-act.field-0.0 _ c.in_err-act.ensures.judged))
 
 pub returns-clause-moves : goal.returns-clause-moves
 returns-clause-moves g c = λ o h.
     let y = has_call c.args.callee _ h.values h.fits.trees in
-    operand_stands c.args.floor (closed (made Invoke tt (c.in_ok-expect.ensures.passes o _ _ _ (valued y.is h.path)))) (c.in_ok-act.ensures.ok o.profile h.acts h.told) h.depth h.few
+    operand_stands h c.args.floor (closed (made Invoke tt (c.in_ok-expect.ensures.passes _ _ _ _ (valued y.is h.path)))) (told_more _ _ c.in_ok-act.ensures.ok h.told) h.depth h.few
     (record { least = h.fits.least; most = h.fits.most; takes = h.fits.takes; trees = y.below })

@@ -13,13 +13,13 @@ use Rattle.parser.specs.Automata.{stack_of}
 use Rattle.parser.specs.ScopedCursors.{token_of}
 use Rattle.parser.specs.UnaryOps.{actions_after_operand, actions_before_operand, increment_punctuator, increment_store_op, postfix_actions, prefix_actions, unary_action, unary_punctuator}
 use Rattle.parser.proofs.AssignmentForms.{sign_fits, sign_goes_on, sign_of, store_chooses, store_is_nested}
-use Rattle.parser.proofs.AutomatonLaws.{awaits, closes, comes_to, hands_on, has_place, has_room, may_report, moves_from, nested_tails, nests, operand_done, operand_stands, operators_stand, refuses, told_all, under_tails}
+use Rattle.parser.proofs.AutomatonLaws.{awaits, closes, comes_to, hands_on, has_place, has_room, may_report, nested_tails, nests, operand_done, operand_stands, operators_stand, refuses, told_all, under_tails}
 use Rattle.parser.proofs.ExpressionSteps.{assigned, operand_path, operator_path, plain_path, store_path}
 use Rattle.parser.proofs.NameLaws.{is_named, named_found}
 use Rattle.parser.proofs.OperandForms.{NoOperator, NoPrimary, call_chooses, call_enters, constant_stops, open_chooses, open_enters, no_punctuator, plain_operand, sign_chooses, sign_is_nested}
 use Rattle.parser.proofs.OperandSteps.{bracket_path, bracketed_path, call_path, constant_path, first_argument_path, last_argument_path, named_path, next_argument_path, no_arguments_path, operand_misfits, postfix_path, prefix_path, sign_path, signed_path, variable_path}
 use Rattle.parser.proofs.Operators.{at_its_own, found, spells, ten_levels}
-use Rattle.parser.proofs.PathLaws.{closed, constant_past, falls, made, may, out_of_memory, punctuator_falls, punctuator_past}
+use Rattle.parser.proofs.PathLaws.{closed, constant_past, falls, made, may, told_more, out_of_memory, punctuator_falls, punctuator_past}
 use Rattle.parser.proofs.Productions.{name_too_deep, punctuator_too_deep}
 use Rattle.parser.proofs.TreeLaws.{done_at, ends_at, has_call, has_expr, has_variable, on_both, valued}
 use Rattle.parser.proofs.automaton.Automaton.end_sign.Goals as goal
@@ -28,7 +28,7 @@ pub report_after_operand-requires : goal.report_after_operand-requires
 report_after_operand-requires g c =
     let h = c.requires.at.is in
     let x = has_expr _ h.values (done_at 10 h.fits h.fits.takes.0).1 in
-    record { follow = may_report (actions_after_operand c.args.sign) h.told (signed_path c.args.sign (valued x.is h.path)) }
+    record { follow = may_report h.acts (actions_after_operand c.args.sign) h.told h.new (signed_path c.args.sign (valued x.is h.path)) }
 
 pub returns-in_err-report_after_operand-clause-moves : goal.returns-in_err-report_after_operand-clause-moves
 returns-in_err-report_after_operand-clause-moves g c =
@@ -38,6 +38,6 @@ returns-in_err-report_after_operand-clause-moves g c =
 pub returns-clause-moves : goal.returns-clause-moves
 returns-clause-moves g c = λ o h.
     let x = has_expr _ h.values (done_at 10 h.fits h.fits.takes.0).1 in
-    operand_stands c.args.floor (closed (signed_path c.args.sign (valued x.is h.path)))
-    (told_all (actions_after_operand c.args.sign) c.in_ok-report_after_operand.ensures.reported h.told) (closes c.args.floor _ _ h.depth) (omega (arith, h.few))
+    operand_stands h c.args.floor (closed (signed_path c.args.sign (valued x.is h.path)))
+    (told_all _ _ (actions_after_operand c.args.sign) c.in_ok-report_after_operand.ensures.reported h.told) (closes c.args.floor _ _ h.depth) (omega (arith, h.few))
     (record { least = h.fits.takes.1; most = h.fits.takes.2; takes = h.fits.takes.3; trees = x.below })

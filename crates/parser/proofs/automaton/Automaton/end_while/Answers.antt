@@ -8,13 +8,13 @@ use Rattle.parser.specs.ScopedCursors.{token_of}
 use Rattle.parser.proofs.AutomatonLaws.{awaits, comes_to, has_place, hands_on, nests, refuses}
 use Rattle.parser.proofs.Forms.{behind_if, behind_while, begins_block, conditioned, if_chosen, if_enters, in_braces, while_chosen, while_enters}
 use Rattle.parser.proofs.Parts.{punctuator_is, punctuator_too_deep, word_too_deep}
-use Rattle.parser.proofs.PathLaws.{closed, falls, made, may, out_of_memory, punctuator_falls, punctuator_past, word_falls, word_past}
+use Rattle.parser.proofs.PathLaws.{closed, falls, made, may, told_more, out_of_memory, punctuator_falls, punctuator_past, word_falls, word_past}
 use Rattle.parser.proofs.StatementSteps.{block_path, braces_path, else_path, empty_path, evaluation_path, if_path, no_else_path, no_statement_path, return_path, statement_path, value_path, while_path, zero_path}
 use Rattle.parser.proofs.automaton.Automaton.end_while.Goals as goal
 
 pub act-requires : goal.act-requires
 act-requires g c =
-    let h = c.requires.at.is in record { follows = may h.acts h.told (made Repeat tt h.path) }
+    let h = c.requires.at.is in record { follows = may h.acts h.told h.new (made Repeat tt h.path) }
 
 pub returns-in_err-act-clause-moves : goal.returns-in_err-act-clause-moves
 returns-in_err-act-clause-moves g c =
@@ -23,5 +23,5 @@ returns-in_err-act-clause-moves g c =
 
 pub returns-clause-moves : goal.returns-clause-moves
 returns-clause-moves g c = λ o h.
-    comes_to (closed (made Repeat tt h.path)) (c.in_ok-act.ensures.ok o.profile h.acts h.told)
+    comes_to h (closed (made Repeat tt h.path)) (told_more _ _ c.in_ok-act.ensures.ok h.told)
     (omega (arith, h.depth)) (omega (arith, h.few)) (record { level = 0; takes = h.fits.takes.1; ends = tt })

@@ -8,7 +8,7 @@ use Rattle.parser.specs.ScopedCursors.{token_of}
 use Rattle.parser.proofs.AutomatonLaws.{awaits, comes_to, has_place, hands_on, nests, refuses}
 use Rattle.parser.proofs.Forms.{behind_if, behind_while, begins_block, conditioned, if_chosen, if_enters, in_braces, while_chosen, while_enters}
 use Rattle.parser.proofs.Parts.{punctuator_is, punctuator_too_deep, word_too_deep}
-use Rattle.parser.proofs.PathLaws.{closed, falls, made, may, out_of_memory, punctuator_falls, punctuator_past, word_falls, word_past}
+use Rattle.parser.proofs.PathLaws.{closed, falls, made, may, told_more, out_of_memory, punctuator_falls, punctuator_past, word_falls, word_past}
 use Rattle.parser.proofs.StatementSteps.{block_path, braces_path, else_path, empty_path, evaluation_path, if_path, no_else_path, no_statement_path, return_path, statement_path, value_path, while_path, zero_path}
 use Rattle.parser.proofs.automaton.Automaton.if_test.Goals as goal
 
@@ -21,19 +21,19 @@ returns-in_err-expect-clause-moves g c =
 pub act-requires : goal.act-requires
 act-requires g c =
     let h = c.requires.at.is in
-    record { follows = may h.acts h.told (made Empty tt (c.in_ok-expect.ensures.passes _ _ _ _ h.path)) }
+    record { follows = may h.acts h.told h.new (made Empty tt (c.in_ok-expect.ensures.passes _ _ _ _ h.path)) }
 
 pub returns-in_err-act-clause-moves : goal.returns-in_err-act-clause-moves
 returns-in_err-act-clause-moves g c =
     hands_on c.from_residual-in_err-act.ensures.1 (λ o h.
-    out_of_memory (c.in_ok-expect.ensures.passes o _ _ _ h.path)
+    out_of_memory (c.in_ok-expect.ensures.passes _ _ _ _ h.path)
     (refuses c.in_err-act.field-0.0 _ c.in_err-act.ensures.judged))
 
 pub push-requires : goal.push-requires
 push-requires g c =
-    let h = c.requires.at.is in has_place 0 (omega arith) h.fits.takes.1 (omega (arith, h.depth, h.few))
+    let h = c.requires.at.is in has_place _ 0 (omega arith) h.fits.takes.1 (omega (arith, h.depth, h.few))
 
 pub returns-clause-moves : goal.returns-clause-moves
 returns-clause-moves g c = λ o h.
-    rw c.push.ensures (comes_to (made Empty tt (c.in_ok-expect.ensures.passes o _ _ _ h.path))
-    (c.in_ok-act.ensures.ok o.profile h.acts h.told) h.depth h.few (refl, h.fits.takes.1))
+    rw c.push.ensures (comes_to h (made Empty tt (c.in_ok-expect.ensures.passes _ _ _ _ h.path))
+    (told_more _ _ c.in_ok-act.ensures.ok h.told) h.depth h.few (refl, h.fits.takes.1))

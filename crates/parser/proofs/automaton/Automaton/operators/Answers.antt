@@ -13,13 +13,13 @@ use Rattle.parser.specs.Automata.{stack_of}
 use Rattle.parser.specs.ScopedCursors.{token_of}
 use Rattle.parser.specs.UnaryOps.{actions_after_operand, actions_before_operand, increment_punctuator, increment_store_op, postfix_actions, prefix_actions, unary_action, unary_punctuator}
 use Rattle.parser.proofs.AssignmentForms.{sign_fits, sign_goes_on, sign_of, store_chooses, store_is_nested}
-use Rattle.parser.proofs.AutomatonLaws.{awaits, closes, comes_to, hands_on, has_place, has_room, may_report, moves_from, nested_tails, nests, operand_done, operand_stands, operators_stand, refuses, told_all, under_tails}
+use Rattle.parser.proofs.AutomatonLaws.{awaits, closes, comes_to, hands_on, has_place, has_room, may_report, nested_tails, nests, operand_done, operand_stands, operators_stand, refuses, told_all, under_tails}
 use Rattle.parser.proofs.ExpressionSteps.{assigned, operand_path, operator_path, plain_path, store_path}
 use Rattle.parser.proofs.NameLaws.{is_named, named_found}
 use Rattle.parser.proofs.OperandForms.{NoOperator, NoPrimary, call_chooses, call_enters, constant_stops, open_chooses, open_enters, no_punctuator, plain_operand, sign_chooses, sign_is_nested}
 use Rattle.parser.proofs.OperandSteps.{bracket_path, bracketed_path, call_path, constant_path, first_argument_path, last_argument_path, named_path, next_argument_path, no_arguments_path, operand_misfits, postfix_path, prefix_path, sign_path, signed_path, variable_path}
 use Rattle.parser.proofs.Operators.{at_its_own, found, spells, ten_levels}
-use Rattle.parser.proofs.PathLaws.{closed, constant_past, falls, made, may, out_of_memory, punctuator_falls, punctuator_past}
+use Rattle.parser.proofs.PathLaws.{closed, constant_past, falls, made, may, told_more, out_of_memory, punctuator_falls, punctuator_past}
 use Rattle.parser.proofs.Productions.{name_too_deep, punctuator_too_deep}
 use Rattle.parser.proofs.TreeLaws.{done_at, ends_at, has_call, has_expr, has_variable, on_both, valued}
 use Rattle.parser.proofs.automaton.Automaton.operators.Goals as goal
@@ -28,7 +28,7 @@ pub returns-in_None-clause-moves : goal.returns-in_None-clause-moves
 returns-in_None-clause-moves g c =
     let none : operator_from c.args.floor (token_of c.args.self.now.tokens) ≡ None = cc in
     λ o h.
-    comes_to (rw none at h.path) h.told h.depth h.few
+    comes_to h (rw none at h.path) h.told h.depth h.few
     (record { level = c.args.floor; takes = h.fits.takes; ends = ends_at c.args.floor h.fits.least none h.fits.trees })
 
 pub report_middle-requires : goal.report_middle-requires
@@ -36,7 +36,7 @@ report_middle-requires g c =
     let h = c.requires.at.is in
     let is : operator_from c.args.floor (token_of c.args.self.now.tokens) ≡ Some c.in-Some.binary = cc in
     let s = spells c.in-Some.binary.level c.in-Some.binary.op _ (at_its_own _ c.in-Some.binary (found c.args.floor _ c.in-Some.binary is).0) in
-    record { follow = may_report (middle c.in-Some.binary.op) h.told (operator_path c.in-Some.binary c.args.floor s is h.path) }
+    record { follow = may_report h.acts (middle c.in-Some.binary.op) h.told h.new (operator_path _ c.in-Some.binary c.args.floor s is h.path) }
 
 pub returns-in_err-report_middle-clause-moves : goal.returns-in_err-report_middle-clause-moves
 returns-in_err-report_middle-clause-moves g c =
@@ -54,14 +54,14 @@ returns-in_err-advance-clause-moves g c =
     let is : operator_from c.args.floor (token_of c.args.self.now.tokens) ≡ Some c.in-Some.binary = cc in
     let s = spells c.in-Some.binary.level c.in-Some.binary.op _ (at_its_own _ c.in-Some.binary (found c.args.floor _ c.in-Some.binary is).0) in
     hands_on c.from_residual-in_err-advance.ensures.1 (λ o h.
-    punctuator_falls s.m s.fits (told_all (middle c.in-Some.binary.op) c.in_ok-report_middle.ensures.reported h.told) c.in_err-advance.ensures.kept c.in_err-advance.ensures.consumes
-    (operator_path c.in-Some.binary c.args.floor s is h.path))
+    punctuator_falls s.m s.fits (told_all _ _ (middle c.in-Some.binary.op) c.in_ok-report_middle.ensures.reported h.told) c.in_err-advance.ensures.kept c.in_err-advance.ensures.consumes
+    (operator_path _ c.in-Some.binary c.args.floor s is h.path))
 
 pub push-requires : goal.push-requires
 push-requires g c =
     let is : operator_from c.args.floor (token_of c.args.self.now.tokens) ≡ Some c.in-Some.binary = cc in
     let h = c.requires.at.is in
-    has_place c.args.floor (omega (arith, (found c.args.floor _ c.in-Some.binary is).1, (ten_levels _ c.in-Some.binary (found c.args.floor _ c.in-Some.binary is).0))) h.fits.takes
+    has_place _ c.args.floor (omega (arith, (found c.args.floor _ c.in-Some.binary is).1, (ten_levels _ c.in-Some.binary (found c.args.floor _ c.in-Some.binary is).0))) h.fits.takes
     (rw h.depth h.few)
 
 pub returns-clause-moves : goal.returns-clause-moves
@@ -71,10 +71,10 @@ returns-clause-moves g c =
     let most = ten_levels _ c.in-Some.binary (found c.args.floor _ c.in-Some.binary is).0 in
     let order = (found c.args.floor _ c.in-Some.binary is).1 in
     λ o h.
-    rw c.push.ensures (comes_to
+    rw c.push.ensures (comes_to h
     (operand_path (c.in-Some.binary.level + 1) (omega (arith, most))
-    (punctuator_past s.m s.fits c.in_ok-advance.ensures.consumes c.in_ok-advance.ensures.kept (operator_path c.in-Some.binary c.args.floor s is h.path)))
-    (told_all (middle c.in-Some.binary.op) c.in_ok-report_middle.ensures.reported h.told)
+    (punctuator_past s.m s.fits c.in_ok-advance.ensures.consumes c.in_ok-advance.ensures.kept (operator_path _ c.in-Some.binary c.args.floor s is h.path)))
+    (told_all _ _ (middle c.in-Some.binary.op) c.in_ok-report_middle.ensures.reported h.told)
     (nested_tails (c.in-Some.binary.level + 1 - c.args.floor) c.args.floor (stack_of c.args.self.now.frames) ∙ h.depth)
     h.few
     (record {

@@ -13,13 +13,13 @@ use Rattle.parser.specs.Automata.{stack_of}
 use Rattle.parser.specs.ScopedCursors.{token_of}
 use Rattle.parser.specs.UnaryOps.{actions_after_operand, actions_before_operand, increment_punctuator, increment_store_op, postfix_actions, prefix_actions, unary_action, unary_punctuator}
 use Rattle.parser.proofs.AssignmentForms.{sign_fits, sign_goes_on, sign_of, store_chooses, store_is_nested}
-use Rattle.parser.proofs.AutomatonLaws.{awaits, closes, comes_to, hands_on, has_place, has_room, may_report, moves_from, nested_tails, nests, operand_done, operand_stands, operators_stand, refuses, told_all, under_tails}
+use Rattle.parser.proofs.AutomatonLaws.{awaits, closes, comes_to, hands_on, has_place, has_room, may_report, nested_tails, nests, operand_done, operand_stands, operators_stand, refuses, told_all, under_tails}
 use Rattle.parser.proofs.ExpressionSteps.{assigned, operand_path, operator_path, plain_path, store_path}
 use Rattle.parser.proofs.NameLaws.{is_named, named_found}
 use Rattle.parser.proofs.OperandForms.{NoOperator, NoPrimary, call_chooses, call_enters, constant_stops, open_chooses, open_enters, no_punctuator, plain_operand, sign_chooses, sign_is_nested}
 use Rattle.parser.proofs.OperandSteps.{bracket_path, bracketed_path, call_path, constant_path, first_argument_path, last_argument_path, named_path, next_argument_path, no_arguments_path, operand_misfits, postfix_path, prefix_path, sign_path, signed_path, variable_path}
 use Rattle.parser.proofs.Operators.{at_its_own, found, spells, ten_levels}
-use Rattle.parser.proofs.PathLaws.{closed, constant_past, falls, made, may, out_of_memory, punctuator_falls, punctuator_past}
+use Rattle.parser.proofs.PathLaws.{closed, constant_past, falls, made, may, told_more, out_of_memory, punctuator_falls, punctuator_past}
 use Rattle.parser.proofs.Productions.{name_too_deep, punctuator_too_deep}
 use Rattle.parser.proofs.TreeLaws.{done_at, ends_at, has_call, has_expr, has_variable, on_both, valued}
 use Rattle.parser.proofs.automaton.Automaton.postfix_increment.Goals as goal
@@ -34,24 +34,24 @@ pub returns-in_err-expect-clause-moves : goal.returns-in_err-expect-clause-moves
 returns-in_err-expect-clause-moves g c =
     hands_on c.from_residual-in_err-expect.ensures.1 (λ o h.
     falls (Exactly (increment_punctuator c.args.increment) ∷ []) _ c.in_err-expect.field-0.0
-    (c.in_ok-var.ensures.passes o _ _ _ (postfix_path c.args.increment c.requires.starts h.path)) h.told c.in_err-expect.ensures.kept
+    (c.in_ok-var.ensures.passes _ _ _ _ (postfix_path c.args.increment c.requires.starts h.path)) h.told c.in_err-expect.ensures.kept
     (rw c.punctuator.ensures at c.in_err-expect.ensures.matches))
 
 pub report_postfix-requires : goal.report_postfix-requires
 report_postfix-requires g c =
     let h = c.requires.at.is in
-    record { follow = may_report (postfix_actions c.args.increment c.in_ok-var.var) h.told (made (PostfixIncrement (increment_store_op c.args.increment)) tt
+    record { follow = may_report h.acts (postfix_actions c.args.increment c.in_ok-var.var) h.told h.new (made (PostfixIncrement (increment_store_op c.args.increment)) tt
     ((rw c.punctuator.ensures at c.in_ok-expect.ensures.passes) _ _ _ _ (c.in_ok-var.ensures.passes _ _ _ _ (postfix_path c.args.increment c.requires.starts h.path)))) }
 
 pub returns-in_err-report_postfix-clause-moves : goal.returns-in_err-report_postfix-clause-moves
 returns-in_err-report_postfix-clause-moves g c =
     hands_on c.from_residual-in_err-report_postfix.ensures.1 (λ o h.
-    out_of_memory ((rw c.punctuator.ensures at c.in_ok-expect.ensures.passes) o _ _ _ (c.in_ok-var.ensures.passes o _ _ _ (postfix_path c.args.increment c.requires.starts h.path)))
+    out_of_memory ((rw c.punctuator.ensures at c.in_ok-expect.ensures.passes) _ _ _ _ (c.in_ok-var.ensures.passes _ _ _ _ (postfix_path c.args.increment c.requires.starts h.path)))
     (refuses c.in_err-report_postfix.field-0.0 _ c.in_err-report_postfix.ensures.memory))
 
 pub returns-clause-moves : goal.returns-clause-moves
 returns-clause-moves g c = λ o h.
     operand_done c.args.floor h (made (PostfixIncrement (increment_store_op c.args.increment)) tt
-    ((rw c.punctuator.ensures at c.in_ok-expect.ensures.passes) o _ _ _ (c.in_ok-var.ensures.passes o _ _ _ (postfix_path c.args.increment c.requires.starts h.path))))
-    (told_all (postfix_actions c.args.increment c.in_ok-var.var) c.in_ok-report_postfix.ensures.reported h.told) refl
+    ((rw c.punctuator.ensures at c.in_ok-expect.ensures.passes) _ _ _ _ (c.in_ok-var.ensures.passes _ _ _ _ (postfix_path c.args.increment c.requires.starts h.path))))
+    (told_all _ _ (postfix_actions c.args.increment c.in_ok-var.var) c.in_ok-report_postfix.ensures.reported h.told) refl
     refl

@@ -13,13 +13,13 @@ use Rattle.parser.specs.Automata.{stack_of}
 use Rattle.parser.specs.ScopedCursors.{token_of}
 use Rattle.parser.specs.UnaryOps.{actions_after_operand, actions_before_operand, increment_punctuator, increment_store_op, postfix_actions, prefix_actions, unary_action, unary_punctuator}
 use Rattle.parser.proofs.AssignmentForms.{sign_fits, sign_goes_on, sign_of, store_chooses, store_is_nested}
-use Rattle.parser.proofs.AutomatonLaws.{awaits, closes, comes_to, hands_on, has_place, has_room, may_report, moves_from, nested_tails, nests, operand_done, operand_stands, operators_stand, refuses, told_all, under_tails}
+use Rattle.parser.proofs.AutomatonLaws.{awaits, closes, comes_to, hands_on, has_place, has_room, may_report, nested_tails, nests, operand_done, operand_stands, operators_stand, refuses, told_all, under_tails}
 use Rattle.parser.proofs.ExpressionSteps.{assigned, operand_path, operator_path, plain_path, store_path}
 use Rattle.parser.proofs.NameLaws.{is_named, named_found}
 use Rattle.parser.proofs.OperandForms.{NoOperator, NoPrimary, call_chooses, call_enters, constant_stops, open_chooses, open_enters, no_punctuator, plain_operand, sign_chooses, sign_is_nested}
 use Rattle.parser.proofs.OperandSteps.{bracket_path, bracketed_path, call_path, constant_path, first_argument_path, last_argument_path, named_path, next_argument_path, no_arguments_path, operand_misfits, postfix_path, prefix_path, sign_path, signed_path, variable_path}
 use Rattle.parser.proofs.Operators.{at_its_own, found, spells, ten_levels}
-use Rattle.parser.proofs.PathLaws.{closed, constant_past, falls, made, may, out_of_memory, punctuator_falls, punctuator_past}
+use Rattle.parser.proofs.PathLaws.{closed, constant_past, falls, made, may, told_more, out_of_memory, punctuator_falls, punctuator_past}
 use Rattle.parser.proofs.Productions.{name_too_deep, punctuator_too_deep}
 use Rattle.parser.proofs.TreeLaws.{done_at, ends_at, has_call, has_expr, has_variable, on_both, valued}
 use Rattle.parser.proofs.automaton.Automaton.prefix_increment.Goals as goal
@@ -40,19 +40,19 @@ returns-in_err-var-clause-moves g c =
 pub report_prefix-requires : goal.report_prefix-requires
 report_prefix-requires g c =
     let h = c.requires.at.is in
-    record { follow = may_report (prefix_actions c.args.increment c.in_ok-var.var) h.told (made (PrefixIncrement (increment_store_op c.args.increment)) tt (c.in_ok-var.ensures.passes _ _ _ _ (punctuator_past (increment_punctuator c.args.increment) c.requires.starts c.in_ok-advance.ensures.consumes c.in_ok-advance.ensures.kept
+    record { follow = may_report h.acts (prefix_actions c.args.increment c.in_ok-var.var) h.told h.new (made (PrefixIncrement (increment_store_op c.args.increment)) tt (c.in_ok-var.ensures.passes _ _ _ _ (punctuator_past (increment_punctuator c.args.increment) c.requires.starts c.in_ok-advance.ensures.consumes c.in_ok-advance.ensures.kept
     (prefix_path c.args.increment c.requires.starts h.path)))) }
 
 pub returns-in_err-report_prefix-clause-moves : goal.returns-in_err-report_prefix-clause-moves
 returns-in_err-report_prefix-clause-moves g c =
     hands_on c.from_residual-in_err-report_prefix.ensures.1 (λ o h.
-    out_of_memory (c.in_ok-var.ensures.passes o _ _ _ (punctuator_past (increment_punctuator c.args.increment) c.requires.starts c.in_ok-advance.ensures.consumes c.in_ok-advance.ensures.kept
+    out_of_memory (c.in_ok-var.ensures.passes _ _ _ _ (punctuator_past (increment_punctuator c.args.increment) c.requires.starts c.in_ok-advance.ensures.consumes c.in_ok-advance.ensures.kept
     (prefix_path c.args.increment c.requires.starts h.path)))
     (refuses c.in_err-report_prefix.field-0.0 _ c.in_err-report_prefix.ensures.memory))
 
 pub returns-clause-moves : goal.returns-clause-moves
 returns-clause-moves g c = λ o h.
-    operand_done c.args.floor h (made (PrefixIncrement (increment_store_op c.args.increment)) tt (c.in_ok-var.ensures.passes o _ _ _ (punctuator_past (increment_punctuator c.args.increment) c.requires.starts c.in_ok-advance.ensures.consumes c.in_ok-advance.ensures.kept
+    operand_done c.args.floor h (made (PrefixIncrement (increment_store_op c.args.increment)) tt (c.in_ok-var.ensures.passes _ _ _ _ (punctuator_past (increment_punctuator c.args.increment) c.requires.starts c.in_ok-advance.ensures.consumes c.in_ok-advance.ensures.kept
     (prefix_path c.args.increment c.requires.starts h.path))))
-    (told_all (prefix_actions c.args.increment c.in_ok-var.var) c.in_ok-report_prefix.ensures.reported h.told) refl
+    (told_all _ _ (prefix_actions c.args.increment c.in_ok-var.var) c.in_ok-report_prefix.ensures.reported h.told) refl
     refl

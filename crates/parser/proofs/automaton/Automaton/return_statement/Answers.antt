@@ -8,7 +8,7 @@ use Rattle.parser.specs.ScopedCursors.{token_of}
 use Rattle.parser.proofs.AutomatonLaws.{awaits, comes_to, has_place, hands_on, nests, refuses}
 use Rattle.parser.proofs.Forms.{behind_if, behind_while, begins_block, conditioned, if_chosen, if_enters, in_braces, while_chosen, while_enters}
 use Rattle.parser.proofs.Parts.{punctuator_is, punctuator_too_deep, word_too_deep}
-use Rattle.parser.proofs.PathLaws.{closed, falls, made, may, out_of_memory, punctuator_falls, punctuator_past, word_falls, word_past}
+use Rattle.parser.proofs.PathLaws.{closed, falls, made, may, told_more, out_of_memory, punctuator_falls, punctuator_past, word_falls, word_past}
 use Rattle.parser.proofs.StatementSteps.{block_path, braces_path, else_path, empty_path, evaluation_path, if_path, no_else_path, no_statement_path, return_path, statement_path, value_path, while_path, zero_path}
 use Rattle.parser.proofs.automaton.Automaton.return_statement.Goals as goal
 
@@ -19,14 +19,14 @@ returns-in_err-advance-clause-moves g c =
     (return_path c.requires.starts h.path))
 
 pub push-requires : goal.push-requires
-push-requires g c = let h = c.requires.at.is in has_place 0 (omega arith) h.fits (rw h.depth h.few)
+push-requires g c = let h = c.requires.at.is in has_place _ 0 (omega arith) h.fits (rw h.depth h.few)
 
 pub act-requires : goal.act-requires
 act-requires g c =
     let h = c.requires.at.is in
     let is : is_punctuator punctuator.Semicolon (token_of c.advance.new.self) ≡ true = cc in
     record {
-      follows = may h.acts h.told (made Zero tt (zero_path is (word_past keyword.Return c.requires.starts
+      follows = may h.acts h.told h.new (made Zero tt (zero_path is (word_past keyword.Return c.requires.starts
           c.in_ok-advance.ensures.consumes c.in_ok-advance.ensures.kept (return_path c.requires.starts h.path))));
     }
 
@@ -40,18 +40,18 @@ returns-in_err-act-clause-moves g c =
 pub returns-then-is_punctuator-clause-moves : goal.returns-then-is_punctuator-clause-moves
 returns-then-is_punctuator-clause-moves g c =
     let is : is_punctuator punctuator.Semicolon (token_of c.advance.new.self) ≡ true = cc in
-    let none : operator_from 1 (token_of c.advance.new.self) ≡ None = rw (punctuator_is punctuator.Semicolon _ is) refl in
+    let none : operator_from 1 (token_of c.advance.new.self) ≡ None = rw (punctuator_is punctuator.Semicolon (token_of c.advance.new.self) is) refl in
     λ o h.
-    rw c.push.ensures (comes_to
+    rw c.push.ensures (comes_to h
     (made Zero tt (zero_path is (word_past keyword.Return c.requires.starts c.in_ok-advance.ensures.consumes
     c.in_ok-advance.ensures.kept (return_path c.requires.starts h.path))))
-    (c.in_ok-act.ensures.ok o.profile h.acts h.told) h.depth h.few
+    (told_more _ _ c.in_ok-act.ensures.ok h.told) h.depth h.few
     (record { level = 1; takes = (refl, h.fits); ends = (none, tt) }))
 
 pub returns-clause-moves : goal.returns-clause-moves
 returns-clause-moves g c =
     let other : is_punctuator punctuator.Semicolon (token_of c.advance.new.self) ≡ false = cc in
     λ o h.
-    rw c.push.ensures (comes_to (value_path other (word_past keyword.Return c.requires.starts
+    rw c.push.ensures (comes_to h (value_path other (word_past keyword.Return c.requires.starts
     c.in_ok-advance.ensures.consumes c.in_ok-advance.ensures.kept (return_path c.requires.starts h.path))) h.told
     h.depth h.few (awaits (refl, h.fits) tt))

@@ -8,7 +8,7 @@ use Rattle.parser.specs.ScopedCursors.{token_of}
 use Rattle.parser.proofs.AutomatonLaws.{awaits, comes_to, has_place, hands_on, nests, refuses}
 use Rattle.parser.proofs.Forms.{behind_if, behind_while, begins_block, conditioned, if_chosen, if_enters, in_braces, while_chosen, while_enters}
 use Rattle.parser.proofs.Parts.{punctuator_is, punctuator_too_deep, word_too_deep}
-use Rattle.parser.proofs.PathLaws.{closed, falls, made, may, out_of_memory, punctuator_falls, punctuator_past, word_falls, word_past}
+use Rattle.parser.proofs.PathLaws.{closed, falls, made, may, told_more, out_of_memory, punctuator_falls, punctuator_past, word_falls, word_past}
 use Rattle.parser.proofs.StatementSteps.{block_path, braces_path, else_path, empty_path, evaluation_path, if_path, no_else_path, no_statement_path, return_path, statement_path, value_path, while_path, zero_path}
 use Rattle.parser.proofs.automaton.Automaton.while_statement.Goals as goal
 
@@ -23,7 +23,7 @@ pub act-requires : goal.act-requires
 act-requires g c =
     let h = c.requires.at.is in
     record {
-      follows = may h.acts h.told (while_path c.requires.starts (rw h.depth c.in_ok-check_nesting.ensures.ok) h.path);
+      follows = may h.acts h.told h.new (while_path c.requires.starts (rw h.depth c.in_ok-check_nesting.ensures.ok) h.path);
     }
 
 pub returns-in_err-act-clause-moves : goal.returns-in_err-act-clause-moves
@@ -34,7 +34,7 @@ returns-in_err-act-clause-moves g c =
 pub returns-in_err-advance-clause-moves : goal.returns-in_err-advance-clause-moves
 returns-in_err-advance-clause-moves g c =
     hands_on c.from_residual-in_err-advance.ensures.1 (λ o h.
-    word_falls keyword.While c.requires.starts (c.in_ok-act.ensures.ok o.profile h.acts h.told)
+    word_falls keyword.While c.requires.starts (told_more _ _ c.in_ok-act.ensures.ok h.told)
     c.in_err-advance.ensures.kept c.in_err-advance.ensures.consumes
     (while_path c.requires.starts (rw h.depth c.in_ok-check_nesting.ensures.ok) h.path))
 
@@ -44,16 +44,16 @@ returns-in_err-expect-clause-moves g c =
     falls (Exactly punctuator.OpenRound ∷ []) _ c.in_err-expect.field-0.0
     (word_past keyword.While c.requires.starts c.in_ok-advance.ensures.consumes c.in_ok-advance.ensures.kept
     (while_path c.requires.starts (rw h.depth c.in_ok-check_nesting.ensures.ok) h.path))
-    (c.in_ok-act.ensures.ok o.profile h.acts h.told) c.in_err-expect.ensures.kept c.in_err-expect.ensures.matches)
+    (told_more _ _ c.in_ok-act.ensures.ok h.told) c.in_err-expect.ensures.kept c.in_err-expect.ensures.matches)
 
 pub push-requires : goal.push-requires
-push-requires g c = let h = c.requires.at.is in has_place 0 (omega arith) h.fits (rw h.depth h.few)
+push-requires g c = let h = c.requires.at.is in has_place _ 0 (omega arith) h.fits (rw h.depth h.few)
 
 pub returns-clause-moves : goal.returns-clause-moves
 returns-clause-moves g c = λ o h.
-    rw c.push.ensures (comes_to
-    (c.in_ok-expect.ensures.passes o _ _ _
+    rw c.push.ensures (comes_to h
+    (c.in_ok-expect.ensures.passes _ _ _ _
     (word_past keyword.While c.requires.starts c.in_ok-advance.ensures.consumes c.in_ok-advance.ensures.kept
     (while_path c.requires.starts (rw h.depth c.in_ok-check_nesting.ensures.ok) h.path)))
-    (c.in_ok-act.ensures.ok o.profile h.acts h.told) (ap (λ n. n + 1) h.depth)
+    (told_more _ _ c.in_ok-act.ensures.ok h.told) (ap (λ n. n + 1) h.depth)
     (omega (arith, c.in_ok-check_nesting.ensures.ok)) (awaits (refl, h.fits) tt))
