@@ -23,3 +23,4 @@ pub mod OperandSteps
 pub mod TreeLaws
 pub mod SourceSteps
 pub mod FunctionEnds
+pub mod Closing

@@ -1,7 +1,7 @@
 //! An automaton that takes the derivation's steps, until nothing is left to derive.
 
 ghost use Rattle.std.specs.Prelude.{◌<◌, IfErr, OnOk};
-ghost use Rattle.parser.specs.Automata.{Falls, IsAt, IsTooDeep, KeepsBuilder, Moves, Runs, with_frame};
+ghost use Rattle.parser.specs.Automata.{Falls, HasMore, IsAt, IsTooDeep, KeepsBuilder, Moves, Runs, with_frame};
 
 use crate::frames::{Frame, Frames, Front};
 use crate::scoped_cursor::ScopedCursor;
