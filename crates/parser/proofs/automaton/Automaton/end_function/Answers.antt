@@ -1,0 +1,44 @@
+use Rattle.std.proofs.Common.{◌≡◌, ◌+◌, ◌<◌, ◌≤◌, ◌∙◌, ℕ, [], ◌∷◌, ◌++◌, refl, ap, sym, subst, true, false, arith, length}
+use Rattle.tokens.specs.declared.located_tokens.Keyword.TheVariants as keyword
+use Rattle.tokens.specs.declared.located_tokens.LocatedToken.{LocatedToken}
+use Rattle.tokens.specs.declared.located_tokens.Punctuator.TheVariants as punctuator
+use Rattle.tokens.specs.declared.located_tokens.Token.TheVariants as token
+use Rattle.grammar.specs.declared.actions.Action.TheVariants.{BeginFunction}
+use Rattle.grammar.specs.Building.{Appends, MayFollow}
+use Rattle.grammar.specs.Grammar.{AKeyword, Close, Declarations, Define, Empty, Exactly, FunctionBlock, Make, Part, Source, Statements, Types, is_keyword, is_punctuator}
+use Rattle.grammar.specs.Scope.{end_definition}
+use Rattle.parser.specs.declared.roles.Declared.TheVariants as kind
+use Rattle.parser.specs.Declarations.{header_items, names_items}
+use Rattle.parser.specs.FunctionEnds.{end_actions}
+use Rattle.parser.specs.ScopedCursors.{scope_of, token_after, token_of, with_scope}
+use Rattle.parser.proofs.AutomatonLaws.{comes_to, hands_on, has_place}
+use Rattle.parser.proofs.FunctionEnds.{end_follows, end_refused, function_ends}
+use Rattle.parser.proofs.PathLaws.{closed, falls, made, may, out_of_memory, punctuator_falls, punctuator_past, told_more}
+use Rattle.parser.proofs.AutomatonLaws.{refuses}
+use Rattle.parser.proofs.SourceSteps.{block_misfits, definition_path, end_path, external_path, function_block_path, head_definition_path, head_misfits, in_function, source_misfits, typed_path}
+use Rattle.parser.proofs.StatementSteps.{no_statement_path, statement_path}
+use Rattle.parser.proofs.automaton.Automaton.end_function.Goals as goal
+
+pub report_end-requires : goal.report_end-requires
+report_end-requires g c =
+    let h = c.requires.at.is in
+    record { follow = rw c.variable_count-variables.ensures.count (end_follows (no_statement_path c.requires.starts h.path) h.told h.new) }
+
+pub returns-in_err-report_end-clause-moves : goal.returns-in_err-report_end-clause-moves
+returns-in_err-report_end-clause-moves g c =
+    hands_on c.from_residual.ensures.1 (λ o h.
+    rw c.in_err-report_end.ensures.kept.tokens (end_refused c.in_err-report_end.field-0.0 (no_statement_path c.requires.starts h.path) c.requires.starts h.told h.new
+    c.in_err-report_end.ensures.ends))
+
+pub returns-in_err-advance-clause-moves : goal.returns-in_err-advance-clause-moves
+returns-in_err-advance-clause-moves g c =
+    hands_on c.from_residual-in_err-advance.ensures.1 (λ o h.
+    punctuator_falls punctuator.CloseCurly c.requires.starts (c.in_ok-report_end.ensures.ends.added) c.in_err-advance.ensures.kept
+    c.in_err-advance.ensures.consumes (function_ends (no_statement_path c.requires.starts h.path) h.told h.new (rw c.variable_count-variables.ensures.count at c.in_ok-report_end.ensures.ends)))
+
+pub returns-clause-moves : goal.returns-clause-moves
+returns-clause-moves g c = λ o h.
+    comes_to h
+    (closed (punctuator_past punctuator.CloseCurly c.requires.starts c.in_ok-advance.ensures.consumes c.in_ok-advance.ensures.kept
+    (function_ends (no_statement_path c.requires.starts h.path) h.told h.new (rw c.variable_count-variables.ensures.count at c.in_ok-report_end.ensures.ends)))) (told_more _ _ c.in_ok-report_end.ensures.ends.added h.told) (omega (arith, h.depth)) (omega (arith, h.few))
+    (h.fits.takes.1, refl)

@@ -1,0 +1,36 @@
+use Rattle.std.proofs.Common.{◌≡◌, ◌+◌, ◌<◌, ◌≤◌, ◌∙◌, ℕ, [], ◌∷◌, ◌++◌, refl, ap, sym, subst, true, false, arith, length}
+use Rattle.tokens.specs.declared.located_tokens.Keyword.TheVariants as keyword
+use Rattle.tokens.specs.declared.located_tokens.LocatedToken.{LocatedToken}
+use Rattle.tokens.specs.declared.located_tokens.Punctuator.TheVariants as punctuator
+use Rattle.tokens.specs.declared.located_tokens.Token.TheVariants as token
+use Rattle.grammar.specs.declared.actions.Action.TheVariants.{BeginFunction}
+use Rattle.grammar.specs.Building.{Appends, MayFollow}
+use Rattle.grammar.specs.Grammar.{AKeyword, Close, Declarations, Define, Empty, Exactly, FunctionBlock, Make, Part, Source, Statements, Types, is_keyword, is_punctuator}
+use Rattle.grammar.specs.Scope.{end_definition}
+use Rattle.parser.specs.declared.roles.Declared.TheVariants as kind
+use Rattle.parser.specs.Declarations.{header_items, names_items}
+use Rattle.parser.specs.FunctionEnds.{end_actions}
+use Rattle.parser.specs.ScopedCursors.{scope_of, token_after, token_of, with_scope}
+use Rattle.parser.proofs.AutomatonLaws.{comes_to, hands_on, has_place}
+use Rattle.parser.proofs.FunctionEnds.{end_follows, end_refused, function_ends}
+use Rattle.parser.proofs.PathLaws.{closed, falls, made, may, out_of_memory, punctuator_falls, punctuator_past, told_more}
+use Rattle.parser.proofs.AutomatonLaws.{refuses}
+use Rattle.parser.proofs.SourceSteps.{block_misfits, definition_path, end_path, external_path, function_block_path, head_definition_path, head_misfits, in_function, source_misfits, typed_path}
+use Rattle.parser.proofs.StatementSteps.{no_statement_path, statement_path}
+use Rattle.parser.proofs.automaton.Automaton.typed_part.Goals as goal
+
+pub returns-in_err-expect_type-clause-moves : goal.returns-in_err-expect_type-clause-moves
+returns-in_err-expect_type-clause-moves g c =
+    hands_on c.from_residual.ensures.1 (λ o h.
+    falls (AKeyword keyword.Type ∷ []) _ c.in_err-expect_type.field-0.0 (typed_path c.requires.starts h.path) h.told c.in_err-expect_type.ensures.kept
+    c.in_err-expect_type.ensures.matches)
+
+pub returns-in_err-type_words-clause-moves : goal.returns-in_err-type_words-clause-moves
+returns-in_err-type_words-clause-moves g c =
+    hands_on c.from_residual-in_err-type_words.ensures.1 (λ o h.
+    falls (Part Types ∷ []) _ c.in_err-type_words.field-0.0 (c.in_ok-expect_type.ensures.passes _ _ _ _ (typed_path c.requires.starts h.path)) h.told c.in_err-type_words.ensures.kept
+    c.in_err-type_words.ensures.matches)
+
+pub returns-clause-moves : goal.returns-clause-moves
+returns-clause-moves g c = λ o h.
+    comes_to h (c.in_ok-type_words.ensures.passes _ _ _ _ (c.in_ok-expect_type.ensures.passes _ _ _ _ (typed_path c.requires.starts h.path))) h.told h.depth h.few h.fits

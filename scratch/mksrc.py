@@ -1,0 +1,155 @@
+import os
+exec(open('/work/h/parser/scratch/mkexpr.py').read().split("OKN=")[0].split("COMMON='''")[0])
+BASE='/work/h/parser/crates/parser/proofs/automaton/Automaton/'
+COMMON='''use Rattle.std.proofs.Common.{◌≡◌, ◌+◌, ◌<◌, ◌≤◌, ◌∙◌, ℕ, [], ◌∷◌, ◌++◌, refl, ap, sym, subst, true, false, arith, length}
+use Rattle.tokens.specs.declared.located_tokens.Keyword.TheVariants as keyword
+use Rattle.tokens.specs.declared.located_tokens.LocatedToken.{LocatedToken}
+use Rattle.tokens.specs.declared.located_tokens.Punctuator.TheVariants as punctuator
+use Rattle.tokens.specs.declared.located_tokens.Token.TheVariants as token
+use Rattle.grammar.specs.declared.actions.Action.TheVariants.{BeginFunction}
+use Rattle.grammar.specs.Building.{Appends, MayFollow}
+use Rattle.grammar.specs.Grammar.{AKeyword, Close, Declarations, Define, Empty, Exactly, FunctionBlock, Make, Part, Source, Statements, Types, is_keyword, is_punctuator}
+use Rattle.grammar.specs.Scope.{end_definition}
+use Rattle.parser.specs.declared.roles.Declared.TheVariants as kind
+use Rattle.parser.specs.Declarations.{header_items, names_items}
+use Rattle.parser.specs.FunctionEnds.{end_actions}
+use Rattle.parser.specs.ScopedCursors.{scope_of, token_after, token_of, with_scope}
+use Rattle.parser.proofs.AutomatonLaws.{comes_to, hands_on, has_place}
+use Rattle.parser.proofs.FunctionEnds.{end_follows, end_refused, function_ends}
+use Rattle.parser.proofs.PathLaws.{closed, falls, made, may, out_of_memory, punctuator_falls, punctuator_past, told_more}
+use Rattle.parser.proofs.AutomatonLaws.{refuses}
+use Rattle.parser.proofs.SourceSteps.{block_misfits, definition_path, end_path, external_path, function_block_path, head_definition_path, head_misfits, in_function, source_misfits, typed_path}
+use Rattle.parser.proofs.StatementSteps.{no_statement_path, statement_path}'''
+def write(name, answers):
+    d=BASE+name; os.makedirs(d,exist_ok=True)
+    out=[COMMON, f"use Rattle.parser.proofs.automaton.Automaton.{name}.Goals as goal", ""]
+    for goal,body in answers:
+        out.append(f"pub {goal} : goal.{goal}")
+        out.append(body.strip('\n'))
+        out.append("")
+    s='\n'.join(out).rstrip('\n')+'\n'
+    p=d+'/Answers.antt'
+    if not os.path.exists(p) or open(p).read()!=s: open(p,'w').write(s)
+def err(call, first, path, lets='', arm=''):
+    r='c.from_residual.ensures.1' if first else f'c.from_residual-in_err-{call}{arm}.ensures.1'
+    g=f'returns-in_err-{call}{arm}-clause-moves'
+    return (g, f"{g} g c =\n{lets}    hands_on {r} (λ o h.\n    {path})")
+def fall(items, call, path, told='h.told', arm=''):
+    return f"falls {items} _ c.in_err-{call}{arm}.field-0.0 {path} {told} c.in_err-{call}{arm}.ensures.kept\n    c.in_err-{call}{arm}.ensures.matches"
+ST='c.requires.starts'
+def named(arm,peek='peek'): return f"(ap (λ (l : LocatedToken). l.token) (sym c.{peek}.ensures.value) ∙ c.in-Name{arm}.is)"
+TOK="(ap (λ (l : LocatedToken). l.token) c.peek.ensures.value ∙ same)"
+write('source',[
+ ('returns-in_End-clause-moves',"""returns-in_End-clause-moves g c =
+    let is : token_of c.args.self.now.tokens ≡ token.End = cc in
+    λ o h.
+    comes_to h (end_path is h.path) h.told h.depth h.few (h.fits.0, h.fits.1, is)"""),
+ ('returns-in-Name-clause-moves',f"""returns-in-Name-clause-moves g c = λ o h.
+    comes_to h (definition_path c.in-Name.field-0 {named('')} h.path) h.told h.depth h.few h.fits"""),
+ ('returns-in_default-clause-moves',f"""returns-in_default-clause-moves g c =
+    let other : is_keyword keyword.Type (token_of c.args.self.now.tokens) ≡ false = cc in
+    λ o h.
+    rw c.unexpected_token.ensures (source_misfits (λ same. c.in_default.not-End {TOK}) other
+    (λ name same. c.in_default.not-Name name {TOK}) h.path)"""),
+])
+TP=f"(typed_path {ST} h.path)"
+TY=f"(c.in_ok-expect_type.ensures.passes _ _ _ _ {TP})"
+write('typed_part',[
+ err('expect_type',True,fall('(AKeyword keyword.Type ∷ [])','expect_type',TP)),
+ err('type_words',False,fall('(Part Types ∷ [])','type_words',TY)),
+ ('returns-clause-moves',f"""returns-clause-moves g c = λ o h.
+    comes_to h (c.in_ok-type_words.ensures.passes _ _ _ _ {TY}) h.told h.depth h.few h.fits"""),
+])
+EX=f"(external_path c.in-Name-2.field-0 {named('-2')} other h.path)"
+OT="    let other : is_punctuator punctuator.OpenRound (token_after c.args.self.now.tokens) ≡ false = cc in\n"
+write('head',[
+ ('returns-in-Name-clause-moves',f"""returns-in-Name-clause-moves g c =
+    let is : is_punctuator punctuator.OpenRound (token_after c.args.self.now.tokens) ≡ true = cc in
+    λ o h.
+    comes_to h (head_definition_path c.in-Name.field-0 {named('')} is h.path) h.told h.depth h.few h.fits"""),
+ err('external_declaration',True,fall('(names_items kind.Externals)','external_declaration',EX),lets=OT),
+ ('returns-in_ok-external_declaration-clause-moves',f"""returns-in_ok-external_declaration-clause-moves g c =
+{OT}    λ o h.
+    comes_to h (c.in_ok-external_declaration.ensures.passes _ _ _ _ {EX}) h.told h.depth h.few h.fits"""),
+ ('returns-in_default-clause-moves',f"""returns-in_default-clause-moves g c = λ o h.
+    rw c.unexpected_token.ensures (head_misfits (λ name same. c.in_default.not-Name name {TOK}) h.path)"""),
+])
+H="(c.in_ok-number.ensures.passes _ _ _ _ h.path)"
+FEW="(rw h.fits.0 (omega arith))"
+D=f"(function_block_path is {FEW} {H})"
+IS="    let is : is_punctuator punctuator.OpenCurly (token_of c.function_header-number.new.parser) ≡ true = cc in\n"
+NUM="(rw (c.in_ok-number.ensures.begun.is, sym c.parameter_count.ensures.count)"
+PAST=f"(punctuator_past punctuator.OpenCurly is c.in_ok-advance.ensures.consumes c.in_ok-advance.ensures.kept\n    {D})"
+TOLD="(told_more _ _ added h.told)"
+ADD="""    let added = rw (sym c.in_ok-number.ensures.begun.is, c.parameter_count.ensures.count) at c.in_ok-act.ensures.ok in
+"""
+DEC=f"(made Empty tt {PAST})"
+write('definition',[
+ err('number',True,fall('header_items','number','h.path')),
+ ('returns-then-not-is_punctuator-clause-moves',f"""returns-then-not-is_punctuator-clause-moves g c =
+    let other : is_punctuator punctuator.OpenCurly (token_of c.function_header-number.new.parser) ≡ false = cc in
+    λ o h.
+    rw c.unexpected_token.ensures (block_misfits other {H})"""),
+ ('act-requires',f"""act-requires g c =
+{IS}    let h = c.requires.at.is in
+    record {{
+      follows = {NUM} at (may h.acts h.told h.new {D}));
+    }}"""),
+ err('act',False,f"out_of_memory {H} (refuses c.in_err-act.field-0.0 _ c.in_err-act.ensures.judged)"),
+ err('advance',False,f"punctuator_falls punctuator.OpenCurly is {TOLD} c.in_err-advance.ensures.kept\n    c.in_err-advance.ensures.consumes {D}",lets=IS+ADD),
+ err('declarations',False,fall('(Part Declarations ∷ [])','declarations',DEC,TOLD),lets=IS+ADD),
+ ('push-requires',"""push-requires g c = rw c.requires.at.is.fits.0 (omega arith)"""),
+ ('returns-clause-moves',f"""returns-clause-moves g c =
+{IS}{ADD}    λ o h.
+    rw c.push.ensures (comes_to h (c.in_ok-declarations.ensures.passes _ _ _ _ {DEC}) {TOLD} (ap (λ n. n + 1) h.depth)
+    (rw (sym h.depth, h.fits.0) (omega arith)) (record {{ level = 0; takes = (refl, h.fits.0); ends = tt }}))"""),
+])
+write('function',[
+ ('push-requires',"""push-requires g c = rw c.requires.at.is.fits.takes.1 (omega arith)"""),
+ ('returns-then-not-is_punctuator-clause-moves',"""returns-then-not-is_punctuator-clause-moves g c =
+    let other : is_punctuator punctuator.CloseCurly (token_of c.args.self.now.tokens) ≡ false = cc in
+    λ o h.
+    rw c.push.ensures (comes_to h (statement_path other h.path) h.told h.depth h.few (refl, h.fits.takes.1))"""),
+])
+N=f"(no_statement_path {ST} h.path)"
+CL="(rw (c.variable_count-variables.ensures.count, c.in_ok-report_end.ensures.kept.tokens) c.in_ok-report_end.ensures.ends)"
+VAR="c.variable_count-variables.ensures.count"
+FE=f"(function_ends {N} h.told h.new (rw {VAR} at c.in_ok-report_end.ensures.ends))"
+write('end_function',[
+ ('report_end-requires',f"""report_end-requires g c =
+    let h = c.requires.at.is in
+    record {{ follow = rw {VAR} (end_follows {N} h.told h.new) }}"""),
+ err('report_end',True,f"rw c.in_err-report_end.ensures.kept.tokens (end_refused c.in_err-report_end.field-0.0 {N} {ST} h.told h.new\n    c.in_err-report_end.ensures.ends)"),
+ err('advance',False,f"punctuator_falls punctuator.CloseCurly {ST} (c.in_ok-report_end.ensures.ends.added) c.in_err-advance.ensures.kept\n    c.in_err-advance.ensures.consumes {FE}"),
+ ('returns-clause-moves',f"""returns-clause-moves g c = λ o h.
+    comes_to h
+    (closed (punctuator_past punctuator.CloseCurly {ST} c.in_ok-advance.ensures.consumes c.in_ok-advance.ensures.kept
+    {FE})) (told_more _ _ c.in_ok-report_end.ensures.ends.added h.told) (omega (arith, h.depth)) (omega (arith, h.few))
+    (h.fits.takes.1, refl)"""),
+])
+COMMON='''use Rattle.std.proofs.Common.{◌≡◌, ◌∙◌, refl, sym, subst, true, false}
+use Rattle.std.proofs.lemmas.Result.{err_from_is_err_and}
+use Rattle.parser.specs.declared.frames.Front.{Front}
+use Rattle.parser.specs.declared.frames.Front.TheVariants as front
+use Rattle.parser.specs.Automata.{Stands}'''
+write('run',[
+ ('loop-front-init',"""loop-front-init g c = record { moved = λ o h. h; builder = refl }"""),
+ ('loop-front-preserved',"""loop-front-preserved g c = record {
+  moved = λ o h. c.in_ok-step.ensures.moves o (c.loop-front.invariant.moved o h);
+  builder = c.step.ensures.builder ∙ c.loop-front.invariant.builder;
+}"""),
+ ('step-requires',"""step-requires g c = record {
+  at = record {
+    start = c.requires.at.start;
+    is = c.loop-front.invariant.moved c.requires.at.start c.requires.at.is;
+  };
+  more = {!!};
+}"""),
+ ('returns-in_err-step-clause-runs',"""returns-in_err-step-clause-runs g c =
+    let p = err_from_is_err_and c.from_residual.result c.from_residual.ensures.1 in
+    rw (p.1, p.2) (λ o h. c.in_err-step.ensures.moves o (c.loop-front.invariant.moved o h))"""),
+ ('returns-clause-runs',"""returns-clause-runs g c =
+    let is : c.loop-front.front ≡ front.End = cc in
+    λ o h.
+    subst (λ (f : Front). Stands o g.B.Build.stands f c.loop-front.self) is (c.loop-front.invariant.moved o h)"""),
+])
