@@ -7,12 +7,13 @@ def write(name, imports, body):
     open(d+'/Answers.antt','w').write(s)
 COMMON='''use Rattle.std.proofs.Common.{◌≡◌, ◌+◌, ◌∙◌, [], ◌∷◌, refl, ap, true, false, arith}
 use Rattle.std.specs.Prelude.{None}
+use Rattle.std.proofs.lemmas.Result.{err_from_is_err_and}
 use Rattle.tokens.specs.declared.located_tokens.Punctuator.TheVariants as punctuator
 use Rattle.tokens.specs.declared.located_tokens.Keyword.TheVariants as keyword
 use Rattle.grammar.specs.Grammar.{AKeyword, Exactly, Part, Make, Statement, Statements, Block, Declarations, Empty, Evaluate, GiveBack, Zero, Decide, DecideElse, Repeat, is_keyword, is_punctuator}
 use Rattle.grammar.specs.Laws.Climbing.{operator_from}
 use Rattle.parser.specs.ScopedCursors.{token_of}
-use Rattle.parser.proofs.AutomatonLaws.{awaits, comes_to, has_place, hands_on, nests, refuses}
+use Rattle.parser.proofs.AutomatonLaws.{awaits, comes_to, has_place, nests, refuses}
 use Rattle.parser.proofs.Forms.{behind_if, behind_while, begins_block, conditioned, if_chosen, if_enters, in_braces, while_chosen, while_enters}
 use Rattle.parser.proofs.Parts.{punctuator_is, punctuator_too_deep, word_too_deep}
 use Rattle.parser.proofs.PathLaws.{closed, falls, made, may, told_more, out_of_memory, punctuator_falls, punctuator_past, word_falls, word_past}
@@ -20,7 +21,8 @@ use Rattle.parser.proofs.StatementSteps.{block_path, braces_path, else_path, emp
 write('empty_statement',COMMON,'''
 pub returns-in_err-advance-clause-moves : goal.returns-in_err-advance-clause-moves
 returns-in_err-advance-clause-moves g c =
-    hands_on c.from_residual.ensures.1 (λ o h.
+    let p = err_from_is_err_and c.from_residual.result c.from_residual.ensures.1 in
+    rw (p.1, p.2) (λ o h.
     punctuator_falls punctuator.Semicolon c.requires.starts h.told c.in_err-advance.ensures.kept
     c.in_err-advance.ensures.consumes (empty_path c.requires.starts h.path))
 
@@ -37,20 +39,23 @@ push-requires g c = let h = c.requires.at.is in has_place _ 0 (omega arith) h.fi
 
 pub returns-in_err-check_nesting-clause-moves : goal.returns-in_err-check_nesting-clause-moves
 returns-in_err-check_nesting-clause-moves g c =
-    hands_on c.from_residual.ensures.1 (λ o h.
+    let p = err_from_is_err_and c.from_residual.result c.from_residual.ensures.1 in
+    rw (p.1, p.2) (λ o h.
     nests h.path h.depth c.in_err-check_nesting.ensures.refused (λ depth.
     word_too_deep _ _ h.path.ready.near depth Statement keyword.If (conditioned behind_if) [] h.path.ready.sound
     (if_chosen _ c.requires.starts) c.requires.starts (if_enters _ c.requires.starts)))
 
 pub returns-in_err-advance-clause-moves : goal.returns-in_err-advance-clause-moves
 returns-in_err-advance-clause-moves g c =
-    hands_on c.from_residual-in_err-advance.ensures.1 (λ o h.
+    let p = err_from_is_err_and c.from_residual-in_err-advance.result c.from_residual-in_err-advance.ensures.1 in
+    rw (p.1, p.2) (λ o h.
     word_falls keyword.If c.requires.starts h.told c.in_err-advance.ensures.kept c.in_err-advance.ensures.consumes
     (if_path c.requires.starts (rw h.depth c.in_ok-check_nesting.ensures.ok) h.path))
 
 pub returns-in_err-expect-clause-moves : goal.returns-in_err-expect-clause-moves
 returns-in_err-expect-clause-moves g c =
-    hands_on c.from_residual-in_err-expect.ensures.1 (λ o h.
+    let p = err_from_is_err_and c.from_residual-in_err-expect.result c.from_residual-in_err-expect.ensures.1 in
+    rw (p.1, p.2) (λ o h.
     falls (Exactly punctuator.OpenRound ∷ []) _ c.in_err-expect.field-0.0
     (word_past keyword.If c.requires.starts c.in_ok-advance.ensures.consumes c.in_ok-advance.ensures.kept
     (if_path c.requires.starts (rw h.depth c.in_ok-check_nesting.ensures.ok) h.path)) h.told
@@ -68,7 +73,8 @@ def test(name, item, rule, action):
     write(name,COMMON,f'''
 pub returns-in_err-expect-clause-moves : goal.returns-in_err-expect-clause-moves
 returns-in_err-expect-clause-moves g c =
-    hands_on c.from_residual.ensures.1 (λ o h.
+    let p = err_from_is_err_and c.from_residual.result c.from_residual.ensures.1 in
+    rw (p.1, p.2) (λ o h.
     falls (Exactly punctuator.CloseRound ∷ []) _ c.in_err-expect.field-0.0 h.path h.told c.in_err-expect.ensures.kept
     c.in_err-expect.ensures.matches)
 
@@ -79,7 +85,8 @@ act-requires g c =
 
 pub returns-in_err-act-clause-moves : goal.returns-in_err-act-clause-moves
 returns-in_err-act-clause-moves g c =
-    hands_on c.from_residual-in_err-act.ensures.1 (λ o h.
+    let p = err_from_is_err_and c.from_residual-in_err-act.result c.from_residual-in_err-act.ensures.1 in
+    rw (p.1, p.2) (λ o h.
     out_of_memory (c.in_ok-expect.ensures.passes _ _ _ _ h.path)
     (refuses c.in_err-act.field-0.0 _ c.in_err-act.ensures.judged))
 
@@ -97,7 +104,8 @@ test('while_test','While','WhileTest','')
 write('else_branch',COMMON,'''
 pub returns-in_err-advance-clause-moves : goal.returns-in_err-advance-clause-moves
 returns-in_err-advance-clause-moves g c =
-    hands_on c.from_residual.ensures.1 (λ o h.
+    let p = err_from_is_err_and c.from_residual.result c.from_residual.ensures.1 in
+    rw (p.1, p.2) (λ o h.
     word_falls keyword.Else c.requires.starts h.told c.in_err-advance.ensures.kept c.in_err-advance.ensures.consumes
     (else_path c.requires.starts h.path))
 
@@ -111,7 +119,8 @@ act-requires g c =
 
 pub returns-in_err-act-clause-moves : goal.returns-in_err-act-clause-moves
 returns-in_err-act-clause-moves g c =
-    hands_on c.from_residual-in_err-act.ensures.1 (λ o h.
+    let p = err_from_is_err_and c.from_residual-in_err-act.result c.from_residual-in_err-act.ensures.1 in
+    rw (p.1, p.2) (λ o h.
     out_of_memory
     (word_past keyword.Else c.requires.starts c.in_ok-advance.ensures.consumes c.in_ok-advance.ensures.kept
     (else_path c.requires.starts h.path)) (refuses c.in_err-act.field-0.0 _ c.in_err-act.ensures.judged))
@@ -135,7 +144,8 @@ act-requires g c =
 
 pub returns-in_err-act-clause-moves : goal.returns-in_err-act-clause-moves
 returns-in_err-act-clause-moves g c =
-    hands_on c.from_residual.ensures.1 (λ o h.
+    let p = err_from_is_err_and c.from_residual.result c.from_residual.ensures.1 in
+    rw (p.1, p.2) (λ o h.
     out_of_memory h.path (refuses c.in_err-act.field-0.0 _ c.in_err-act.ensures.judged))
 
 pub returns-clause-moves : goal.returns-clause-moves
@@ -154,7 +164,8 @@ act-requires g c =
 
 pub returns-in_err-act-clause-moves : goal.returns-in_err-act-clause-moves
 returns-in_err-act-clause-moves g c =
-    hands_on c.from_residual.ensures.1 (λ o h.
+    let p = err_from_is_err_and c.from_residual.result c.from_residual.ensures.1 in
+    rw (p.1, p.2) (λ o h.
     out_of_memory h.path (refuses c.in_err-act.field-0.0 _ c.in_err-act.ensures.judged))
 
 pub returns-in_ok-act-clause-moves : goal.returns-in_ok-act-clause-moves
@@ -167,7 +178,8 @@ returns-in_ok-act-clause-moves g c =
 write('while_statement',COMMON,'''
 pub returns-in_err-check_nesting-clause-moves : goal.returns-in_err-check_nesting-clause-moves
 returns-in_err-check_nesting-clause-moves g c =
-    hands_on c.from_residual.ensures.1 (λ o h.
+    let p = err_from_is_err_and c.from_residual.result c.from_residual.ensures.1 in
+    rw (p.1, p.2) (λ o h.
     nests h.path h.depth c.in_err-check_nesting.ensures.refused (λ depth.
     word_too_deep _ _ h.path.ready.near depth Statement keyword.While (conditioned behind_while) [] h.path.ready.sound
     (while_chosen _ c.requires.starts) c.requires.starts (while_enters _ c.requires.starts)))
@@ -181,19 +193,22 @@ act-requires g c =
 
 pub returns-in_err-act-clause-moves : goal.returns-in_err-act-clause-moves
 returns-in_err-act-clause-moves g c =
-    hands_on c.from_residual-in_err-act.ensures.1 (λ o h.
+    let p = err_from_is_err_and c.from_residual-in_err-act.result c.from_residual-in_err-act.ensures.1 in
+    rw (p.1, p.2) (λ o h.
     out_of_memory h.path (refuses c.in_err-act.field-0.0 _ c.in_err-act.ensures.judged))
 
 pub returns-in_err-advance-clause-moves : goal.returns-in_err-advance-clause-moves
 returns-in_err-advance-clause-moves g c =
-    hands_on c.from_residual-in_err-advance.ensures.1 (λ o h.
+    let p = err_from_is_err_and c.from_residual-in_err-advance.result c.from_residual-in_err-advance.ensures.1 in
+    rw (p.1, p.2) (λ o h.
     word_falls keyword.While c.requires.starts (told_more _ _ c.in_ok-act.ensures.ok h.told)
     c.in_err-advance.ensures.kept c.in_err-advance.ensures.consumes
     (while_path c.requires.starts (rw h.depth c.in_ok-check_nesting.ensures.ok) h.path))
 
 pub returns-in_err-expect-clause-moves : goal.returns-in_err-expect-clause-moves
 returns-in_err-expect-clause-moves g c =
-    hands_on c.from_residual-in_err-expect.ensures.1 (λ o h.
+    let p = err_from_is_err_and c.from_residual-in_err-expect.result c.from_residual-in_err-expect.ensures.1 in
+    rw (p.1, p.2) (λ o h.
     falls (Exactly punctuator.OpenRound ∷ []) _ c.in_err-expect.field-0.0
     (word_past keyword.While c.requires.starts c.in_ok-advance.ensures.consumes c.in_ok-advance.ensures.kept
     (while_path c.requires.starts (rw h.depth c.in_ok-check_nesting.ensures.ok) h.path))
@@ -214,7 +229,8 @@ returns-clause-moves g c = λ o h.
 write('return_statement',COMMON,'''
 pub returns-in_err-advance-clause-moves : goal.returns-in_err-advance-clause-moves
 returns-in_err-advance-clause-moves g c =
-    hands_on c.from_residual.ensures.1 (λ o h.
+    let p = err_from_is_err_and c.from_residual.result c.from_residual.ensures.1 in
+    rw (p.1, p.2) (λ o h.
     word_falls keyword.Return c.requires.starts h.told c.in_err-advance.ensures.kept c.in_err-advance.ensures.consumes
     (return_path c.requires.starts h.path))
 
@@ -232,7 +248,8 @@ act-requires g c =
 
 pub returns-in_err-act-clause-moves : goal.returns-in_err-act-clause-moves
 returns-in_err-act-clause-moves g c =
-    hands_on c.from_residual-in_err-act.ensures.1 (λ o h.
+    let p = err_from_is_err_and c.from_residual-in_err-act.result c.from_residual-in_err-act.ensures.1 in
+    rw (p.1, p.2) (λ o h.
     out_of_memory
     (word_past keyword.Return c.requires.starts c.in_ok-advance.ensures.consumes c.in_ok-advance.ensures.kept
     (return_path c.requires.starts h.path)) (refuses c.in_err-act.field-0.0 _ c.in_err-act.ensures.judged))
@@ -260,21 +277,24 @@ write('begin_block',COMMON,'''
 pub returns-in_err-check_nesting-clause-moves : goal.returns-in_err-check_nesting-clause-moves
 returns-in_err-check_nesting-clause-moves g c =
     let b = begins_block (token_of c.args.self.now.tokens) c.requires.starts in
-    hands_on c.from_residual.ensures.1 (λ o h.
+    let p = err_from_is_err_and c.from_residual.result c.from_residual.ensures.1 in
+    rw (p.1, p.2) (λ o h.
     nests (block_path c.requires.starts h.path) h.depth c.in_err-check_nesting.ensures.refused (λ depth.
     punctuator_too_deep _ _ h.path.ready.near depth Block punctuator.OpenCurly in_braces [] h.path.ready.sound
     b.chosen c.requires.starts b.opened))
 
 pub returns-in_err-advance-clause-moves : goal.returns-in_err-advance-clause-moves
 returns-in_err-advance-clause-moves g c =
-    hands_on c.from_residual-in_err-advance.ensures.1 (λ o h.
+    let p = err_from_is_err_and c.from_residual-in_err-advance.result c.from_residual-in_err-advance.ensures.1 in
+    rw (p.1, p.2) (λ o h.
     punctuator_falls punctuator.OpenCurly c.requires.starts h.told c.in_err-advance.ensures.kept
     c.in_err-advance.ensures.consumes (braces_path c.requires.starts (rw h.depth c.in_ok-check_nesting.ensures.ok)
     (block_path c.requires.starts h.path)))
 
 pub returns-in_err-declarations-clause-moves : goal.returns-in_err-declarations-clause-moves
 returns-in_err-declarations-clause-moves g c =
-    hands_on c.from_residual-in_err-declarations.ensures.1 (λ o h.
+    let p = err_from_is_err_and c.from_residual-in_err-declarations.result c.from_residual-in_err-declarations.ensures.1 in
+    rw (p.1, p.2) (λ o h.
     falls (Part Declarations ∷ []) _ c.in_err-declarations.field-0.0
     (punctuator_past punctuator.OpenCurly c.requires.starts c.in_ok-advance.ensures.consumes
     c.in_ok-advance.ensures.kept (braces_path c.requires.starts (rw h.depth c.in_ok-check_nesting.ensures.ok)
@@ -307,7 +327,8 @@ returns-then-not-is_punctuator-clause-moves g c =
 pub returns-in_err-advance-clause-moves : goal.returns-in_err-advance-clause-moves
 returns-in_err-advance-clause-moves g c =
     let is : is_punctuator punctuator.CloseCurly (token_of c.args.self.now.tokens) ≡ true = cc in
-    hands_on c.from_residual.ensures.1 (λ o h.
+    let p = err_from_is_err_and c.from_residual.result c.from_residual.ensures.1 in
+    rw (p.1, p.2) (λ o h.
     punctuator_falls punctuator.CloseCurly is h.told c.in_err-advance.ensures.kept c.in_err-advance.ensures.consumes
     (no_statement_path is h.path))
 
@@ -333,7 +354,8 @@ def semicolon(name, rule, action):
     write(name,COMMON,f'''
 pub returns-in_err-expect-clause-moves : goal.returns-in_err-expect-clause-moves
 returns-in_err-expect-clause-moves g c =
-    hands_on c.from_residual.ensures.1 (λ o h.
+    let p = err_from_is_err_and c.from_residual.result c.from_residual.ensures.1 in
+    rw (p.1, p.2) (λ o h.
     falls (Exactly punctuator.Semicolon ∷ []) _ c.in_err-expect.field-0.0 h.path h.told c.in_err-expect.ensures.kept
     c.in_err-expect.ensures.matches)
 
@@ -344,7 +366,8 @@ act-requires g c =
 
 pub returns-in_err-act-clause-moves : goal.returns-in_err-act-clause-moves
 returns-in_err-act-clause-moves g c =
-    hands_on c.from_residual-in_err-act.ensures.1 (λ o h.
+    let p = err_from_is_err_and c.from_residual-in_err-act.result c.from_residual-in_err-act.ensures.1 in
+    rw (p.1, p.2) (λ o h.
     out_of_memory (c.in_ok-expect.ensures.passes _ _ _ _ h.path)
     (refuses c.in_err-act.field-0.0 _ c.in_err-act.ensures.judged))
 

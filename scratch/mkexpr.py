@@ -2,6 +2,7 @@ import os
 BASE='/work/h/parser/crates/parser/proofs/automaton/Automaton/'
 COMMON='''use Rattle.std.proofs.Common.{◌≡◌, ◌+◌, ◌-◌, ◌<◌, ◌≤◌, ◌∙◌, ℕ, ℤ, suc, [], ◌∷◌, ◌++◌, refl, ap, sym, subst, pos, to_z, w32, true, false, arith}
 use Rattle.std.specs.Prelude.{Some, None, List}
+use Rattle.std.proofs.lemmas.Result.{err_from_is_err_and}
 use Rattle.std.proofs.lemmas.Int.{to_z_pos}
 use Rattle.tokens.specs.declared.located_tokens.LocatedToken.{LocatedToken}
 use Rattle.tokens.specs.declared.located_tokens.Punctuator.TheVariants as punctuator
@@ -11,11 +12,11 @@ use Rattle.grammar.specs.Actions.{middle}
 use Rattle.grammar.specs.Building.{Appends, MayFollow}
 use Rattle.grammar.specs.Grammar.{AConstant, AddArgument, AName, Arguments, Called, Close, Exactly, Expression, Fetch, Invoke, Make, Mentioned, Operate, Part, PostfixIncrement, PrefixIncrement, Primary, Store, Unary, is_punctuator}
 use Rattle.grammar.specs.Laws.Climbing.{operator_from}
-use Rattle.parser.specs.Automata.{stack_of}
+use Rattle.parser.specs.Automata.{all_tails, stack_of}
 use Rattle.parser.specs.ScopedCursors.{token_of}
 use Rattle.parser.specs.UnaryOps.{actions_after_operand, actions_before_operand, increment_punctuator, increment_store_op, postfix_actions, prefix_actions, unary_action, unary_punctuator}
 use Rattle.parser.proofs.AssignmentForms.{sign_fits, sign_goes_on, sign_of, store_chooses, store_is_nested}
-use Rattle.parser.proofs.AutomatonLaws.{awaits, closes, comes_to, hands_on, has_place, has_room, may_report, nested_tails, nests, operand_done, operand_stands, operators_stand, refuses, told_all, under_tails}
+use Rattle.parser.proofs.AutomatonLaws.{awaits, closes, comes_to, has_place, has_room, may_report, nested_tails, nests, operand_done, operand_stands, operators_stand, refuses, told_all, under_tails}
 use Rattle.parser.proofs.ExpressionSteps.{assigned, operand_path, operator_path, plain_path, store_path}
 use Rattle.parser.proofs.NameLaws.{is_named, named_found}
 use Rattle.parser.proofs.OperandForms.{NoOperator, NoPrimary, call_chooses, call_enters, constant_stops, open_chooses, open_enters, no_punctuator, plain_operand, sign_chooses, sign_is_nested}
@@ -35,9 +36,9 @@ def write(name, answers):
     p=d+'/Answers.antt'
     if not os.path.exists(p) or open(p).read()!=s: open(p,'w').write(s)
 def err(call, first, path, kind='moves', lets=''):
-    r='c.from_residual.ensures.1' if first else f'c.from_residual-in_err-{call}.ensures.1'
+    r='c.from_residual' if first else f'c.from_residual-in_err-{call}'
     g=f'returns-in_err-{call}-clause-{kind}'
-    return (g, f"{g} g c =\n{lets}    hands_on {r} (λ o h.\n    {path})")
+    return (g, f"{g} g c =\n{lets}    let p = err_from_is_err_and {r}.result {r}.ensures.1 in\n    rw (p.1, p.2) (λ o h.\n    {path})")
 def lets(*ls): return ''.join(f"    let {a} = {b} in\n" for a,b in ls)
 def mem(call): return f"(refuses c.in_err-{call}.field-0.0 _ c.in_err-{call}.ensures.memory)"
 def memact(call): return f"(refuses c.in_err-{call}.field-0.0 _ c.in_err-{call}.ensures.judged)"
@@ -46,8 +47,8 @@ def fall(item, call, path, told='h.told'):
 def pfall(m, fits, call, path, told='h.told'):
     return f"punctuator_falls {m} {fits} {told} c.in_err-{call}.ensures.kept c.in_err-{call}.ensures.consumes\n    {path}"
 OKN='c.in_ok-check_nesting.ensures.ok'
-FEW=f"(rw (under_tails c.args.floor _ _ h.depth) {OKN})"
-DEEPER="(ap (λ n. n + 1) (under_tails c.args.floor _ _ h.depth))"
+FEW=f"(rw (under_tails c.args.floor _ c.args.self.now.frames h.depth) {OKN})"
+DEEPER="(ap (λ n. n + 1) (under_tails c.args.floor _ c.args.self.now.frames h.depth))"
 MORE=f"(omega (arith, {OKN}))"
 ST='c.requires.starts'
 
@@ -68,8 +69,8 @@ write('constant',[
  ('returns-clause-moves',f"""returns-clause-moves g c = λ o h.
     operand_done c.args.floor h
     {CP}
-    (subst (λ (v : ℤ). Appends (g.B.Build.stands c.args.self.now.builder.now) (g.B.Build.stands c.act.new.self)
-    (PushConstant v)) {FIT} told_more _ _ c.in_ok-act.ensures.ok h.told) refl refl"""),
+    (told_more _ _ (subst (λ (v : ℤ). Appends (g.B.Build.stands c.args.self.now.builder.now)
+    (g.B.Build.stands c.act.new.self) (PushConstant v)) {FIT} c.in_ok-act.ensures.ok) h.told) refl refl"""),
 ])
 # variable
 V=f"(variable_path {ST} h.path)"
@@ -123,12 +124,12 @@ write('prefix_increment',[
 # sign
 UP='(unary_punctuator c.args.sign)'
 BEF='(actions_before_operand c.args.sign)'
-S=f"(sign_path c.args.sign {ST} {FEW} h.path)"
+S=f"(sign_path {{stack = all_tails c.args.floor ++ stack_of c.args.self.now.frames}} c.args.sign {ST} {FEW} h.path)"
 TB=f"(told_all _ _ {BEF} c.in_ok-report_before_operand.ensures.reported h.told)"
 PUSHROOM=('push-requires',f"""push-requires g c =
     let h = c.requires.at.is in has_room _ c.args.floor h.fits.most h.fits.takes (rw h.depth {OKN})""")
 write('sign',[
- err('check_nesting',True,f"nests h.path (under_tails c.args.floor _ _ h.depth) c.in_err-check_nesting.ensures.refused (λ depth.\n    punctuator_too_deep _ _ h.path.ready.near depth Unary {UP} (Part Unary ∷ Make (unary_action c.args.sign) ∷ Close ∷ [])\n    (sign_chooses _ c.args.sign {ST}) (sign_is_nested _ c.args.sign {ST}) {ST})"),
+ err('check_nesting',True,f"nests h.path (under_tails c.args.floor _ c.args.self.now.frames h.depth) c.in_err-check_nesting.ensures.refused (λ depth.\n    punctuator_too_deep _ _ h.path.ready.near depth Unary {UP} (Part Unary ∷ Make (unary_action c.args.sign) ∷ Close ∷ [])\n    (sign_chooses _ c.args.sign {ST}) (sign_is_nested _ c.args.sign {ST}) {ST})"),
  ('report_before_operand-requires',f"""report_before_operand-requires g c =
     let h = c.requires.at.is in
     record {{ follow = may_report h.acts {BEF} h.told h.new {S} }}"""),
@@ -153,7 +154,7 @@ X="let x = has_expr _ h.values (done_at 10 h.fits h.fits.takes.0).1 in"
 X1="let x = has_expr _ h.values (done_at 0 h.fits h.fits.takes.0).1 in"
 SP="(signed_path c.args.sign (valued x.is h.path))"
 INX="(record { least = h.fits.takes.1; most = h.fits.takes.2; takes = h.fits.takes.3; trees = x.below })"
-CLOSE="(closes c.args.floor _ _ h.depth) (omega (arith, h.few))"
+CLOSE="(closes c.args.floor _ c.args.self.now.frames h.depth) (omega (arith, h.few))"
 write('end_sign',[
  ('report_after_operand-requires',f"""report_after_operand-requires g c =
     let h = c.requires.at.is in
@@ -168,9 +169,9 @@ write('end_sign',[
 ])
 # bracket
 OR='punctuator.OpenRound'
-B=f"(bracket_path {ST} {FEW} h.path)"
+B=f"(bracket_path {{stack = all_tails c.args.floor ++ stack_of c.args.self.now.frames}} {ST} {FEW} h.path)"
 write('bracket',[
- err('check_nesting',True,f"nests (bracketed_path {ST} h.path) (under_tails c.args.floor _ _ h.depth)\n    c.in_err-check_nesting.ensures.refused (λ depth. punctuator_too_deep _ _ h.path.ready.near depth Primary {OR}\n    (Part Expression ∷ Exactly punctuator.CloseRound ∷ Close ∷ []) (open_chooses _ {ST}) (open_enters _ {ST})\n    {ST})"),
+ err('check_nesting',True,f"nests (bracketed_path {ST} h.path) (under_tails c.args.floor _ c.args.self.now.frames h.depth)\n    c.in_err-check_nesting.ensures.refused (λ depth. punctuator_too_deep _ _ h.path.ready.near depth Primary {OR}\n    (Part Expression ∷ Exactly punctuator.CloseRound ∷ Close ∷ []) (open_chooses _ {ST}) (open_enters _ {ST})\n    {ST})"),
  err('advance',False,pfall(OR,ST,'advance',B)),
  PUSHROOM,
  ('returns-clause-moves',f"""returns-clause-moves g c = λ o h.
@@ -191,12 +192,12 @@ write('end_bracket',[
 ])
 # call
 N=f"(is_named _ {ST}.named)"
-K=f"(call_path {ST} {FEW} h.path)"
+K=f"(call_path {{stack = all_tails c.args.floor ++ stack_of c.args.self.now.frames}} {ST} {FEW} h.path)"
 C=f"(c.in_ok-callee.ensures.passes _ _ _ _ {K})"
 TA="(told_more _ _ c.in_ok-act.ensures.ok h.told)"
 E=f"(c.in_ok-expect.ensures.passes _ _ _ _ {C})"
 write('call',[
- err('check_nesting',True,f"nests (named_path {N} h.path) (under_tails c.args.floor _ _ h.depth) c.in_err-check_nesting.ensures.refused\n    (λ depth. name_too_deep _ _ h.path.ready.near depth Primary Called _\n    (Exactly {OR} ∷ Part Arguments ∷ Exactly {CR} ∷ Make Invoke ∷ Close ∷ []) (call_chooses _ {N} {ST}.is)\n    (call_enters _ {N} {ST}.is) (named_found _ {N}))"),
+ err('check_nesting',True,f"nests (named_path {N} h.path) (under_tails c.args.floor _ c.args.self.now.frames h.depth) c.in_err-check_nesting.ensures.refused\n    (λ depth. name_too_deep _ _ h.path.ready.near depth Primary Called _\n    (Exactly {OR} ∷ Part Arguments ∷ Exactly {CR} ∷ Make Invoke ∷ Close ∷ []) (call_chooses _ {N} {ST}.is)\n    (call_enters _ {N} {ST}.is) (named_found _ {N}))"),
  err('callee',False,fall('AName Called','callee',K)),
  ('act-requires',f"""act-requires g c =
     let h = c.requires.at.is in
@@ -272,7 +273,7 @@ write('operators',[
     let none : operator_from c.args.floor (token_of c.args.self.now.tokens) ≡ None = cc in
     λ o h.
     comes_to h (rw none at h.path) h.told h.depth h.few
-    (record { level = c.args.floor; takes = h.fits.takes; ends = ends_at c.args.floor h.fits.least none h.fits.trees })"""),
+    (record { level = c.args.floor; takes = h.fits.takes; ends = ends_at _ _ _ c.args.floor h.fits.least none h.fits.trees })"""),
  ('report_middle-requires',f"""report_middle-requires g c =
     let h = c.requires.at.is in
     {IS}

@@ -1,7 +1,8 @@
 import os
 exec(open('/work/h/parser/scratch/mkexpr.py').read().split("OKN=")[0].split("COMMON='''")[0])
 BASE='/work/h/parser/crates/parser/proofs/automaton/Automaton/'
-COMMON='''use Rattle.std.proofs.Common.{◌≡◌, ◌+◌, ◌<◌, ◌≤◌, ◌∙◌, ℕ, [], ◌∷◌, ◌++◌, refl, ap, sym, subst, true, false, arith, length}
+COMMON='''use Rattle.std.proofs.lemmas.Result.{err_from_is_err_and}
+use Rattle.std.proofs.Common.{◌≡◌, ◌+◌, ◌<◌, ◌≤◌, ◌∙◌, ℕ, [], ◌∷◌, ◌++◌, refl, ap, sym, subst, true, false, arith, length}
 use Rattle.tokens.specs.declared.located_tokens.Keyword.TheVariants as keyword
 use Rattle.tokens.specs.declared.located_tokens.LocatedToken.{LocatedToken}
 use Rattle.tokens.specs.declared.located_tokens.Punctuator.TheVariants as punctuator
@@ -14,7 +15,7 @@ use Rattle.parser.specs.declared.roles.Declared.TheVariants as kind
 use Rattle.parser.specs.Declarations.{header_items, names_items}
 use Rattle.parser.specs.FunctionEnds.{end_actions}
 use Rattle.parser.specs.ScopedCursors.{scope_of, token_after, token_of, with_scope}
-use Rattle.parser.proofs.AutomatonLaws.{comes_to, hands_on, has_place}
+use Rattle.parser.proofs.AutomatonLaws.{comes_to, has_place}
 use Rattle.parser.proofs.FunctionEnds.{end_follows, end_refused, function_ends}
 use Rattle.parser.proofs.PathLaws.{closed, falls, made, may, out_of_memory, punctuator_falls, punctuator_past, told_more}
 use Rattle.parser.proofs.AutomatonLaws.{refuses}
@@ -31,9 +32,9 @@ def write(name, answers):
     p=d+'/Answers.antt'
     if not os.path.exists(p) or open(p).read()!=s: open(p,'w').write(s)
 def err(call, first, path, lets='', arm=''):
-    r='c.from_residual.ensures.1' if first else f'c.from_residual-in_err-{call}{arm}.ensures.1'
+    r='c.from_residual' if first else f'c.from_residual-in_err-{call}{arm}'
     g=f'returns-in_err-{call}{arm}-clause-moves'
-    return (g, f"{g} g c =\n{lets}    hands_on {r} (λ o h.\n    {path})")
+    return (g, f"{g} g c =\n{lets}    let p = err_from_is_err_and {r}.result {r}.ensures.1 in\n    rw (p.1, p.2) (λ o h.\n    {path})")
 def fall(items, call, path, told='h.told', arm=''):
     return f"falls {items} _ c.in_err-{call}{arm}.field-0.0 {path} {told} c.in_err-{call}{arm}.ensures.kept\n    c.in_err-{call}{arm}.ensures.matches"
 ST='c.requires.starts'

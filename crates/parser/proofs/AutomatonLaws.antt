@@ -1,7 +1,6 @@
 -- What the steps of an automaton share: where it is before and after, and how they are refused.
 use Rattle.std.proofs.Common.{◌≡◌, ℕ, zero, suc, ◌+◌, ◌-◌, ◌*◌, ◌<◌, ◌≤◌, List, [], ◌∷◌, ◌++◌, refl, sym, ap, ◌∙◌, subst, Bool, true, false, length, append-nil, arith}
-use Rattle.std.specs.Prelude.{None, Result, Ok, Err, IsErrAnd}
-use Rattle.std.proofs.lemmas.Result.{err_from_is_err_and}
+use Rattle.std.specs.Prelude.{None, Err}
 use Rattle.tokens.specs.declared.located_tokens.Token.{Token}
 use Rattle.grammar.specs.declared.actions.Action.{Action}
 use Rattle.grammar.specs.declared.build.BuildFault.{BuildFault}
@@ -43,14 +42,6 @@ pub comes_to : {F B : Type 0} {o : Start B} {stands : B → Representation} {old
     new.depth ≤ MOST_NESTED → Fits next new.frames (token_of new.tokens) values → Stands o stands next new
 comes_to h path told depth few fits =
     record { values = _; acts = _; path = path; new = h.new; told = told; depth = depth; few = few; fits = fits }
-
--- a fault that a `?` hands on
-pub hands_on : {F B : Type 0} {f : ParseFault} {r : Result Front ParseFault} {denied : Type 0}
-    {stands : B → Representation} {at : Front} {old new : Automaton F B} → IsErrAnd r (λ g. g ≡ f) →
-    ((o : Start B) → Stands o stands at old →
-    Refused o.origin denied (HasTold (stands o.builder) (stands new.builder.now)) f new.tokens) →
-    Moves r denied stands at old new
-hands_on {r = r} is h = let p = err_from_is_err_and r is in rw (p.1, p.2) h
 
 -- How many frames there are.
 
@@ -114,9 +105,11 @@ refuses build_fault.Full denied h = absurd h
 
 pub told_all : {began now : Representation} (after : Representation) (acts more : List Action) →
     AppendsAll now after more → HasTold began now acts → HasTold began after (and_then acts more)
-told_all after acts [] added told profile new =
-    subst (λ (xs : List Action). after profile xs) (append-nil acts) (added profile acts (told profile new))
-told_all after acts (a ∷ more) added told profile new = added profile _ (told profile new)
+told_all after acts [] added told = record {
+  each = λ profile new.
+      subst (λ (xs : List Action). after profile xs) (append-nil acts) (added profile acts (told.each profile new));
+}
+told_all after acts (a ∷ more) added told = record { each = λ profile new. added profile _ (told.each profile new) }
 
 and_then_is : (acts more : List Action) → and_then acts more ≡ acts ++ more
 and_then_is acts [] = sym (append-nil acts)
@@ -180,6 +173,6 @@ pub operand_done : {F B : Type 0} {o : Start B} {stands : B → Representation} 
     Path o.origin (all_tails floor ++ stack_of at.frames) (AnExpr e ∷ h.values) acts new.tokens →
     HasTold (stands o.builder) (stands new.builder.now) acts → new.frames ≡ at.frames → new.depth ≡ at.depth →
     Stands o stands (front.Operators floor) new
-operand_done floor h path told frames depth =
-    operand_stands h floor (rw frames path) told (rw (frames, depth) h.depth) (rw depth h.few)
+operand_done {e = e} floor h path told frames depth =
+    operand_stands {values = AnExpr e ∷ h.values} h floor (rw frames path) told (rw (frames, depth) h.depth) (rw depth h.few)
     (rw frames (record { least = h.fits.least; most = h.fits.most; takes = h.fits.takes; trees = h.fits.trees }))

@@ -92,7 +92,7 @@ module _ {o : Origin} {began before : Representation} {stack : List Item} {value
       record {
         profile = o.profile;
         acts = acts;
-        stood = told o.profile new;
+        stood = told.each o.profile new;
         begins = subst IsBeginning (rw (l.emits, l.comes, p.ready.sound) refl) e.begins;
       }
 
@@ -146,7 +146,7 @@ module _ {o : Origin} {began before : Representation} {stack : List Item} {value
       RefusesEnd before (next_at at.position).line denied f → Refused o denied left f at
   end_refused (parse_fault.Source d) p fits told new r =
       let m : IsTooMuch before (next_at at.position).line d = r in
-      rw m.is (too_much p fits (m.over o.profile acts (told o.profile new)))
+      rw m.is (too_much p fits (m.over o.profile acts (told.each o.profile new)))
   end_refused parse_fault.Device p fits told new r = absurd r
   end_refused parse_fault.Memory p fits told new r = out_of_memory p r
 
@@ -168,7 +168,7 @@ module _ {o : Origin} {began before : Representation} {stack : List Item} {value
         let x : Begins at.position.lookahead.cursor rest = goes_begins at.position rest g in
         let short : is_too_long o.profile (p.functions ++ definition_of (scope_of at) (last_body values) ∷ []) ≡ false =
         within_limit o.profile _ _ (measured o.profile p.steps _ _ _ values acts (scope_of at) p.functions l)
-        (closes.fits o.profile acts (told o.profile new)) in
+        (closes.fits o.profile acts (told.each o.profile new)) in
         let sound : is_lexical_error (next_token rest) ≡ false = rw x.is p.ready.sound in
         leads_more o.profile p.steps _ _ _ acts (end_actions (length (scope_of at).current.variables)) l
         (record { leads = rw sound refl; clean = rw (sound, short) refl; emits = rw sound refl });

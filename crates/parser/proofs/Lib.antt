@@ -24,3 +24,4 @@ pub mod TreeLaws
 pub mod SourceSteps
 pub mod FunctionEnds
 pub mod Closing
+pub mod Reports

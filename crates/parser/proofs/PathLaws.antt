@@ -424,7 +424,7 @@ faulty {at = at} front stack h fails =
 
 pub told_more : {began now : Representation} (after : Representation) (acts : List Action) {more : List Action} → AppendsAll now after more →
     HasTold began now acts → HasTold began after (acts ++ more)
-told_more after acts added told profile new = added profile _ (told profile new)
+told_more after acts added told = record { each = λ profile new. added profile _ (told.each profile new) }
 
 pub may_all : {o : Origin} {began now : Representation} {stack : List Item} {values : List PartialTree}
     {more : List Action} {at : ScopedCursor} (acts : List Action) → HasTold began now acts → began o.profile [] →
@@ -434,7 +434,7 @@ may_all {o} {began} {now} {stack} {values} {more} {at} acts told new p =
     record {
       profile = o.profile;
       acts = acts;
-      stood = told o.profile new;
+      stood = told.each o.profile new;
       begins = subst IsBeginning l.emits (emits_a_beginning o.profile p.steps _ l.clean);
     }
 
@@ -446,6 +446,6 @@ may {o} {began} {now} {stack} {values} {a} {at} acts told new p =
     record {
       profile = o.profile;
       acts = acts;
-      stood = told o.profile new;
+      stood = told.each o.profile new;
       begins = subst IsBeginning l.emits (emits_a_beginning o.profile p.steps _ l.clean);
     }

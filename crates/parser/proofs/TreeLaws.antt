@@ -20,10 +20,10 @@ pub done_at : {frames : List Frame} {next : Token} {values : List PartialTree} (
     (operator_from (suc n) next ≡ None) × OnExpr (Trees frames) values
 done_at {frames} {next} {values} n h is = subst (λ (k : ℕ). Ends k frames next values) is h.ends
 
-pub ends_at : {frames : List Frame} {next : Token} {values : List PartialTree} (floor : ℕ) → 1 ≤ floor →
+pub ends_at : (frames : List Frame) (next : Token) (values : List PartialTree) (floor : ℕ) → 1 ≤ floor →
     operator_from floor next ≡ None → OnExpr (Trees frames) values → Ends floor frames next values
-ends_at zero least none trees = tt
-ends_at (suc n) least none trees = (none, trees)
+ends_at frames next values zero least none trees = tt
+ends_at frames next values (suc n) least none trees = (none, trees)
 
 -- the same path, by what its trees are
 pub valued : {o : Origin} {stack : List Item} {values known : List PartialTree} {acts : List Action}

@@ -183,11 +183,11 @@ module _ {began left : Representation} {told : Option (List ℕ)} {at : ScopedCu
         named = same ∙ f.named;
         main = rw same f.main;
         built = λ profile h.
-            subst (λ (acts : List Action). left profile acts) (r.is.reports ∙ sym f.reported) (r.tells profile h);
+            subst (λ (acts : List Action). left profile acts) (r.is.reports ∙ sym f.reported) (r.tells.each profile h);
         closed = record {
           profile = first;
           acts = r.acts;
-          stood = r.tells first new;
+          stood = r.tells.each first new;
           opens = ap (λ (acts : List Action). follow_all acts []) r.is.reports
               ∙ nothing_open r.is.functions (subst IsBeginning r.is.reports r.is.begins);
         };
@@ -330,7 +330,7 @@ stopped {left = left} {to_come = to_come} {at = at} parse_fault.Device first new
     builds_by left profile bytes to_come (taken_at at.position) s.stops (taken.took bytes shows) p.part
     (subst (λ (xs : List Action). left profile xs)
     (sym s.emits ∙ p.is ∙ ap (λ (fs : List Definition). definitions_actions fs ++ p.part) (sym s.functions))
-    (r.leaves profile h))
+    (r.leaves.each profile h))
 stopped parse_fault.Memory first new taken refused = (refused first new).leaves
 
 pub stops_taking : {began left : Representation} {denied : Type 0} {told to_come : Option (List ℕ)}

@@ -70,8 +70,8 @@ pub record Ended (o : Origin) (acts : List Action) (fault : ParseFault) (at : Sc
   pub took : at.position.to_come ≡ option_map (drop (taken_at at.position)) o.bytes
 
 -- each profile by which a builder began, with no action, now goes with these actions
-abbrev pub HasTold : (began now : Representation) → List Action → Type 0
-HasTold began now acts = (profile : Profile) → began profile [] → now profile acts
+pub record HasTold (began now : Representation) (acts : List Action) : Type 0 where
+  pub each : (profile : Profile) → began profile [] → now profile acts
 
 -- what was told in the end, if it is the device that failed, and that memory was refused, if it was that
 abbrev pub Leaves : List Action → (denied : Type 0) → (told : List Action → Type 0) → ParseFault → Type 0

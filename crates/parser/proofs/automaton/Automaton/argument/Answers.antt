@@ -1,5 +1,6 @@
 use Rattle.std.proofs.Common.{◌≡◌, ◌+◌, ◌-◌, ◌<◌, ◌≤◌, ◌∙◌, ℕ, ℤ, suc, [], ◌∷◌, ◌++◌, refl, ap, sym, subst, pos, to_z, w32, true, false, arith}
 use Rattle.std.specs.Prelude.{Some, None, List}
+use Rattle.std.proofs.lemmas.Result.{err_from_is_err_and}
 use Rattle.std.proofs.lemmas.Int.{to_z_pos}
 use Rattle.tokens.specs.declared.located_tokens.LocatedToken.{LocatedToken}
 use Rattle.tokens.specs.declared.located_tokens.Punctuator.TheVariants as punctuator
@@ -9,11 +10,11 @@ use Rattle.grammar.specs.Actions.{middle}
 use Rattle.grammar.specs.Building.{Appends, MayFollow}
 use Rattle.grammar.specs.Grammar.{AConstant, AddArgument, AName, Arguments, Called, Close, Exactly, Expression, Fetch, Invoke, Make, Mentioned, Operate, Part, PostfixIncrement, PrefixIncrement, Primary, Store, Unary, is_punctuator}
 use Rattle.grammar.specs.Laws.Climbing.{operator_from}
-use Rattle.parser.specs.Automata.{stack_of}
+use Rattle.parser.specs.Automata.{all_tails, stack_of}
 use Rattle.parser.specs.ScopedCursors.{token_of}
 use Rattle.parser.specs.UnaryOps.{actions_after_operand, actions_before_operand, increment_punctuator, increment_store_op, postfix_actions, prefix_actions, unary_action, unary_punctuator}
 use Rattle.parser.proofs.AssignmentForms.{sign_fits, sign_goes_on, sign_of, store_chooses, store_is_nested}
-use Rattle.parser.proofs.AutomatonLaws.{awaits, closes, comes_to, hands_on, has_place, has_room, may_report, nested_tails, nests, operand_done, operand_stands, operators_stand, refuses, told_all, under_tails}
+use Rattle.parser.proofs.AutomatonLaws.{awaits, closes, comes_to, has_place, has_room, may_report, nested_tails, nests, operand_done, operand_stands, operators_stand, refuses, told_all, under_tails}
 use Rattle.parser.proofs.ExpressionSteps.{assigned, operand_path, operator_path, plain_path, store_path}
 use Rattle.parser.proofs.NameLaws.{is_named, named_found}
 use Rattle.parser.proofs.OperandForms.{NoOperator, NoPrimary, call_chooses, call_enters, constant_stops, open_chooses, open_enters, no_punctuator, plain_operand, sign_chooses, sign_is_nested}
@@ -30,13 +31,14 @@ returns-then-not-is_punctuator-clause-moves g c =
     λ o h.
     let x = has_expr _ h.values (done_at 0 h.fits h.fits.takes.0).1 in
     let y = has_call c.args.callee _ x.rest x.below in
-    comes_to h (last_argument_path other (made AddArgument tt (valued (on_both x.is y.is) h.path))) h.told (closes c.args.floor _ _ h.depth) (omega (arith, h.few))
+    comes_to h (last_argument_path other (made AddArgument tt (valued (on_both x.is y.is) h.path))) h.told (closes c.args.floor _ c.args.self.now.frames h.depth) (omega (arith, h.few))
     (record { least = h.fits.takes.1; most = h.fits.takes.2; takes = h.fits.takes.3; trees = (refl, y.below) })
 
 pub returns-in_err-advance-clause-moves : goal.returns-in_err-advance-clause-moves
 returns-in_err-advance-clause-moves g c =
     let is : is_punctuator punctuator.Comma (token_of c.args.self.now.tokens) ≡ true = cc in
-    hands_on c.from_residual.ensures.1 (λ o h.
+    let p = err_from_is_err_and c.from_residual.result c.from_residual.ensures.1 in
+    rw (p.1, p.2) (λ o h.
     let x = has_expr _ h.values (done_at 0 h.fits h.fits.takes.0).1 in
     let y = has_call c.args.callee _ x.rest x.below in
     punctuator_falls punctuator.Comma is h.told c.in_err-advance.ensures.kept c.in_err-advance.ensures.consumes

@@ -1,11 +1,12 @@
 use Rattle.std.proofs.Common.{◌≡◌, ◌+◌, ◌∙◌, [], ◌∷◌, refl, ap, true, false, arith}
 use Rattle.std.specs.Prelude.{None}
+use Rattle.std.proofs.lemmas.Result.{err_from_is_err_and}
 use Rattle.tokens.specs.declared.located_tokens.Punctuator.TheVariants as punctuator
 use Rattle.tokens.specs.declared.located_tokens.Keyword.TheVariants as keyword
 use Rattle.grammar.specs.Grammar.{AKeyword, Exactly, Part, Make, Statement, Statements, Block, Declarations, Empty, Evaluate, GiveBack, Zero, Decide, DecideElse, Repeat, is_keyword, is_punctuator}
 use Rattle.grammar.specs.Laws.Climbing.{operator_from}
 use Rattle.parser.specs.ScopedCursors.{token_of}
-use Rattle.parser.proofs.AutomatonLaws.{awaits, comes_to, has_place, hands_on, nests, refuses}
+use Rattle.parser.proofs.AutomatonLaws.{awaits, comes_to, has_place, nests, refuses}
 use Rattle.parser.proofs.Forms.{behind_if, behind_while, begins_block, conditioned, if_chosen, if_enters, in_braces, while_chosen, while_enters}
 use Rattle.parser.proofs.Parts.{punctuator_is, punctuator_too_deep, word_too_deep}
 use Rattle.parser.proofs.PathLaws.{closed, falls, made, may, told_more, out_of_memory, punctuator_falls, punctuator_past, word_falls, word_past}
@@ -15,21 +16,24 @@ use Rattle.parser.proofs.automaton.Automaton.begin_block.Goals as goal
 pub returns-in_err-check_nesting-clause-moves : goal.returns-in_err-check_nesting-clause-moves
 returns-in_err-check_nesting-clause-moves g c =
     let b = begins_block (token_of c.args.self.now.tokens) c.requires.starts in
-    hands_on c.from_residual.ensures.1 (λ o h.
+    let p = err_from_is_err_and c.from_residual.result c.from_residual.ensures.1 in
+    rw (p.1, p.2) (λ o h.
     nests (block_path c.requires.starts h.path) h.depth c.in_err-check_nesting.ensures.refused (λ depth.
     punctuator_too_deep _ _ h.path.ready.near depth Block punctuator.OpenCurly in_braces [] h.path.ready.sound
     b.chosen c.requires.starts b.opened))
 
 pub returns-in_err-advance-clause-moves : goal.returns-in_err-advance-clause-moves
 returns-in_err-advance-clause-moves g c =
-    hands_on c.from_residual-in_err-advance.ensures.1 (λ o h.
+    let p = err_from_is_err_and c.from_residual-in_err-advance.result c.from_residual-in_err-advance.ensures.1 in
+    rw (p.1, p.2) (λ o h.
     punctuator_falls punctuator.OpenCurly c.requires.starts h.told c.in_err-advance.ensures.kept
     c.in_err-advance.ensures.consumes (braces_path c.requires.starts (rw h.depth c.in_ok-check_nesting.ensures.ok)
     (block_path c.requires.starts h.path)))
 
 pub returns-in_err-declarations-clause-moves : goal.returns-in_err-declarations-clause-moves
 returns-in_err-declarations-clause-moves g c =
-    hands_on c.from_residual-in_err-declarations.ensures.1 (λ o h.
+    let p = err_from_is_err_and c.from_residual-in_err-declarations.result c.from_residual-in_err-declarations.ensures.1 in
+    rw (p.1, p.2) (λ o h.
     falls (Part Declarations ∷ []) _ c.in_err-declarations.field-0.0
     (punctuator_past punctuator.OpenCurly c.requires.starts c.in_ok-advance.ensures.consumes
     c.in_ok-advance.ensures.kept (braces_path c.requires.starts (rw h.depth c.in_ok-check_nesting.ensures.ok)

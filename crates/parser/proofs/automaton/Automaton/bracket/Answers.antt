@@ -1,5 +1,6 @@
 use Rattle.std.proofs.Common.{◌≡◌, ◌+◌, ◌-◌, ◌<◌, ◌≤◌, ◌∙◌, ℕ, ℤ, suc, [], ◌∷◌, ◌++◌, refl, ap, sym, subst, pos, to_z, w32, true, false, arith}
 use Rattle.std.specs.Prelude.{Some, None, List}
+use Rattle.std.proofs.lemmas.Result.{err_from_is_err_and}
 use Rattle.std.proofs.lemmas.Int.{to_z_pos}
 use Rattle.tokens.specs.declared.located_tokens.LocatedToken.{LocatedToken}
 use Rattle.tokens.specs.declared.located_tokens.Punctuator.TheVariants as punctuator
@@ -9,11 +10,11 @@ use Rattle.grammar.specs.Actions.{middle}
 use Rattle.grammar.specs.Building.{Appends, MayFollow}
 use Rattle.grammar.specs.Grammar.{AConstant, AddArgument, AName, Arguments, Called, Close, Exactly, Expression, Fetch, Invoke, Make, Mentioned, Operate, Part, PostfixIncrement, PrefixIncrement, Primary, Store, Unary, is_punctuator}
 use Rattle.grammar.specs.Laws.Climbing.{operator_from}
-use Rattle.parser.specs.Automata.{stack_of}
+use Rattle.parser.specs.Automata.{all_tails, stack_of}
 use Rattle.parser.specs.ScopedCursors.{token_of}
 use Rattle.parser.specs.UnaryOps.{actions_after_operand, actions_before_operand, increment_punctuator, increment_store_op, postfix_actions, prefix_actions, unary_action, unary_punctuator}
 use Rattle.parser.proofs.AssignmentForms.{sign_fits, sign_goes_on, sign_of, store_chooses, store_is_nested}
-use Rattle.parser.proofs.AutomatonLaws.{awaits, closes, comes_to, hands_on, has_place, has_room, may_report, nested_tails, nests, operand_done, operand_stands, operators_stand, refuses, told_all, under_tails}
+use Rattle.parser.proofs.AutomatonLaws.{awaits, closes, comes_to, has_place, has_room, may_report, nested_tails, nests, operand_done, operand_stands, operators_stand, refuses, told_all, under_tails}
 use Rattle.parser.proofs.ExpressionSteps.{assigned, operand_path, operator_path, plain_path, store_path}
 use Rattle.parser.proofs.NameLaws.{is_named, named_found}
 use Rattle.parser.proofs.OperandForms.{NoOperator, NoPrimary, call_chooses, call_enters, constant_stops, open_chooses, open_enters, no_punctuator, plain_operand, sign_chooses, sign_is_nested}
@@ -26,17 +27,19 @@ use Rattle.parser.proofs.automaton.Automaton.bracket.Goals as goal
 
 pub returns-in_err-check_nesting-clause-moves : goal.returns-in_err-check_nesting-clause-moves
 returns-in_err-check_nesting-clause-moves g c =
-    hands_on c.from_residual.ensures.1 (λ o h.
-    nests (bracketed_path c.requires.starts h.path) (under_tails c.args.floor _ _ h.depth)
+    let p = err_from_is_err_and c.from_residual.result c.from_residual.ensures.1 in
+    rw (p.1, p.2) (λ o h.
+    nests (bracketed_path c.requires.starts h.path) (under_tails c.args.floor _ c.args.self.now.frames h.depth)
     c.in_err-check_nesting.ensures.refused (λ depth. punctuator_too_deep _ _ h.path.ready.near depth Primary punctuator.OpenRound
     (Part Expression ∷ Exactly punctuator.CloseRound ∷ Close ∷ []) (open_chooses _ c.requires.starts) (open_enters _ c.requires.starts)
     c.requires.starts))
 
 pub returns-in_err-advance-clause-moves : goal.returns-in_err-advance-clause-moves
 returns-in_err-advance-clause-moves g c =
-    hands_on c.from_residual-in_err-advance.ensures.1 (λ o h.
+    let p = err_from_is_err_and c.from_residual-in_err-advance.result c.from_residual-in_err-advance.ensures.1 in
+    rw (p.1, p.2) (λ o h.
     punctuator_falls punctuator.OpenRound c.requires.starts h.told c.in_err-advance.ensures.kept c.in_err-advance.ensures.consumes
-    (bracket_path c.requires.starts (rw (under_tails c.args.floor _ _ h.depth) c.in_ok-check_nesting.ensures.ok) h.path))
+    (bracket_path {stack = all_tails c.args.floor ++ stack_of c.args.self.now.frames} c.requires.starts (rw (under_tails c.args.floor _ c.args.self.now.frames h.depth) c.in_ok-check_nesting.ensures.ok) h.path))
 
 pub push-requires : goal.push-requires
 push-requires g c =
@@ -46,6 +49,6 @@ pub returns-clause-moves : goal.returns-clause-moves
 returns-clause-moves g c = λ o h.
     rw c.push.ensures (comes_to h
     (punctuator_past punctuator.OpenRound c.requires.starts c.in_ok-advance.ensures.consumes c.in_ok-advance.ensures.kept
-    (bracket_path c.requires.starts (rw (under_tails c.args.floor _ _ h.depth) c.in_ok-check_nesting.ensures.ok) h.path)) h.told
-    (ap (λ n. n + 1) (under_tails c.args.floor _ _ h.depth)) (omega (arith, c.in_ok-check_nesting.ensures.ok))
+    (bracket_path {stack = all_tails c.args.floor ++ stack_of c.args.self.now.frames} c.requires.starts (rw (under_tails c.args.floor _ c.args.self.now.frames h.depth) c.in_ok-check_nesting.ensures.ok) h.path)) h.told
+    (ap (λ n. n + 1) (under_tails c.args.floor _ c.args.self.now.frames h.depth)) (omega (arith, c.in_ok-check_nesting.ensures.ok))
     (awaits (refl, h.fits.least, h.fits.most, h.fits.takes) h.fits.trees))

@@ -1,3 +1,4 @@
+use Rattle.std.proofs.lemmas.Result.{err_from_is_err_and}
 use Rattle.std.proofs.Common.{◌≡◌, ◌+◌, ◌<◌, ◌≤◌, ◌∙◌, ℕ, [], ◌∷◌, ◌++◌, refl, ap, sym, subst, true, false, arith, length}
 use Rattle.tokens.specs.declared.located_tokens.Keyword.TheVariants as keyword
 use Rattle.tokens.specs.declared.located_tokens.LocatedToken.{LocatedToken}
@@ -11,7 +12,7 @@ use Rattle.parser.specs.declared.roles.Declared.TheVariants as kind
 use Rattle.parser.specs.Declarations.{header_items, names_items}
 use Rattle.parser.specs.FunctionEnds.{end_actions}
 use Rattle.parser.specs.ScopedCursors.{scope_of, token_after, token_of, with_scope}
-use Rattle.parser.proofs.AutomatonLaws.{comes_to, hands_on, has_place}
+use Rattle.parser.proofs.AutomatonLaws.{comes_to, has_place}
 use Rattle.parser.proofs.FunctionEnds.{end_follows, end_refused, function_ends}
 use Rattle.parser.proofs.PathLaws.{closed, falls, made, may, out_of_memory, punctuator_falls, punctuator_past, told_more}
 use Rattle.parser.proofs.AutomatonLaws.{refuses}
@@ -21,7 +22,8 @@ use Rattle.parser.proofs.automaton.Automaton.definition.Goals as goal
 
 pub returns-in_err-number-clause-moves : goal.returns-in_err-number-clause-moves
 returns-in_err-number-clause-moves g c =
-    hands_on c.from_residual.ensures.1 (λ o h.
+    let p = err_from_is_err_and c.from_residual.result c.from_residual.ensures.1 in
+    rw (p.1, p.2) (λ o h.
     falls header_items _ c.in_err-number.field-0.0 h.path h.told c.in_err-number.ensures.kept
     c.in_err-number.ensures.matches)
 
@@ -41,14 +43,16 @@ act-requires g c =
 
 pub returns-in_err-act-clause-moves : goal.returns-in_err-act-clause-moves
 returns-in_err-act-clause-moves g c =
-    hands_on c.from_residual-in_err-act.ensures.1 (λ o h.
+    let p = err_from_is_err_and c.from_residual-in_err-act.result c.from_residual-in_err-act.ensures.1 in
+    rw (p.1, p.2) (λ o h.
     out_of_memory (c.in_ok-number.ensures.passes _ _ _ _ h.path) (refuses c.in_err-act.field-0.0 _ c.in_err-act.ensures.judged))
 
 pub returns-in_err-advance-clause-moves : goal.returns-in_err-advance-clause-moves
 returns-in_err-advance-clause-moves g c =
     let is : is_punctuator punctuator.OpenCurly (token_of c.function_header-number.new.parser) ≡ true = cc in
     let added = rw (sym c.in_ok-number.ensures.begun.is, c.parameter_count.ensures.count) at c.in_ok-act.ensures.ok in
-    hands_on c.from_residual-in_err-advance.ensures.1 (λ o h.
+    let p = err_from_is_err_and c.from_residual-in_err-advance.result c.from_residual-in_err-advance.ensures.1 in
+    rw (p.1, p.2) (λ o h.
     punctuator_falls punctuator.OpenCurly is (told_more _ _ added h.told) c.in_err-advance.ensures.kept
     c.in_err-advance.ensures.consumes (function_block_path is (rw h.fits.0 (omega arith)) (c.in_ok-number.ensures.passes _ _ _ _ h.path)))
 
@@ -56,7 +60,8 @@ pub returns-in_err-declarations-clause-moves : goal.returns-in_err-declarations-
 returns-in_err-declarations-clause-moves g c =
     let is : is_punctuator punctuator.OpenCurly (token_of c.function_header-number.new.parser) ≡ true = cc in
     let added = rw (sym c.in_ok-number.ensures.begun.is, c.parameter_count.ensures.count) at c.in_ok-act.ensures.ok in
-    hands_on c.from_residual-in_err-declarations.ensures.1 (λ o h.
+    let p = err_from_is_err_and c.from_residual-in_err-declarations.result c.from_residual-in_err-declarations.ensures.1 in
+    rw (p.1, p.2) (λ o h.
     falls (Part Declarations ∷ []) _ c.in_err-declarations.field-0.0 (made Empty tt (punctuator_past punctuator.OpenCurly is c.in_ok-advance.ensures.consumes c.in_ok-advance.ensures.kept
     (function_block_path is (rw h.fits.0 (omega arith)) (c.in_ok-number.ensures.passes _ _ _ _ h.path)))) (told_more _ _ added h.told) c.in_err-declarations.ensures.kept
     c.in_err-declarations.ensures.matches)

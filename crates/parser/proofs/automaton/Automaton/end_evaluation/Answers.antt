@@ -1,11 +1,12 @@
 use Rattle.std.proofs.Common.{◌≡◌, ◌+◌, ◌∙◌, [], ◌∷◌, refl, ap, true, false, arith}
 use Rattle.std.specs.Prelude.{None}
+use Rattle.std.proofs.lemmas.Result.{err_from_is_err_and}
 use Rattle.tokens.specs.declared.located_tokens.Punctuator.TheVariants as punctuator
 use Rattle.tokens.specs.declared.located_tokens.Keyword.TheVariants as keyword
 use Rattle.grammar.specs.Grammar.{AKeyword, Exactly, Part, Make, Statement, Statements, Block, Declarations, Empty, Evaluate, GiveBack, Zero, Decide, DecideElse, Repeat, is_keyword, is_punctuator}
 use Rattle.grammar.specs.Laws.Climbing.{operator_from}
 use Rattle.parser.specs.ScopedCursors.{token_of}
-use Rattle.parser.proofs.AutomatonLaws.{awaits, comes_to, has_place, hands_on, nests, refuses}
+use Rattle.parser.proofs.AutomatonLaws.{awaits, comes_to, has_place, nests, refuses}
 use Rattle.parser.proofs.Forms.{behind_if, behind_while, begins_block, conditioned, if_chosen, if_enters, in_braces, while_chosen, while_enters}
 use Rattle.parser.proofs.Parts.{punctuator_is, punctuator_too_deep, word_too_deep}
 use Rattle.parser.proofs.PathLaws.{closed, falls, made, may, told_more, out_of_memory, punctuator_falls, punctuator_past, word_falls, word_past}
@@ -14,7 +15,8 @@ use Rattle.parser.proofs.automaton.Automaton.end_evaluation.Goals as goal
 
 pub returns-in_err-expect-clause-moves : goal.returns-in_err-expect-clause-moves
 returns-in_err-expect-clause-moves g c =
-    hands_on c.from_residual.ensures.1 (λ o h.
+    let p = err_from_is_err_and c.from_residual.result c.from_residual.ensures.1 in
+    rw (p.1, p.2) (λ o h.
     falls (Exactly punctuator.Semicolon ∷ []) _ c.in_err-expect.field-0.0 h.path h.told c.in_err-expect.ensures.kept
     c.in_err-expect.ensures.matches)
 
@@ -25,7 +27,8 @@ act-requires g c =
 
 pub returns-in_err-act-clause-moves : goal.returns-in_err-act-clause-moves
 returns-in_err-act-clause-moves g c =
-    hands_on c.from_residual-in_err-act.ensures.1 (λ o h.
+    let p = err_from_is_err_and c.from_residual-in_err-act.result c.from_residual-in_err-act.ensures.1 in
+    rw (p.1, p.2) (λ o h.
     out_of_memory (c.in_ok-expect.ensures.passes _ _ _ _ h.path)
     (refuses c.in_err-act.field-0.0 _ c.in_err-act.ensures.judged))
 

@@ -1,3 +1,4 @@
+use Rattle.std.proofs.lemmas.Result.{err_from_is_err_and}
 use Rattle.std.proofs.Common.{◌≡◌, ◌+◌, ◌<◌, ◌≤◌, ◌∙◌, ℕ, [], ◌∷◌, ◌++◌, refl, ap, sym, subst, true, false, arith, length}
 use Rattle.tokens.specs.declared.located_tokens.Keyword.TheVariants as keyword
 use Rattle.tokens.specs.declared.located_tokens.LocatedToken.{LocatedToken}
@@ -11,7 +12,7 @@ use Rattle.parser.specs.declared.roles.Declared.TheVariants as kind
 use Rattle.parser.specs.Declarations.{header_items, names_items}
 use Rattle.parser.specs.FunctionEnds.{end_actions}
 use Rattle.parser.specs.ScopedCursors.{scope_of, token_after, token_of, with_scope}
-use Rattle.parser.proofs.AutomatonLaws.{comes_to, hands_on, has_place}
+use Rattle.parser.proofs.AutomatonLaws.{comes_to, has_place}
 use Rattle.parser.proofs.FunctionEnds.{end_follows, end_refused, function_ends}
 use Rattle.parser.proofs.PathLaws.{closed, falls, made, may, out_of_memory, punctuator_falls, punctuator_past, told_more}
 use Rattle.parser.proofs.AutomatonLaws.{refuses}
@@ -26,13 +27,15 @@ report_end-requires g c =
 
 pub returns-in_err-report_end-clause-moves : goal.returns-in_err-report_end-clause-moves
 returns-in_err-report_end-clause-moves g c =
-    hands_on c.from_residual.ensures.1 (λ o h.
+    let p = err_from_is_err_and c.from_residual.result c.from_residual.ensures.1 in
+    rw (p.1, p.2) (λ o h.
     rw c.in_err-report_end.ensures.kept.tokens (end_refused c.in_err-report_end.field-0.0 (no_statement_path c.requires.starts h.path) c.requires.starts h.told h.new
     c.in_err-report_end.ensures.ends))
 
 pub returns-in_err-advance-clause-moves : goal.returns-in_err-advance-clause-moves
 returns-in_err-advance-clause-moves g c =
-    hands_on c.from_residual-in_err-advance.ensures.1 (λ o h.
+    let p = err_from_is_err_and c.from_residual-in_err-advance.result c.from_residual-in_err-advance.ensures.1 in
+    rw (p.1, p.2) (λ o h.
     punctuator_falls punctuator.CloseCurly c.requires.starts (c.in_ok-report_end.ensures.ends.added) c.in_err-advance.ensures.kept
     c.in_err-advance.ensures.consumes (function_ends (no_statement_path c.requires.starts h.path) h.told h.new (rw c.variable_count-variables.ensures.count at c.in_ok-report_end.ensures.ends)))
 

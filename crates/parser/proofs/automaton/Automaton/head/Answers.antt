@@ -1,3 +1,4 @@
+use Rattle.std.proofs.lemmas.Result.{err_from_is_err_and}
 use Rattle.std.proofs.Common.{◌≡◌, ◌+◌, ◌<◌, ◌≤◌, ◌∙◌, ℕ, [], ◌∷◌, ◌++◌, refl, ap, sym, subst, true, false, arith, length}
 use Rattle.tokens.specs.declared.located_tokens.Keyword.TheVariants as keyword
 use Rattle.tokens.specs.declared.located_tokens.LocatedToken.{LocatedToken}
@@ -11,7 +12,7 @@ use Rattle.parser.specs.declared.roles.Declared.TheVariants as kind
 use Rattle.parser.specs.Declarations.{header_items, names_items}
 use Rattle.parser.specs.FunctionEnds.{end_actions}
 use Rattle.parser.specs.ScopedCursors.{scope_of, token_after, token_of, with_scope}
-use Rattle.parser.proofs.AutomatonLaws.{comes_to, hands_on, has_place}
+use Rattle.parser.proofs.AutomatonLaws.{comes_to, has_place}
 use Rattle.parser.proofs.FunctionEnds.{end_follows, end_refused, function_ends}
 use Rattle.parser.proofs.PathLaws.{closed, falls, made, may, out_of_memory, punctuator_falls, punctuator_past, told_more}
 use Rattle.parser.proofs.AutomatonLaws.{refuses}
@@ -28,7 +29,8 @@ returns-in-Name-clause-moves g c =
 pub returns-in_err-external_declaration-clause-moves : goal.returns-in_err-external_declaration-clause-moves
 returns-in_err-external_declaration-clause-moves g c =
     let other : is_punctuator punctuator.OpenRound (token_after c.args.self.now.tokens) ≡ false = cc in
-    hands_on c.from_residual.ensures.1 (λ o h.
+    let p = err_from_is_err_and c.from_residual.result c.from_residual.ensures.1 in
+    rw (p.1, p.2) (λ o h.
     falls (names_items kind.Externals) _ c.in_err-external_declaration.field-0.0 (external_path c.in-Name-2.field-0 (ap (λ (l : LocatedToken). l.token) (sym c.peek.ensures.value) ∙ c.in-Name-2.is) other h.path) h.told c.in_err-external_declaration.ensures.kept
     c.in_err-external_declaration.ensures.matches)
 

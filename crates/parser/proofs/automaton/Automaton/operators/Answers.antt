@@ -1,5 +1,6 @@
 use Rattle.std.proofs.Common.{◌≡◌, ◌+◌, ◌-◌, ◌<◌, ◌≤◌, ◌∙◌, ℕ, ℤ, suc, [], ◌∷◌, ◌++◌, refl, ap, sym, subst, pos, to_z, w32, true, false, arith}
 use Rattle.std.specs.Prelude.{Some, None, List}
+use Rattle.std.proofs.lemmas.Result.{err_from_is_err_and}
 use Rattle.std.proofs.lemmas.Int.{to_z_pos}
 use Rattle.tokens.specs.declared.located_tokens.LocatedToken.{LocatedToken}
 use Rattle.tokens.specs.declared.located_tokens.Punctuator.TheVariants as punctuator
@@ -9,11 +10,11 @@ use Rattle.grammar.specs.Actions.{middle}
 use Rattle.grammar.specs.Building.{Appends, MayFollow}
 use Rattle.grammar.specs.Grammar.{AConstant, AddArgument, AName, Arguments, Called, Close, Exactly, Expression, Fetch, Invoke, Make, Mentioned, Operate, Part, PostfixIncrement, PrefixIncrement, Primary, Store, Unary, is_punctuator}
 use Rattle.grammar.specs.Laws.Climbing.{operator_from}
-use Rattle.parser.specs.Automata.{stack_of}
+use Rattle.parser.specs.Automata.{all_tails, stack_of}
 use Rattle.parser.specs.ScopedCursors.{token_of}
 use Rattle.parser.specs.UnaryOps.{actions_after_operand, actions_before_operand, increment_punctuator, increment_store_op, postfix_actions, prefix_actions, unary_action, unary_punctuator}
 use Rattle.parser.proofs.AssignmentForms.{sign_fits, sign_goes_on, sign_of, store_chooses, store_is_nested}
-use Rattle.parser.proofs.AutomatonLaws.{awaits, closes, comes_to, hands_on, has_place, has_room, may_report, nested_tails, nests, operand_done, operand_stands, operators_stand, refuses, told_all, under_tails}
+use Rattle.parser.proofs.AutomatonLaws.{awaits, closes, comes_to, has_place, has_room, may_report, nested_tails, nests, operand_done, operand_stands, operators_stand, refuses, told_all, under_tails}
 use Rattle.parser.proofs.ExpressionSteps.{assigned, operand_path, operator_path, plain_path, store_path}
 use Rattle.parser.proofs.NameLaws.{is_named, named_found}
 use Rattle.parser.proofs.OperandForms.{NoOperator, NoPrimary, call_chooses, call_enters, constant_stops, open_chooses, open_enters, no_punctuator, plain_operand, sign_chooses, sign_is_nested}
@@ -29,7 +30,7 @@ returns-in_None-clause-moves g c =
     let none : operator_from c.args.floor (token_of c.args.self.now.tokens) ≡ None = cc in
     λ o h.
     comes_to h (rw none at h.path) h.told h.depth h.few
-    (record { level = c.args.floor; takes = h.fits.takes; ends = ends_at c.args.floor h.fits.least none h.fits.trees })
+    (record { level = c.args.floor; takes = h.fits.takes; ends = ends_at _ _ _ c.args.floor h.fits.least none h.fits.trees })
 
 pub report_middle-requires : goal.report_middle-requires
 report_middle-requires g c =
@@ -40,7 +41,8 @@ report_middle-requires g c =
 
 pub returns-in_err-report_middle-clause-moves : goal.returns-in_err-report_middle-clause-moves
 returns-in_err-report_middle-clause-moves g c =
-    hands_on c.from_residual.ensures.1 (λ o h.
+    let p = err_from_is_err_and c.from_residual.result c.from_residual.ensures.1 in
+    rw (p.1, p.2) (λ o h.
     out_of_memory h.path (refuses c.in_err-report_middle.field-0.0 _ c.in_err-report_middle.ensures.memory))
 
 pub advance-requires : goal.advance-requires
@@ -53,7 +55,8 @@ pub returns-in_err-advance-clause-moves : goal.returns-in_err-advance-clause-mov
 returns-in_err-advance-clause-moves g c =
     let is : operator_from c.args.floor (token_of c.args.self.now.tokens) ≡ Some c.in-Some.binary = cc in
     let s = spells c.in-Some.binary.level c.in-Some.binary.op _ (at_its_own _ c.in-Some.binary (found c.args.floor _ c.in-Some.binary is).0) in
-    hands_on c.from_residual-in_err-advance.ensures.1 (λ o h.
+    let p = err_from_is_err_and c.from_residual-in_err-advance.result c.from_residual-in_err-advance.ensures.1 in
+    rw (p.1, p.2) (λ o h.
     punctuator_falls s.m s.fits (told_all _ _ (middle c.in-Some.binary.op) c.in_ok-report_middle.ensures.reported h.told) c.in_err-advance.ensures.kept c.in_err-advance.ensures.consumes
     (operator_path _ c.in-Some.binary c.args.floor s is h.path))
 

@@ -1,5 +1,6 @@
 use Rattle.std.proofs.Common.{◌≡◌, ◌+◌, ◌-◌, ◌<◌, ◌≤◌, ◌∙◌, ℕ, ℤ, suc, [], ◌∷◌, ◌++◌, refl, ap, sym, subst, pos, to_z, w32, true, false, arith}
 use Rattle.std.specs.Prelude.{Some, None, List}
+use Rattle.std.proofs.lemmas.Result.{err_from_is_err_and}
 use Rattle.std.proofs.lemmas.Int.{to_z_pos}
 use Rattle.tokens.specs.declared.located_tokens.LocatedToken.{LocatedToken}
 use Rattle.tokens.specs.declared.located_tokens.Punctuator.TheVariants as punctuator
@@ -9,11 +10,11 @@ use Rattle.grammar.specs.Actions.{middle}
 use Rattle.grammar.specs.Building.{Appends, MayFollow}
 use Rattle.grammar.specs.Grammar.{AConstant, AddArgument, AName, Arguments, Called, Close, Exactly, Expression, Fetch, Invoke, Make, Mentioned, Operate, Part, PostfixIncrement, PrefixIncrement, Primary, Store, Unary, is_punctuator}
 use Rattle.grammar.specs.Laws.Climbing.{operator_from}
-use Rattle.parser.specs.Automata.{stack_of}
+use Rattle.parser.specs.Automata.{all_tails, stack_of}
 use Rattle.parser.specs.ScopedCursors.{token_of}
 use Rattle.parser.specs.UnaryOps.{actions_after_operand, actions_before_operand, increment_punctuator, increment_store_op, postfix_actions, prefix_actions, unary_action, unary_punctuator}
 use Rattle.parser.proofs.AssignmentForms.{sign_fits, sign_goes_on, sign_of, store_chooses, store_is_nested}
-use Rattle.parser.proofs.AutomatonLaws.{awaits, closes, comes_to, hands_on, has_place, has_room, may_report, nested_tails, nests, operand_done, operand_stands, operators_stand, refuses, told_all, under_tails}
+use Rattle.parser.proofs.AutomatonLaws.{awaits, closes, comes_to, has_place, has_room, may_report, nested_tails, nests, operand_done, operand_stands, operators_stand, refuses, told_all, under_tails}
 use Rattle.parser.proofs.ExpressionSteps.{assigned, operand_path, operator_path, plain_path, store_path}
 use Rattle.parser.proofs.NameLaws.{is_named, named_found}
 use Rattle.parser.proofs.OperandForms.{NoOperator, NoPrimary, call_chooses, call_enters, constant_stops, open_chooses, open_enters, no_punctuator, plain_operand, sign_chooses, sign_is_nested}
@@ -26,13 +27,15 @@ use Rattle.parser.proofs.automaton.Automaton.prefix_increment.Goals as goal
 
 pub returns-in_err-advance-clause-moves : goal.returns-in_err-advance-clause-moves
 returns-in_err-advance-clause-moves g c =
-    hands_on c.from_residual.ensures.1 (λ o h.
+    let p = err_from_is_err_and c.from_residual.result c.from_residual.ensures.1 in
+    rw (p.1, p.2) (λ o h.
     punctuator_falls (increment_punctuator c.args.increment) c.requires.starts h.told c.in_err-advance.ensures.kept c.in_err-advance.ensures.consumes
     (prefix_path c.args.increment c.requires.starts h.path))
 
 pub returns-in_err-var-clause-moves : goal.returns-in_err-var-clause-moves
 returns-in_err-var-clause-moves g c =
-    hands_on c.from_residual-in_err-var.ensures.1 (λ o h.
+    let p = err_from_is_err_and c.from_residual-in_err-var.result c.from_residual-in_err-var.ensures.1 in
+    rw (p.1, p.2) (λ o h.
     falls (AName Mentioned ∷ []) _ c.in_err-var.field-0.0 (punctuator_past (increment_punctuator c.args.increment) c.requires.starts c.in_ok-advance.ensures.consumes c.in_ok-advance.ensures.kept
     (prefix_path c.args.increment c.requires.starts h.path)) h.told c.in_err-var.ensures.kept
     c.in_err-var.ensures.matches)
@@ -45,7 +48,8 @@ report_prefix-requires g c =
 
 pub returns-in_err-report_prefix-clause-moves : goal.returns-in_err-report_prefix-clause-moves
 returns-in_err-report_prefix-clause-moves g c =
-    hands_on c.from_residual-in_err-report_prefix.ensures.1 (λ o h.
+    let p = err_from_is_err_and c.from_residual-in_err-report_prefix.result c.from_residual-in_err-report_prefix.ensures.1 in
+    rw (p.1, p.2) (λ o h.
     out_of_memory (c.in_ok-var.ensures.passes _ _ _ _ (punctuator_past (increment_punctuator c.args.increment) c.requires.starts c.in_ok-advance.ensures.consumes c.in_ok-advance.ensures.kept
     (prefix_path c.args.increment c.requires.starts h.path)))
     (refuses c.in_err-report_prefix.field-0.0 _ c.in_err-report_prefix.ensures.memory))

@@ -1,5 +1,6 @@
 use Rattle.std.proofs.Common.{◌≡◌, ◌+◌, ◌-◌, ◌<◌, ◌≤◌, ◌∙◌, ℕ, ℤ, suc, [], ◌∷◌, ◌++◌, refl, ap, sym, subst, pos, to_z, w32, true, false, arith}
 use Rattle.std.specs.Prelude.{Some, None, List}
+use Rattle.std.proofs.lemmas.Result.{err_from_is_err_and}
 use Rattle.std.proofs.lemmas.Int.{to_z_pos}
 use Rattle.tokens.specs.declared.located_tokens.LocatedToken.{LocatedToken}
 use Rattle.tokens.specs.declared.located_tokens.Punctuator.TheVariants as punctuator
@@ -9,11 +10,11 @@ use Rattle.grammar.specs.Actions.{middle}
 use Rattle.grammar.specs.Building.{Appends, MayFollow}
 use Rattle.grammar.specs.Grammar.{AConstant, AddArgument, AName, Arguments, Called, Close, Exactly, Expression, Fetch, Invoke, Make, Mentioned, Operate, Part, PostfixIncrement, PrefixIncrement, Primary, Store, Unary, is_punctuator}
 use Rattle.grammar.specs.Laws.Climbing.{operator_from}
-use Rattle.parser.specs.Automata.{stack_of}
+use Rattle.parser.specs.Automata.{all_tails, stack_of}
 use Rattle.parser.specs.ScopedCursors.{token_of}
 use Rattle.parser.specs.UnaryOps.{actions_after_operand, actions_before_operand, increment_punctuator, increment_store_op, postfix_actions, prefix_actions, unary_action, unary_punctuator}
 use Rattle.parser.proofs.AssignmentForms.{sign_fits, sign_goes_on, sign_of, store_chooses, store_is_nested}
-use Rattle.parser.proofs.AutomatonLaws.{awaits, closes, comes_to, hands_on, has_place, has_room, may_report, nested_tails, nests, operand_done, operand_stands, operators_stand, refuses, told_all, under_tails}
+use Rattle.parser.proofs.AutomatonLaws.{awaits, closes, comes_to, has_place, has_room, may_report, nested_tails, nests, operand_done, operand_stands, operators_stand, refuses, told_all, under_tails}
 use Rattle.parser.proofs.ExpressionSteps.{assigned, operand_path, operator_path, plain_path, store_path}
 use Rattle.parser.proofs.NameLaws.{is_named, named_found}
 use Rattle.parser.proofs.OperandForms.{NoOperator, NoPrimary, call_chooses, call_enters, constant_stops, open_chooses, open_enters, no_punctuator, plain_operand, sign_chooses, sign_is_nested}
@@ -26,26 +27,29 @@ use Rattle.parser.proofs.automaton.Automaton.sign.Goals as goal
 
 pub returns-in_err-check_nesting-clause-moves : goal.returns-in_err-check_nesting-clause-moves
 returns-in_err-check_nesting-clause-moves g c =
-    hands_on c.from_residual.ensures.1 (λ o h.
-    nests h.path (under_tails c.args.floor _ _ h.depth) c.in_err-check_nesting.ensures.refused (λ depth.
+    let p = err_from_is_err_and c.from_residual.result c.from_residual.ensures.1 in
+    rw (p.1, p.2) (λ o h.
+    nests h.path (under_tails c.args.floor _ c.args.self.now.frames h.depth) c.in_err-check_nesting.ensures.refused (λ depth.
     punctuator_too_deep _ _ h.path.ready.near depth Unary (unary_punctuator c.args.sign) (Part Unary ∷ Make (unary_action c.args.sign) ∷ Close ∷ [])
     (sign_chooses _ c.args.sign c.requires.starts) (sign_is_nested _ c.args.sign c.requires.starts) c.requires.starts))
 
 pub report_before_operand-requires : goal.report_before_operand-requires
 report_before_operand-requires g c =
     let h = c.requires.at.is in
-    record { follow = may_report h.acts (actions_before_operand c.args.sign) h.told h.new (sign_path c.args.sign c.requires.starts (rw (under_tails c.args.floor _ _ h.depth) c.in_ok-check_nesting.ensures.ok) h.path) }
+    record { follow = may_report h.acts (actions_before_operand c.args.sign) h.told h.new (sign_path {stack = all_tails c.args.floor ++ stack_of c.args.self.now.frames} c.args.sign c.requires.starts (rw (under_tails c.args.floor _ c.args.self.now.frames h.depth) c.in_ok-check_nesting.ensures.ok) h.path) }
 
 pub returns-in_err-report_before_operand-clause-moves : goal.returns-in_err-report_before_operand-clause-moves
 returns-in_err-report_before_operand-clause-moves g c =
-    hands_on c.from_residual-in_err-report_before_operand.ensures.1 (λ o h.
+    let p = err_from_is_err_and c.from_residual-in_err-report_before_operand.result c.from_residual-in_err-report_before_operand.ensures.1 in
+    rw (p.1, p.2) (λ o h.
     out_of_memory h.path (refuses c.in_err-report_before_operand.field-0.0 _ c.in_err-report_before_operand.ensures.memory))
 
 pub returns-in_err-advance-clause-moves : goal.returns-in_err-advance-clause-moves
 returns-in_err-advance-clause-moves g c =
-    hands_on c.from_residual-in_err-advance.ensures.1 (λ o h.
+    let p = err_from_is_err_and c.from_residual-in_err-advance.result c.from_residual-in_err-advance.ensures.1 in
+    rw (p.1, p.2) (λ o h.
     punctuator_falls (unary_punctuator c.args.sign) c.requires.starts (told_all _ _ (actions_before_operand c.args.sign) c.in_ok-report_before_operand.ensures.reported h.told) c.in_err-advance.ensures.kept c.in_err-advance.ensures.consumes
-    (sign_path c.args.sign c.requires.starts (rw (under_tails c.args.floor _ _ h.depth) c.in_ok-check_nesting.ensures.ok) h.path))
+    (sign_path {stack = all_tails c.args.floor ++ stack_of c.args.self.now.frames} c.args.sign c.requires.starts (rw (under_tails c.args.floor _ c.args.self.now.frames h.depth) c.in_ok-check_nesting.ensures.ok) h.path))
 
 pub push-requires : goal.push-requires
 push-requires g c =
@@ -55,9 +59,9 @@ pub returns-clause-moves : goal.returns-clause-moves
 returns-clause-moves g c = λ o h.
     rw c.push.ensures (comes_to h
     (punctuator_past (unary_punctuator c.args.sign) c.requires.starts c.in_ok-advance.ensures.consumes c.in_ok-advance.ensures.kept
-    (sign_path c.args.sign c.requires.starts (rw (under_tails c.args.floor _ _ h.depth) c.in_ok-check_nesting.ensures.ok) h.path))
+    (sign_path {stack = all_tails c.args.floor ++ stack_of c.args.self.now.frames} c.args.sign c.requires.starts (rw (under_tails c.args.floor _ c.args.self.now.frames h.depth) c.in_ok-check_nesting.ensures.ok) h.path))
     (told_all _ _ (actions_before_operand c.args.sign) c.in_ok-report_before_operand.ensures.reported h.told)
-    (ap (λ n. n + 1) (under_tails c.args.floor _ _ h.depth)) (omega (arith, c.in_ok-check_nesting.ensures.ok))
+    (ap (λ n. n + 1) (under_tails c.args.floor _ c.args.self.now.frames h.depth)) (omega (arith, c.in_ok-check_nesting.ensures.ok))
     (record {
       least = omega arith;
       most = omega arith;

@@ -1,3 +1,4 @@
+use Rattle.std.proofs.lemmas.Result.{err_from_is_err_and}
 use Rattle.std.proofs.Common.{◌≡◌, ◌+◌, ◌<◌, ◌≤◌, ◌∙◌, ℕ, [], ◌∷◌, ◌++◌, refl, ap, sym, subst, true, false, arith, length}
 use Rattle.tokens.specs.declared.located_tokens.Keyword.TheVariants as keyword
 use Rattle.tokens.specs.declared.located_tokens.LocatedToken.{LocatedToken}
@@ -11,7 +12,7 @@ use Rattle.parser.specs.declared.roles.Declared.TheVariants as kind
 use Rattle.parser.specs.Declarations.{header_items, names_items}
 use Rattle.parser.specs.FunctionEnds.{end_actions}
 use Rattle.parser.specs.ScopedCursors.{scope_of, token_after, token_of, with_scope}
-use Rattle.parser.proofs.AutomatonLaws.{comes_to, hands_on, has_place}
+use Rattle.parser.proofs.AutomatonLaws.{comes_to, has_place}
 use Rattle.parser.proofs.FunctionEnds.{end_follows, end_refused, function_ends}
 use Rattle.parser.proofs.PathLaws.{closed, falls, made, may, out_of_memory, punctuator_falls, punctuator_past, told_more}
 use Rattle.parser.proofs.AutomatonLaws.{refuses}
@@ -21,13 +22,15 @@ use Rattle.parser.proofs.automaton.Automaton.typed_part.Goals as goal
 
 pub returns-in_err-expect_type-clause-moves : goal.returns-in_err-expect_type-clause-moves
 returns-in_err-expect_type-clause-moves g c =
-    hands_on c.from_residual.ensures.1 (λ o h.
+    let p = err_from_is_err_and c.from_residual.result c.from_residual.ensures.1 in
+    rw (p.1, p.2) (λ o h.
     falls (AKeyword keyword.Type ∷ []) _ c.in_err-expect_type.field-0.0 (typed_path c.requires.starts h.path) h.told c.in_err-expect_type.ensures.kept
     c.in_err-expect_type.ensures.matches)
 
 pub returns-in_err-type_words-clause-moves : goal.returns-in_err-type_words-clause-moves
 returns-in_err-type_words-clause-moves g c =
-    hands_on c.from_residual-in_err-type_words.ensures.1 (λ o h.
+    let p = err_from_is_err_and c.from_residual-in_err-type_words.result c.from_residual-in_err-type_words.ensures.1 in
+    rw (p.1, p.2) (λ o h.
     falls (Part Types ∷ []) _ c.in_err-type_words.field-0.0 (c.in_ok-expect_type.ensures.passes _ _ _ _ (typed_path c.requires.starts h.path)) h.told c.in_err-type_words.ensures.kept
     c.in_err-type_words.ensures.matches)
 
