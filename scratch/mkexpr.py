@@ -16,10 +16,10 @@ use Rattle.parser.specs.Automata.{all_tails, stack_of}
 use Rattle.parser.specs.ScopedCursors.{token_of}
 use Rattle.parser.specs.UnaryOps.{actions_after_operand, actions_before_operand, increment_punctuator, increment_store_op, postfix_actions, prefix_actions, unary_action, unary_punctuator}
 use Rattle.parser.proofs.AssignmentForms.{sign_fits, sign_goes_on, sign_of, store_chooses, store_is_nested}
-use Rattle.parser.proofs.AutomatonLaws.{awaits, closes, comes_to, has_place, has_room, may_report, nested_tails, nests, operand_done, operand_stands, operators_stand, refuses, told_all, under_tails}
+use Rattle.parser.proofs.AutomatonLaws.{awaits, closes, comes_to, has_place, has_room, may_report, nested_tails, nests, operand_done, operand_stands, operators_stand, refuses, shallow, told_all, under_tails}
 use Rattle.parser.proofs.ExpressionSteps.{assigned, operand_path, operator_path, plain_path, store_path}
 use Rattle.parser.proofs.NameLaws.{is_named, named_found}
-use Rattle.parser.proofs.OperandForms.{NoOperator, NoPrimary, call_chooses, call_enters, constant_stops, open_chooses, open_enters, no_punctuator, plain_operand, sign_chooses, sign_is_nested}
+use Rattle.parser.proofs.OperandForms.{NoOperator, NoPrimary, call_chooses, call_enters, constant_stops, open_chooses, open_enters, no_punctuator, only_punctuator, plain_operand, sign_chooses, sign_is_nested}
 use Rattle.parser.proofs.OperandSteps.{bracket_path, bracketed_path, call_path, constant_path, first_argument_path, last_argument_path, named_path, next_argument_path, no_arguments_path, operand_misfits, postfix_path, prefix_path, sign_path, signed_path, variable_path}
 use Rattle.parser.proofs.Operators.{at_its_own, found, spells, ten_levels}
 use Rattle.parser.proofs.PathLaws.{closed, constant_past, falls, made, may, told_more, out_of_memory, punctuator_falls, punctuator_past}
@@ -47,7 +47,7 @@ def fall(item, call, path, told='h.told'):
 def pfall(m, fits, call, path, told='h.told'):
     return f"punctuator_falls {m} {fits} {told} c.in_err-{call}.ensures.kept c.in_err-{call}.ensures.consumes\n    {path}"
 OKN='c.in_ok-check_nesting.ensures.ok'
-FEW=f"(rw (under_tails c.args.floor _ c.args.self.now.frames h.depth) {OKN})"
+FEW=f"(shallow c.args.floor _ c.args.self.now.frames h.depth {OKN})"
 DEEPER="(ap (λ n. n + 1) (under_tails c.args.floor _ c.args.self.now.frames h.depth))"
 MORE=f"(omega (arith, {OKN}))"
 ST='c.requires.starts'
@@ -124,7 +124,7 @@ write('prefix_increment',[
 # sign
 UP='(unary_punctuator c.args.sign)'
 BEF='(actions_before_operand c.args.sign)'
-S=f"(sign_path {{stack = all_tails c.args.floor ++ stack_of c.args.self.now.frames}} c.args.sign {ST} {FEW} h.path)"
+S=f"(sign_path c.args.sign {ST} {FEW} h.path)"
 TB=f"(told_all _ _ {BEF} c.in_ok-report_before_operand.ensures.reported h.told)"
 PUSHROOM=('push-requires',f"""push-requires g c =
     let h = c.requires.at.is in has_room _ c.args.floor h.fits.most h.fits.takes (rw h.depth {OKN})""")
@@ -169,7 +169,7 @@ write('end_sign',[
 ])
 # bracket
 OR='punctuator.OpenRound'
-B=f"(bracket_path {{stack = all_tails c.args.floor ++ stack_of c.args.self.now.frames}} {ST} {FEW} h.path)"
+B=f"(bracket_path {ST} {FEW} h.path)"
 write('bracket',[
  err('check_nesting',True,f"nests (bracketed_path {ST} h.path) (under_tails c.args.floor _ c.args.self.now.frames h.depth)\n    c.in_err-check_nesting.ensures.refused (λ depth. punctuator_too_deep _ _ h.path.ready.near depth Primary {OR}\n    (Part Expression ∷ Exactly punctuator.CloseRound ∷ Close ∷ []) (open_chooses _ {ST}) (open_enters _ {ST})\n    {ST})"),
  err('advance',False,pfall(OR,ST,'advance',B)),
@@ -192,7 +192,7 @@ write('end_bracket',[
 ])
 # call
 N=f"(is_named _ {ST}.named)"
-K=f"(call_path {{stack = all_tails c.args.floor ++ stack_of c.args.self.now.frames}} {ST} {FEW} h.path)"
+K=f"(call_path {ST} {FEW} h.path)"
 C=f"(c.in_ok-callee.ensures.passes _ _ _ _ {K})"
 TA="(told_more _ _ c.in_ok-act.ensures.ok h.told)"
 E=f"(c.in_ok-expect.ensures.passes _ _ _ _ {C})"
@@ -384,6 +384,13 @@ write('operand',[
       name = λ name same. c.in_default.not-Name name {TOK};
       bracket = no_punctuator {OR} _ (λ m same. c.in_default.not-Punctuator m {TOK});
     }}) h.path)"""),
+ ('operand_from_punctuator-requires',"""operand_from_punctuator-requires g c = record {
+  at = c.requires.at;
+  starts = record {
+    m = c.in-Punctuator.field-0;
+    is = ap (λ (l : LocatedToken). l.token) (sym c.peek.ensures.value) ∙ c.in-Punctuator.is;
+  };
+}"""),
 ])
 write('operand_from_punctuator',[
  ('returns-clause-moves',f"""returns-clause-moves g c =
@@ -394,5 +401,5 @@ write('operand_from_punctuator',[
       sound = h.path.ready.sound;
       signs = λ s. rw c.peek.ensures.value at (c.in_default.ensures.none s);
       increments = λ s. rw c.peek-in_default.ensures.value at (c.in_default-increment_op_of.ensures.none s);
-    }}) (record {{ constant = {{!!}}; name = {{!!}}; bracket = other }}) h.path)"""),
+    }}) (only_punctuator _ c.requires.starts.m c.requires.starts.is other) h.path)"""),
 ])

@@ -128,6 +128,11 @@ pub under_tails : (floor depth : ℕ) (frames : List Frame) → nested_count (st
     nested_count (all_tails floor ++ stack_of frames) ≡ depth
 under_tails floor depth frames h = nested_tails (11 - floor) floor (stack_of frames) ∙ h
 
+pub shallow : (floor depth : ℕ) (frames : List Frame) → nested_count (stack_of frames) ≡ depth → depth < MOST_NESTED →
+    nested_count (all_tails floor ++ stack_of frames) < MOST_NESTED
+shallow floor depth frames h few =
+    subst (λ (n : ℕ). n < MOST_NESTED) (sym (under_tails floor depth frames h)) few
+
 -- the construct around them is closed
 pub closes : (floor depth : ℕ) (frames : List Frame) →
     nested_count (all_tails floor ++ stack_of frames) + 1 ≡ depth → nested_count (stack_of frames) ≡ depth - 1

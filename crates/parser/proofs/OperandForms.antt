@@ -1,5 +1,5 @@
 -- Which production of an operand a token chooses.
-use Rattle.std.proofs.Common.{◌≡◌, ℕ, pos, ◌+◌, ◌≤◌, List, [], ◌∷◌, refl, Bool, true, false}
+use Rattle.std.proofs.Common.{◌≡◌, ℕ, pos, ◌+◌, ◌≤◌, List, [], ◌∷◌, refl, sym, ◌∙◌, Bool, true, false}
 use Rattle.std.specs.Prelude.{Some, None}
 use Rattle.tokens.specs.Cursors.{IsNearTo}
 use Rattle.tokens.specs.declared.located_tokens.Punctuator.{Punctuator}
@@ -297,6 +297,15 @@ pub record NoPrimary (t : Token) : Type 0 where
   pub constant : (value : ℕ) → t ≡ token.Constant value → ⊥
   pub name : (name : List ℕ) → t ≡ token.Name name → ⊥
   pub bracket : is_punctuator punctuator.OpenRound t ≡ false
+
+-- a punctuator that is no bracket
+pub only_punctuator : (t : Token) (m : Punctuator) → t ≡ token.Punctuator m →
+    is_punctuator punctuator.OpenRound t ≡ false → NoPrimary t
+only_punctuator t m is other = record {
+  constant = λ value same. absurd (let no : token.Punctuator m ≡ token.Constant value = sym is ∙ same in cc);
+  name = λ name same. absurd (let no : token.Punctuator m ≡ token.Name name = sym is ∙ same in cc);
+  bracket = other;
+}
 
 pub no_primary : (t after : Token) → NoPrimary t → choice Primary t after ≡ None
 no_primary (token.Constant value) after n = absurd (n.constant value refl)

@@ -17,7 +17,7 @@ use Rattle.grammar.specs.declared.actions.Action.{Action}
 use Rattle.grammar.specs.Beginning.{IsBeginning, definitions_actions}
 use Rattle.grammar.specs.Building.{Representation}
 use Rattle.grammar.specs.Compiled.{compiled, compiled_tokens, diagnostic, last_line, main_name, resolved}
-use Rattle.grammar.specs.Derivation.{State, derived, initial_state, Definition, next_token, line_at}
+use Rattle.grammar.specs.Derivation.{State, PartialTree, derived, initial_state, Definition, next_token, line_at}
 use Rattle.grammar.specs.Following.{follow_all}
 use Rattle.grammar.specs.Laws.StateParts.{state}
 use Rattle.grammar.specs.Faults.{unexpected_token_code}
@@ -38,7 +38,11 @@ use Rattle.grammar.proofs.FileLaws.{finished, undefined, without_main}
 use Rattle.grammar_laws.specs.Emission.{emissions}
 use Rattle.grammar_laws.specs.Emitted.{IsPart}
 use Rattle.grammar_laws.proofs.Emitted.{emits_a_beginning, emits_a_part, emits_its_functions}
+use Rattle.parser.specs.declared.automaton.Automaton.{Automaton}
+use Rattle.parser.specs.declared.frames.Frame.{Frame}
+use Rattle.parser.specs.declared.frames.Front.TheVariants as front
 use Rattle.parser.specs.Advancing.{IsReady}
+use Rattle.parser.specs.Automata.{Stands, Start, stack_of}
 use Rattle.parser.specs.Complete.{ADefinition, AMain, IsComplete, LacksDefinition}
 use Rattle.parser.specs.ParsedFiles.{BuildsAhead, FailsBytes, HasBuilt, LeavesUndecided, ParsesToFile, ParseIsRefused, StopsTaking, TakesNoMore, TakesUpTo}
 use Rattle.parser.specs.Paths.{HasTold, Leads, Origin, Path, Refused, StopsBehind}
@@ -74,6 +78,25 @@ starts o at shows nothing borrows account took ready = record {
   account = account;
   took = took;
   ready = ready;
+}
+
+-- an automaton there
+pub begins : {F B : Type 0} (stands : B → Representation) (told : Option (List ℕ)) (account : FailureCount)
+    (at : Automaton F B) → at.frames ≡ [] → at.depth ≡ 0 → tokens_at at.tokens.position ≡ option_map tokens told →
+    scope_of at.tokens ≡ no_names → at.tokens.account ≡ account →
+    at.tokens.position.to_come ≡ option_map (drop (taken_at at.tokens.position)) told → IsReady at.tokens →
+    (profile : Profile) → stands at.builder.now profile [] →
+    Stands (record { origin = from told account at.tokens.borrows profile; builder = at.builder.now }) stands
+    front.Source at
+begins stands told account at none flat shows nothing counted took ready profile new = record {
+  values = [];
+  acts = [];
+  path = rw none (starts (from told account at.tokens.borrows profile) at.tokens shows nothing refl counted took ready);
+  new = new;
+  told = record { each = λ other h. h };
+  depth = rw (none, flat) refl;
+  few = rw flat (omega arith);
+  fits = (none, refl);
 }
 
 -- Where it ends: at the end of the file, if it was not refused.
@@ -145,6 +168,18 @@ pub record Reads (began left : Representation) (told : Option (List ℕ)) (at : 
 abbrev all_of : {began left : Representation} {told : Option (List ℕ)} {at : ScopedCursor} {profile : Profile} →
     Reads began left told at profile → List LocatedToken
 all_of {at = at} r = r.is.consumed ++ next_at at.position ∷ []
+
+pub reads_of : {F B : Type 0} {o : Start B} {stands : B → Representation} {at : Automaton F B} →
+    Stands o stands front.End at →
+    Reads (stands o.builder) (stands at.builder.now) o.origin.bytes at.tokens o.origin.profile
+reads_of {o = o} {at = at} h = record {
+  acts = h.acts;
+  is = whole
+      (subst (λ (fs : List Frame). Path o.origin (AnEnd ∷ stack_of fs) [] h.acts at.tokens) h.fits.0
+      (subst (λ (vs : List PartialTree). Path o.origin (AnEnd ∷ stack_of at.frames) vs h.acts at.tokens) h.fits.1 h.path))
+      h.fits.2;
+  tells = h.told;
+}
 
 compiled_as : (profile : Profile) (bytes : List ℕ) (located_tokens : List LocatedToken)
     (verdict : Result File Diagnostic) → tokens bytes ≡ located_tokens →
@@ -390,3 +425,21 @@ first_refused before told to_come (parse_fault.Source d) denied stops = first_fa
 first_refused before told to_come parse_fault.Device denied stops =
     opening_builds before told to_come stops.taken (record { took = stops.took; limited = stops.limited }) stops.refused
 first_refused before told to_come parse_fault.Memory denied stops = absurd stops.refused.0
+
+-- What is said of a builder as a parser left it is true of it when the parser is gone.
+pub file_left : {B : Type 0} →
+    (stands : B → Representation) (before : Representation) (last left : B) (told : Option (List ℕ))
+    (names : Pools) → last ≡ left → ParsesToFile before (stands left) told names →
+    ParsesToFile before (stands last) told names
+file_left stands before last left told names same h = rw same h
+
+pub refused_left : (before after left : Representation) (denied : Type 0) (told to_come : Option (List ℕ))
+    (fault : ParseFault)
+    →
+    ((profile : Profile) (acts : List Action) → left profile acts → after profile acts) →
+    ParseIsRefused before left denied told to_come fault → ParseIsRefused before after denied told to_come fault
+refused_left before after left denied told to_come (parse_fault.Source d) same h = h
+refused_left before after left denied told to_come parse_fault.Device same h = λ bytes e profile start.
+    let built = h bytes e profile start in
+    record { count = built.count; took = built.took; more = built.more; stands = same profile _ built.stands }
+refused_left before after left denied told to_come parse_fault.Memory same h = h

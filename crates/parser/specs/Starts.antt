@@ -1,5 +1,6 @@
 -- The two tokens with which a form of an expression starts.
 use Rattle.std.specs.Prelude.{◌≡◌, ℕ, Some, None, is_some, true, false}
+use Rattle.tokens.specs.declared.located_tokens.Punctuator.{Punctuator}
 use Rattle.tokens.specs.declared.located_tokens.Punctuator.TheVariants as punctuator
 use Rattle.tokens.specs.declared.located_tokens.Token.TheVariants as token
 use Rattle.tokens.specs.Cursors.{FitsToken}
@@ -15,6 +16,11 @@ use Rattle.parser.specs.UnaryOps.{increment_punctuator}
 pub record StartsConstant (value : ℕ) (at : ScopedCursor) : Type 0 where
   pub is : token_of at ≡ token.Constant value
   pub fits : FitsToken (token.Constant value)
+
+-- a punctuator
+pub record StartsPunctuator (at : ScopedCursor) : Type 0 where
+  pub m : Punctuator
+  pub is : token_of at ≡ token.Punctuator m
 
 -- a name
 abbrev pub StartsName : ScopedCursor → Type 0

@@ -3,7 +3,7 @@
 ghost use Rattle.tokens.specs.declared.located_tokens.Punctuator.TheVariants as punctuator;
 ghost use Rattle.parser.specs.Advancing.{IsNextPunctuator};
 ghost use Rattle.parser.specs.Automata.{Falls, IsAt, KeepsBuilder, Moves, with_frame};
-ghost use Rattle.parser.specs.Starts.{StartsCall, StartsConstant, StartsName, StartsPostfix, StartsVariable};
+ghost use Rattle.parser.specs.Starts.{StartsCall, StartsConstant, StartsName, StartsPostfix, StartsPunctuator, StartsVariable};
 ghost use Rattle.parser.specs.UnaryOps.{increment_punctuator, unary_punctuator};
 
 use crate::automaton::Automaton;
@@ -36,6 +36,7 @@ impl<F: Feed, B: Build> Automaton<'_, '_, '_, F, B> {
     #[inline(always)]
     fn operand_from_punctuator(&mut self, floor: u8) -> Result<Front, ParseFault>
         requires at { IsAt B.stands (Front.Operand floor) self.old }
+        requires starts { StartsPunctuator self.old.tokens }
         ensures moves { Moves result B.denied B.stands (Front.Operand floor) self.old self.new }
         ensures falls { Falls result (Front.Operand floor) self.old self.new }
         ensures builder { KeepsBuilder self.old self.new }

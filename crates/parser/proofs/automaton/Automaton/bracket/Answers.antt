@@ -14,10 +14,10 @@ use Rattle.parser.specs.Automata.{all_tails, stack_of}
 use Rattle.parser.specs.ScopedCursors.{token_of}
 use Rattle.parser.specs.UnaryOps.{actions_after_operand, actions_before_operand, increment_punctuator, increment_store_op, postfix_actions, prefix_actions, unary_action, unary_punctuator}
 use Rattle.parser.proofs.AssignmentForms.{sign_fits, sign_goes_on, sign_of, store_chooses, store_is_nested}
-use Rattle.parser.proofs.AutomatonLaws.{awaits, closes, comes_to, has_place, has_room, may_report, nested_tails, nests, operand_done, operand_stands, operators_stand, refuses, told_all, under_tails}
+use Rattle.parser.proofs.AutomatonLaws.{awaits, closes, comes_to, has_place, has_room, may_report, nested_tails, nests, operand_done, operand_stands, operators_stand, refuses, shallow, told_all, under_tails}
 use Rattle.parser.proofs.ExpressionSteps.{assigned, operand_path, operator_path, plain_path, store_path}
 use Rattle.parser.proofs.NameLaws.{is_named, named_found}
-use Rattle.parser.proofs.OperandForms.{NoOperator, NoPrimary, call_chooses, call_enters, constant_stops, open_chooses, open_enters, no_punctuator, plain_operand, sign_chooses, sign_is_nested}
+use Rattle.parser.proofs.OperandForms.{NoOperator, NoPrimary, call_chooses, call_enters, constant_stops, open_chooses, open_enters, no_punctuator, only_punctuator, plain_operand, sign_chooses, sign_is_nested}
 use Rattle.parser.proofs.OperandSteps.{bracket_path, bracketed_path, call_path, constant_path, first_argument_path, last_argument_path, named_path, next_argument_path, no_arguments_path, operand_misfits, postfix_path, prefix_path, sign_path, signed_path, variable_path}
 use Rattle.parser.proofs.Operators.{at_its_own, found, spells, ten_levels}
 use Rattle.parser.proofs.PathLaws.{closed, constant_past, falls, made, may, told_more, out_of_memory, punctuator_falls, punctuator_past}
@@ -39,7 +39,7 @@ returns-in_err-advance-clause-moves g c =
     let p = err_from_is_err_and c.from_residual-in_err-advance.result c.from_residual-in_err-advance.ensures.1 in
     rw (p.1, p.2) (λ o h.
     punctuator_falls punctuator.OpenRound c.requires.starts h.told c.in_err-advance.ensures.kept c.in_err-advance.ensures.consumes
-    (bracket_path {stack = all_tails c.args.floor ++ stack_of c.args.self.now.frames} c.requires.starts (rw (under_tails c.args.floor _ c.args.self.now.frames h.depth) c.in_ok-check_nesting.ensures.ok) h.path))
+    (bracket_path c.requires.starts (shallow c.args.floor _ c.args.self.now.frames h.depth c.in_ok-check_nesting.ensures.ok) h.path))
 
 pub push-requires : goal.push-requires
 push-requires g c =
@@ -49,6 +49,6 @@ pub returns-clause-moves : goal.returns-clause-moves
 returns-clause-moves g c = λ o h.
     rw c.push.ensures (comes_to h
     (punctuator_past punctuator.OpenRound c.requires.starts c.in_ok-advance.ensures.consumes c.in_ok-advance.ensures.kept
-    (bracket_path {stack = all_tails c.args.floor ++ stack_of c.args.self.now.frames} c.requires.starts (rw (under_tails c.args.floor _ c.args.self.now.frames h.depth) c.in_ok-check_nesting.ensures.ok) h.path)) h.told
+    (bracket_path c.requires.starts (shallow c.args.floor _ c.args.self.now.frames h.depth c.in_ok-check_nesting.ensures.ok) h.path)) h.told
     (ap (λ n. n + 1) (under_tails c.args.floor _ c.args.self.now.frames h.depth)) (omega (arith, c.in_ok-check_nesting.ensures.ok))
     (awaits (refl, h.fits.least, h.fits.most, h.fits.takes) h.fits.trees))

@@ -14,10 +14,10 @@ use Rattle.parser.specs.Automata.{all_tails, stack_of}
 use Rattle.parser.specs.ScopedCursors.{token_of}
 use Rattle.parser.specs.UnaryOps.{actions_after_operand, actions_before_operand, increment_punctuator, increment_store_op, postfix_actions, prefix_actions, unary_action, unary_punctuator}
 use Rattle.parser.proofs.AssignmentForms.{sign_fits, sign_goes_on, sign_of, store_chooses, store_is_nested}
-use Rattle.parser.proofs.AutomatonLaws.{awaits, closes, comes_to, has_place, has_room, may_report, nested_tails, nests, operand_done, operand_stands, operators_stand, refuses, told_all, under_tails}
+use Rattle.parser.proofs.AutomatonLaws.{awaits, closes, comes_to, has_place, has_room, may_report, nested_tails, nests, operand_done, operand_stands, operators_stand, refuses, shallow, told_all, under_tails}
 use Rattle.parser.proofs.ExpressionSteps.{assigned, operand_path, operator_path, plain_path, store_path}
 use Rattle.parser.proofs.NameLaws.{is_named, named_found}
-use Rattle.parser.proofs.OperandForms.{NoOperator, NoPrimary, call_chooses, call_enters, constant_stops, open_chooses, open_enters, no_punctuator, plain_operand, sign_chooses, sign_is_nested}
+use Rattle.parser.proofs.OperandForms.{NoOperator, NoPrimary, call_chooses, call_enters, constant_stops, open_chooses, open_enters, no_punctuator, only_punctuator, plain_operand, sign_chooses, sign_is_nested}
 use Rattle.parser.proofs.OperandSteps.{bracket_path, bracketed_path, call_path, constant_path, first_argument_path, last_argument_path, named_path, next_argument_path, no_arguments_path, operand_misfits, postfix_path, prefix_path, sign_path, signed_path, variable_path}
 use Rattle.parser.proofs.Operators.{at_its_own, found, spells, ten_levels}
 use Rattle.parser.proofs.PathLaws.{closed, constant_past, falls, made, may, told_more, out_of_memory, punctuator_falls, punctuator_past}
@@ -36,7 +36,7 @@ returns-in_err-check_nesting-clause-moves g c =
 pub report_before_operand-requires : goal.report_before_operand-requires
 report_before_operand-requires g c =
     let h = c.requires.at.is in
-    record { follow = may_report h.acts (actions_before_operand c.args.sign) h.told h.new (sign_path {stack = all_tails c.args.floor ++ stack_of c.args.self.now.frames} c.args.sign c.requires.starts (rw (under_tails c.args.floor _ c.args.self.now.frames h.depth) c.in_ok-check_nesting.ensures.ok) h.path) }
+    record { follow = may_report h.acts (actions_before_operand c.args.sign) h.told h.new (sign_path c.args.sign c.requires.starts (shallow c.args.floor _ c.args.self.now.frames h.depth c.in_ok-check_nesting.ensures.ok) h.path) }
 
 pub returns-in_err-report_before_operand-clause-moves : goal.returns-in_err-report_before_operand-clause-moves
 returns-in_err-report_before_operand-clause-moves g c =
@@ -49,7 +49,7 @@ returns-in_err-advance-clause-moves g c =
     let p = err_from_is_err_and c.from_residual-in_err-advance.result c.from_residual-in_err-advance.ensures.1 in
     rw (p.1, p.2) (λ o h.
     punctuator_falls (unary_punctuator c.args.sign) c.requires.starts (told_all _ _ (actions_before_operand c.args.sign) c.in_ok-report_before_operand.ensures.reported h.told) c.in_err-advance.ensures.kept c.in_err-advance.ensures.consumes
-    (sign_path {stack = all_tails c.args.floor ++ stack_of c.args.self.now.frames} c.args.sign c.requires.starts (rw (under_tails c.args.floor _ c.args.self.now.frames h.depth) c.in_ok-check_nesting.ensures.ok) h.path))
+    (sign_path c.args.sign c.requires.starts (shallow c.args.floor _ c.args.self.now.frames h.depth c.in_ok-check_nesting.ensures.ok) h.path))
 
 pub push-requires : goal.push-requires
 push-requires g c =
@@ -59,7 +59,7 @@ pub returns-clause-moves : goal.returns-clause-moves
 returns-clause-moves g c = λ o h.
     rw c.push.ensures (comes_to h
     (punctuator_past (unary_punctuator c.args.sign) c.requires.starts c.in_ok-advance.ensures.consumes c.in_ok-advance.ensures.kept
-    (sign_path {stack = all_tails c.args.floor ++ stack_of c.args.self.now.frames} c.args.sign c.requires.starts (rw (under_tails c.args.floor _ c.args.self.now.frames h.depth) c.in_ok-check_nesting.ensures.ok) h.path))
+    (sign_path c.args.sign c.requires.starts (shallow c.args.floor _ c.args.self.now.frames h.depth c.in_ok-check_nesting.ensures.ok) h.path))
     (told_all _ _ (actions_before_operand c.args.sign) c.in_ok-report_before_operand.ensures.reported h.told)
     (ap (λ n. n + 1) (under_tails c.args.floor _ c.args.self.now.frames h.depth)) (omega (arith, c.in_ok-check_nesting.ensures.ok))
     (record {
