@@ -11,6 +11,7 @@ use Rattle.grammar.specs.declared.actions.Action.TheVariants.{PushConstant}
 use Rattle.grammar.specs.Actions.{middle}
 use Rattle.grammar.specs.Building.{Appends, MayFollow}
 use Rattle.grammar.specs.Grammar.{AConstant, AddArgument, AName, Arguments, Called, Close, Exactly, Expression, Fetch, Invoke, Make, Mentioned, Operate, Part, PostfixIncrement, PrefixIncrement, Primary, Store, Unary, is_punctuator}
+use Rattle.grammar.specs.Faults.{nested_count}
 use Rattle.grammar.specs.Laws.Climbing.{operator_from}
 use Rattle.parser.specs.Automata.{all_tails, stack_of}
 use Rattle.parser.specs.ScopedCursors.{token_of}
@@ -129,7 +130,7 @@ TB=f"(told_all _ _ {BEF} c.in_ok-report_before_operand.ensures.reported h.told)"
 PUSHROOM=('push-requires',f"""push-requires g c =
     let h = c.requires.at.is in has_room _ c.args.floor h.fits.most h.fits.takes (rw h.depth {OKN})""")
 write('sign',[
- err('check_nesting',True,f"nests h.path (under_tails c.args.floor _ c.args.self.now.frames h.depth) c.in_err-check_nesting.ensures.refused (λ depth.\n    punctuator_too_deep _ _ h.path.ready.near depth Unary {UP} (Part Unary ∷ Make (unary_action c.args.sign) ∷ Close ∷ [])\n    (sign_chooses _ c.args.sign {ST}) (sign_is_nested _ c.args.sign {ST}) {ST})"),
+ err('check_nesting',True,f"nests h.path (under_tails c.args.floor _ c.args.self.now.frames h.depth) c.in_err-check_nesting.ensures.refused (λ depth.\n    punctuator_too_deep c.args.self.now.tokens.position _ h.path.ready.near depth Unary {UP} (Part Unary ∷ Make (unary_action c.args.sign) ∷ Close ∷ [])\n    (sign_chooses _ c.args.sign {ST}) (sign_is_nested _ c.args.sign {ST}) {ST})"),
  ('report_before_operand-requires',f"""report_before_operand-requires g c =
     let h = c.requires.at.is in
     record {{ follow = may_report h.acts {BEF} h.told h.new {S} }}"""),
@@ -171,7 +172,7 @@ write('end_sign',[
 OR='punctuator.OpenRound'
 B=f"(bracket_path {ST} {FEW} h.path)"
 write('bracket',[
- err('check_nesting',True,f"nests (bracketed_path {ST} h.path) (under_tails c.args.floor _ c.args.self.now.frames h.depth)\n    c.in_err-check_nesting.ensures.refused (λ depth. punctuator_too_deep _ _ h.path.ready.near depth Primary {OR}\n    (Part Expression ∷ Exactly punctuator.CloseRound ∷ Close ∷ []) (open_chooses _ {ST}) (open_enters _ {ST})\n    {ST})"),
+ err('check_nesting',True,f"nests (bracketed_path {ST} h.path) (under_tails c.args.floor _ c.args.self.now.frames h.depth)\n    c.in_err-check_nesting.ensures.refused (λ depth. punctuator_too_deep c.args.self.now.tokens.position _ h.path.ready.near depth Primary {OR}\n    (Part Expression ∷ Exactly punctuator.CloseRound ∷ Close ∷ []) (open_chooses _ {ST}) (open_enters _ {ST})\n    {ST})"),
  err('advance',False,pfall(OR,ST,'advance',B)),
  PUSHROOM,
  ('returns-clause-moves',f"""returns-clause-moves g c = λ o h.
@@ -197,7 +198,7 @@ C=f"(c.in_ok-callee.ensures.passes _ _ _ _ {K})"
 TA="(told_more _ _ c.in_ok-act.ensures.ok h.told)"
 E=f"(c.in_ok-expect.ensures.passes _ _ _ _ {C})"
 write('call',[
- err('check_nesting',True,f"nests (named_path {N} h.path) (under_tails c.args.floor _ c.args.self.now.frames h.depth) c.in_err-check_nesting.ensures.refused\n    (λ depth. name_too_deep _ _ h.path.ready.near depth Primary Called _\n    (Exactly {OR} ∷ Part Arguments ∷ Exactly {CR} ∷ Make Invoke ∷ Close ∷ []) (call_chooses _ {N} {ST}.is)\n    (call_enters _ {N} {ST}.is) (named_found _ {N}))"),
+ err('check_nesting',True,f"nests (named_path {N} h.path) (under_tails c.args.floor _ c.args.self.now.frames h.depth) c.in_err-check_nesting.ensures.refused\n    (λ depth. name_too_deep c.args.self.now.tokens.position _ h.path.ready.near depth Primary Called _\n    (Exactly {OR} ∷ Part Arguments ∷ Exactly {CR} ∷ Make Invoke ∷ Close ∷ []) (call_chooses _ {N} {ST}.is)\n    (call_enters _ {N} {ST}.is) (named_found _ {N}))"),
  err('callee',False,fall('AName Called','callee',K)),
  ('act-requires',f"""act-requires g c =
     let h = c.requires.at.is in
@@ -269,7 +270,7 @@ TM=f"(told_all _ _ {MID} c.in_ok-report_middle.ensures.reported h.told)"
 ORD="(found c.args.floor _ c.in-Some.binary is).1"
 TEN="(ten_levels _ c.in-Some.binary (found c.args.floor _ c.in-Some.binary is).0)"
 write('operators',[
- ('returns-in_None-clause-moves',"""returns-in_None-clause-moves g c =
+ ('returns-in_default-clause-moves',"""returns-in_default-clause-moves g c =
     let none : operator_from c.args.floor (token_of c.args.self.now.tokens) ≡ None = cc in
     λ o h.
     comes_to h (rw none at h.path) h.told h.depth h.few
@@ -285,6 +286,9 @@ write('operators',[
     {SL}
     record {{ more = rw s.is refl; ready = c.requires.at.is.path.ready }}"""),
  err('advance',False,pfall('s.m','s.fits','advance',O,TM),lets=f"    {IS}\n    {SL}\n"),
+ ('overflow_add-result',f"""overflow_add-result g c =
+    {IS}
+    omega (arith, {TEN})"""),
  ('push-requires',f"""push-requires g c =
     {IS}
     let h = c.requires.at.is in
@@ -344,7 +348,7 @@ SPT=f"(store_path c.args.op a s {SF} h.path)"
 FITS="(sign_fits _ _ c.args.op c.in_ok-var.var a c.in_ok-var.ensures.matches s)"
 VP=f"(c.in_ok-var.ensures.passes _ _ _ _\n    {SPT})"
 write('assignment',[
- err('check_nesting',True,"nests h.path h.depth c.in_err-check_nesting.ensures.refused (λ depth.\n    name_too_deep _ _ h.path.ready.near depth Expression Mentioned a.named.name\n    (Exactly s.m ∷ Part Expression ∷ Make (Store c.args.op) ∷ Close ∷ []) (store_chooses _ c.args.op a s)\n    (store_is_nested _ c.args.op a s) (named_found _ a.named))",lets=AS),
+ err('check_nesting',True,"nests h.path h.depth c.in_err-check_nesting.ensures.refused (λ depth.\n    name_too_deep c.args.self.now.tokens.position _ h.path.ready.near depth Expression Mentioned a.named.name\n    (Exactly s.m ∷ Part Expression ∷ Make (Store c.args.op) ∷ Close ∷ []) (store_chooses _ c.args.op a s)\n    (store_is_nested _ c.args.op a s) (named_found _ a.named))",lets=AS),
  err('var',False,fall('AName Mentioned','var',SPT),lets=AS),
  ('advance-requires',f"""advance-requires g c =
     record {{

@@ -9,6 +9,7 @@ use Rattle.grammar.specs.declared.actions.Action.TheVariants.{PushConstant}
 use Rattle.grammar.specs.Actions.{middle}
 use Rattle.grammar.specs.Building.{Appends, MayFollow}
 use Rattle.grammar.specs.Grammar.{AConstant, AddArgument, AName, Arguments, Called, Close, Exactly, Expression, Fetch, Invoke, Make, Mentioned, Operate, Part, PostfixIncrement, PrefixIncrement, Primary, Store, Unary, is_punctuator}
+use Rattle.grammar.specs.Faults.{nested_count}
 use Rattle.grammar.specs.Laws.Climbing.{operator_from}
 use Rattle.parser.specs.Automata.{all_tails, stack_of}
 use Rattle.parser.specs.ScopedCursors.{token_of}
@@ -32,7 +33,7 @@ returns-in_err-check_nesting-clause-moves g c =
     let p = err_from_is_err_and c.from_residual.result c.from_residual.ensures.1 in
     rw (p.1, p.2) (λ o h.
     nests h.path h.depth c.in_err-check_nesting.ensures.refused (λ depth.
-    name_too_deep _ _ h.path.ready.near depth Expression Mentioned a.named.name
+    name_too_deep c.args.self.now.tokens.position _ h.path.ready.near depth Expression Mentioned a.named.name
     (Exactly s.m ∷ Part Expression ∷ Make (Store c.args.op) ∷ Close ∷ []) (store_chooses _ c.args.op a s)
     (store_is_nested _ c.args.op a s) (named_found _ a.named)))
 

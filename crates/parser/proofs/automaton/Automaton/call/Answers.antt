@@ -9,6 +9,7 @@ use Rattle.grammar.specs.declared.actions.Action.TheVariants.{PushConstant}
 use Rattle.grammar.specs.Actions.{middle}
 use Rattle.grammar.specs.Building.{Appends, MayFollow}
 use Rattle.grammar.specs.Grammar.{AConstant, AddArgument, AName, Arguments, Called, Close, Exactly, Expression, Fetch, Invoke, Make, Mentioned, Operate, Part, PostfixIncrement, PrefixIncrement, Primary, Store, Unary, is_punctuator}
+use Rattle.grammar.specs.Faults.{nested_count}
 use Rattle.grammar.specs.Laws.Climbing.{operator_from}
 use Rattle.parser.specs.Automata.{all_tails, stack_of}
 use Rattle.parser.specs.ScopedCursors.{token_of}
@@ -30,7 +31,7 @@ returns-in_err-check_nesting-clause-moves g c =
     let p = err_from_is_err_and c.from_residual.result c.from_residual.ensures.1 in
     rw (p.1, p.2) (λ o h.
     nests (named_path (is_named _ c.requires.starts.named) h.path) (under_tails c.args.floor _ c.args.self.now.frames h.depth) c.in_err-check_nesting.ensures.refused
-    (λ depth. name_too_deep _ _ h.path.ready.near depth Primary Called _
+    (λ depth. name_too_deep c.args.self.now.tokens.position _ h.path.ready.near depth Primary Called _
     (Exactly punctuator.OpenRound ∷ Part Arguments ∷ Exactly punctuator.CloseRound ∷ Make Invoke ∷ Close ∷ []) (call_chooses _ (is_named _ c.requires.starts.named) c.requires.starts.is)
     (call_enters _ (is_named _ c.requires.starts.named) c.requires.starts.is) (named_found _ (is_named _ c.requires.starts.named))))
 

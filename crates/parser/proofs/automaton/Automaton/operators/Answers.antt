@@ -9,6 +9,7 @@ use Rattle.grammar.specs.declared.actions.Action.TheVariants.{PushConstant}
 use Rattle.grammar.specs.Actions.{middle}
 use Rattle.grammar.specs.Building.{Appends, MayFollow}
 use Rattle.grammar.specs.Grammar.{AConstant, AddArgument, AName, Arguments, Called, Close, Exactly, Expression, Fetch, Invoke, Make, Mentioned, Operate, Part, PostfixIncrement, PrefixIncrement, Primary, Store, Unary, is_punctuator}
+use Rattle.grammar.specs.Faults.{nested_count}
 use Rattle.grammar.specs.Laws.Climbing.{operator_from}
 use Rattle.parser.specs.Automata.{all_tails, stack_of}
 use Rattle.parser.specs.ScopedCursors.{token_of}
@@ -25,8 +26,8 @@ use Rattle.parser.proofs.Productions.{name_too_deep, punctuator_too_deep}
 use Rattle.parser.proofs.TreeLaws.{done_at, ends_at, has_call, has_expr, has_variable, on_both, valued}
 use Rattle.parser.proofs.automaton.Automaton.operators.Goals as goal
 
-pub returns-in_None-clause-moves : goal.returns-in_None-clause-moves
-returns-in_None-clause-moves g c =
+pub returns-in_default-clause-moves : goal.returns-in_default-clause-moves
+returns-in_default-clause-moves g c =
     let none : operator_from c.args.floor (token_of c.args.self.now.tokens) ≡ None = cc in
     λ o h.
     comes_to h (rw none at h.path) h.told h.depth h.few
@@ -59,6 +60,11 @@ returns-in_err-advance-clause-moves g c =
     rw (p.1, p.2) (λ o h.
     punctuator_falls s.m s.fits (told_all _ _ (middle c.in-Some.binary.op) c.in_ok-report_middle.ensures.reported h.told) c.in_err-advance.ensures.kept c.in_err-advance.ensures.consumes
     (operator_path _ c.in-Some.binary c.args.floor s is h.path))
+
+pub overflow_add-result : goal.overflow_add-result
+overflow_add-result g c =
+    let is : operator_from c.args.floor (token_of c.args.self.now.tokens) ≡ Some c.in-Some.binary = cc in
+    omega (arith, (ten_levels _ c.in-Some.binary (found c.args.floor _ c.in-Some.binary is).0))
 
 pub push-requires : goal.push-requires
 push-requires g c =

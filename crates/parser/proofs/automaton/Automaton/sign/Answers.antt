@@ -9,6 +9,7 @@ use Rattle.grammar.specs.declared.actions.Action.TheVariants.{PushConstant}
 use Rattle.grammar.specs.Actions.{middle}
 use Rattle.grammar.specs.Building.{Appends, MayFollow}
 use Rattle.grammar.specs.Grammar.{AConstant, AddArgument, AName, Arguments, Called, Close, Exactly, Expression, Fetch, Invoke, Make, Mentioned, Operate, Part, PostfixIncrement, PrefixIncrement, Primary, Store, Unary, is_punctuator}
+use Rattle.grammar.specs.Faults.{nested_count}
 use Rattle.grammar.specs.Laws.Climbing.{operator_from}
 use Rattle.parser.specs.Automata.{all_tails, stack_of}
 use Rattle.parser.specs.ScopedCursors.{token_of}
@@ -30,7 +31,7 @@ returns-in_err-check_nesting-clause-moves g c =
     let p = err_from_is_err_and c.from_residual.result c.from_residual.ensures.1 in
     rw (p.1, p.2) (λ o h.
     nests h.path (under_tails c.args.floor _ c.args.self.now.frames h.depth) c.in_err-check_nesting.ensures.refused (λ depth.
-    punctuator_too_deep _ _ h.path.ready.near depth Unary (unary_punctuator c.args.sign) (Part Unary ∷ Make (unary_action c.args.sign) ∷ Close ∷ [])
+    punctuator_too_deep c.args.self.now.tokens.position _ h.path.ready.near depth Unary (unary_punctuator c.args.sign) (Part Unary ∷ Make (unary_action c.args.sign) ∷ Close ∷ [])
     (sign_chooses _ c.args.sign c.requires.starts) (sign_is_nested _ c.args.sign c.requires.starts) c.requires.starts))
 
 pub report_before_operand-requires : goal.report_before_operand-requires
