@@ -130,7 +130,7 @@ TB=f"(told_all _ _ {BEF} c.in_ok-report_before_operand.ensures.reported h.told)"
 PUSHROOM=('push-requires',f"""push-requires g c =
     let h = c.requires.at.is in has_room _ c.args.floor h.fits.most h.fits.takes (rw h.depth {OKN})""")
 write('sign',[
- err('check_nesting',True,f"nests h.path (under_tails c.args.floor _ c.args.self.now.frames h.depth) c.in_err-check_nesting.ensures.refused (λ depth.\n    punctuator_too_deep c.args.self.now.tokens.position _ h.path.ready.near depth Unary {UP} (Part Unary ∷ Make (unary_action c.args.sign) ∷ Close ∷ [])\n    (sign_chooses _ c.args.sign {ST}) (sign_is_nested _ c.args.sign {ST}) {ST})"),
+ err('check_nesting',True,f"nests h.path (under_tails c.args.floor _ c.args.self.now.frames h.depth) c.in_err-check_nesting.ensures.refused (λ depth.\n    punctuator_too_deep c.args.self.now.tokens.position _ h.path.ready.near depth Unary {UP} (Part Unary ∷ Make (unary_action c.args.sign) ∷ Close ∷ [])\n    (sign_chooses c.args.self.now.tokens.position c.args.sign {ST}) (sign_is_nested c.args.self.now.tokens.position c.args.sign {ST}) {ST})"),
  ('report_before_operand-requires',f"""report_before_operand-requires g c =
     let h = c.requires.at.is in
     record {{ follow = may_report h.acts {BEF} h.told h.new {S} }}"""),
@@ -172,7 +172,7 @@ write('end_sign',[
 OR='punctuator.OpenRound'
 B=f"(bracket_path {ST} {FEW} h.path)"
 write('bracket',[
- err('check_nesting',True,f"nests (bracketed_path {ST} h.path) (under_tails c.args.floor _ c.args.self.now.frames h.depth)\n    c.in_err-check_nesting.ensures.refused (λ depth. punctuator_too_deep c.args.self.now.tokens.position _ h.path.ready.near depth Primary {OR}\n    (Part Expression ∷ Exactly punctuator.CloseRound ∷ Close ∷ []) (open_chooses _ {ST}) (open_enters _ {ST})\n    {ST})"),
+ err('check_nesting',True,f"nests (bracketed_path {ST} h.path) (under_tails c.args.floor _ c.args.self.now.frames h.depth)\n    c.in_err-check_nesting.ensures.refused (λ depth. punctuator_too_deep c.args.self.now.tokens.position _ h.path.ready.near depth Primary {OR}\n    (Part Expression ∷ Exactly punctuator.CloseRound ∷ Close ∷ []) (open_chooses c.args.self.now.tokens.position {ST}) (open_enters c.args.self.now.tokens.position {ST})\n    {ST})"),
  err('advance',False,pfall(OR,ST,'advance',B)),
  PUSHROOM,
  ('returns-clause-moves',f"""returns-clause-moves g c = λ o h.
@@ -198,7 +198,7 @@ C=f"(c.in_ok-callee.ensures.passes _ _ _ _ {K})"
 TA="(told_more _ _ c.in_ok-act.ensures.ok h.told)"
 E=f"(c.in_ok-expect.ensures.passes _ _ _ _ {C})"
 write('call',[
- err('check_nesting',True,f"nests (named_path {N} h.path) (under_tails c.args.floor _ c.args.self.now.frames h.depth) c.in_err-check_nesting.ensures.refused\n    (λ depth. name_too_deep c.args.self.now.tokens.position _ h.path.ready.near depth Primary Called _\n    (Exactly {OR} ∷ Part Arguments ∷ Exactly {CR} ∷ Make Invoke ∷ Close ∷ []) (call_chooses _ {N} {ST}.is)\n    (call_enters _ {N} {ST}.is) (named_found _ {N}))"),
+ err('check_nesting',True,f"nests (named_path {N} h.path) (under_tails c.args.floor _ c.args.self.now.frames h.depth) c.in_err-check_nesting.ensures.refused\n    (λ depth. name_too_deep c.args.self.now.tokens.position _ h.path.ready.near depth Primary Called _\n    (Exactly {OR} ∷ Part Arguments ∷ Exactly {CR} ∷ Make Invoke ∷ Close ∷ []) (call_chooses c.args.self.now.tokens.position {N} {ST}.is)\n    (call_enters c.args.self.now.tokens.position {N} {ST}.is) (named_found _ {N}))"),
  err('callee',False,fall('AName Called','callee',K)),
  ('act-requires',f"""act-requires g c =
     let h = c.requires.at.is in
@@ -339,7 +339,7 @@ write('operate',[
     }})"""),
 ])
 write('expression',[
- ('returns-in_None-clause-moves',"""returns-in_None-clause-moves g c = λ o h.
+ ('returns-in-None-clause-moves',"""returns-in-None-clause-moves g c = λ o h.
     comes_to h (plain_path c.in-None.ensures.none h.path) h.told h.depth h.few h.fits"""),
 ])
 AS=lets(('a',f'assigned c.args.op {ST}'),('s','sign_of _ c.args.op a'))
@@ -404,6 +404,6 @@ write('operand_from_punctuator',[
     (record {{
       sound = h.path.ready.sound;
       signs = λ s. rw c.peek.ensures.value at (c.in_default.ensures.none s);
-      increments = λ s. rw c.peek-in_default.ensures.value at (c.in_default-increment_op_of.ensures.none s);
+      increments = λ s. rw c.peek-2.ensures.value at (c.in_default-increment_op_of.ensures.none s);
     }}) (only_punctuator _ c.requires.starts.m c.requires.starts.is other) h.path)"""),
 ])

@@ -47,11 +47,15 @@ write('source',[
     comes_to h (end_path is h.path) h.told h.depth h.few (h.fits.0, h.fits.1, is)"""),
  ('returns-in-Name-clause-moves',f"""returns-in-Name-clause-moves g c = λ o h.
     comes_to h (definition_path c.in-Name.field-0 {named('')} h.path) h.told h.depth h.few h.fits"""),
- ('returns-in_default-clause-moves',f"""returns-in_default-clause-moves g c =
+ ('returns-in_default',f"""returns-in_default g c =
     let other : is_keyword keyword.Type (token_of c.args.self.now.tokens) ≡ false = cc in
-    λ o h.
-    rw c.unexpected_token.ensures (source_misfits (λ same. c.in_default.not-End {TOK}) other
-    (λ name same. c.in_default.not-Name name {TOK}) h.path)"""),
+    record {{
+      moves = λ o h.
+          rw c.unexpected_token.ensures (source_misfits (λ same. c.in_default.not-End {TOK}) other
+          (λ name same. c.in_default.not-Name name {TOK}) h.path);
+      falls = tt;
+      builder = refl;
+    }}"""),
 ])
 TP=f"(typed_path {ST} h.path)"
 TY=f"(c.in_ok-expect_type.ensures.passes _ _ _ _ {TP})"
@@ -68,12 +72,16 @@ write('head',[
     let is : is_punctuator punctuator.OpenRound (token_after c.args.self.now.tokens) ≡ true = cc in
     λ o h.
     comes_to h (head_definition_path c.in-Name.field-0 {named('')} is h.path) h.told h.depth h.few h.fits"""),
- err('external_declaration',True,fall('(names_items kind.Externals)','external_declaration',EX),lets=OT),
- ('returns-in_ok-external_declaration-clause-moves',f"""returns-in_ok-external_declaration-clause-moves g c =
+ err('external_declaration',False,fall('(names_items kind.Externals)','external_declaration',EX,arm='-in-Name-2'),lets=OT,arm='-in-Name-2'),
+ ('returns-in_ok-external_declaration-in-Name-2-clause-moves',f"""returns-in_ok-external_declaration-in-Name-2-clause-moves g c =
 {OT}    λ o h.
-    comes_to h (c.in_ok-external_declaration.ensures.passes _ _ _ _ {EX}) h.told h.depth h.few h.fits"""),
- ('returns-in_default-clause-moves',f"""returns-in_default-clause-moves g c = λ o h.
-    rw c.unexpected_token.ensures (head_misfits (λ name same. c.in_default.not-Name name {TOK}) h.path)"""),
+    comes_to h (c.in_ok-external_declaration-in-Name-2.ensures.passes _ _ _ _ {EX}) h.told h.depth h.few h.fits"""),
+ ('returns-in_default',f"""returns-in_default g c = record {{
+  moves = λ o h.
+      rw c.unexpected_token.ensures (head_misfits (λ name same. c.in_default.not-Name name {TOK}) h.path);
+  falls = tt;
+  builder = refl;
+}}"""),
 ])
 H="(c.in_ok-number.ensures.passes _ _ _ _ h.path)"
 FEW="(rw h.fits.0 (omega arith))"
@@ -121,7 +129,7 @@ write('end_function',[
     let h = c.requires.at.is in
     record {{ follow = rw {VAR} (end_follows {N} h.told h.new) }}"""),
  err('report_end',True,f"rw c.in_err-report_end.ensures.kept.tokens (end_refused c.in_err-report_end.field-0.0 {N} {ST} h.told h.new\n    c.in_err-report_end.ensures.ends)"),
- err('advance',False,f"punctuator_falls punctuator.CloseCurly {ST} (c.in_ok-report_end.ensures.ends.added) c.in_err-advance.ensures.kept\n    c.in_err-advance.ensures.consumes {FE}"),
+ err('advance',False,f"punctuator_falls punctuator.CloseCurly {ST} (told_more _ _ c.in_ok-report_end.ensures.ends.added h.told) c.in_err-advance.ensures.kept\n    c.in_err-advance.ensures.consumes {FE}"),
  ('returns-clause-moves',f"""returns-clause-moves g c = λ o h.
     comes_to h
     (closed (punctuator_past punctuator.CloseCurly {ST} c.in_ok-advance.ensures.consumes c.in_ok-advance.ensures.kept

@@ -32,7 +32,7 @@ returns-in_err-check_nesting-clause-moves g c =
     rw (p.1, p.2) (λ o h.
     nests (bracketed_path c.requires.starts h.path) (under_tails c.args.floor _ c.args.self.now.frames h.depth)
     c.in_err-check_nesting.ensures.refused (λ depth. punctuator_too_deep c.args.self.now.tokens.position _ h.path.ready.near depth Primary punctuator.OpenRound
-    (Part Expression ∷ Exactly punctuator.CloseRound ∷ Close ∷ []) (open_chooses _ c.requires.starts) (open_enters _ c.requires.starts)
+    (Part Expression ∷ Exactly punctuator.CloseRound ∷ Close ∷ []) (open_chooses c.args.self.now.tokens.position c.requires.starts) (open_enters c.args.self.now.tokens.position c.requires.starts)
     c.requires.starts))
 
 pub returns-in_err-advance-clause-moves : goal.returns-in_err-advance-clause-moves

@@ -32,8 +32,8 @@ returns-in_err-check_nesting-clause-moves g c =
     rw (p.1, p.2) (λ o h.
     nests (named_path (is_named _ c.requires.starts.named) h.path) (under_tails c.args.floor _ c.args.self.now.frames h.depth) c.in_err-check_nesting.ensures.refused
     (λ depth. name_too_deep c.args.self.now.tokens.position _ h.path.ready.near depth Primary Called _
-    (Exactly punctuator.OpenRound ∷ Part Arguments ∷ Exactly punctuator.CloseRound ∷ Make Invoke ∷ Close ∷ []) (call_chooses _ (is_named _ c.requires.starts.named) c.requires.starts.is)
-    (call_enters _ (is_named _ c.requires.starts.named) c.requires.starts.is) (named_found _ (is_named _ c.requires.starts.named))))
+    (Exactly punctuator.OpenRound ∷ Part Arguments ∷ Exactly punctuator.CloseRound ∷ Make Invoke ∷ Close ∷ []) (call_chooses c.args.self.now.tokens.position (is_named _ c.requires.starts.named) c.requires.starts.is)
+    (call_enters c.args.self.now.tokens.position (is_named _ c.requires.starts.named) c.requires.starts.is) (named_found _ (is_named _ c.requires.starts.named))))
 
 pub returns-in_err-callee-clause-moves : goal.returns-in_err-callee-clause-moves
 returns-in_err-callee-clause-moves g c =

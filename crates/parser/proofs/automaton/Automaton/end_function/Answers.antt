@@ -36,7 +36,7 @@ pub returns-in_err-advance-clause-moves : goal.returns-in_err-advance-clause-mov
 returns-in_err-advance-clause-moves g c =
     let p = err_from_is_err_and c.from_residual-in_err-advance.result c.from_residual-in_err-advance.ensures.1 in
     rw (p.1, p.2) (λ o h.
-    punctuator_falls punctuator.CloseCurly c.requires.starts (c.in_ok-report_end.ensures.ends.added) c.in_err-advance.ensures.kept
+    punctuator_falls punctuator.CloseCurly c.requires.starts (told_more _ _ c.in_ok-report_end.ensures.ends.added h.told) c.in_err-advance.ensures.kept
     c.in_err-advance.ensures.consumes (function_ends (no_statement_path c.requires.starts h.path) h.told h.new (rw c.variable_count-variables.ensures.count at c.in_ok-report_end.ensures.ends)))
 
 pub returns-clause-moves : goal.returns-clause-moves

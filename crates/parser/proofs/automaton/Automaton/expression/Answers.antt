@@ -26,6 +26,6 @@ use Rattle.parser.proofs.Productions.{name_too_deep, punctuator_too_deep}
 use Rattle.parser.proofs.TreeLaws.{done_at, ends_at, has_call, has_expr, has_variable, on_both, valued}
 use Rattle.parser.proofs.automaton.Automaton.expression.Goals as goal
 
-pub returns-in_None-clause-moves : goal.returns-in_None-clause-moves
-returns-in_None-clause-moves g c = λ o h.
+pub returns-in-None-clause-moves : goal.returns-in-None-clause-moves
+returns-in-None-clause-moves g c = λ o h.
     comes_to h (plain_path c.in-None.ensures.none h.path) h.told h.depth h.few h.fits

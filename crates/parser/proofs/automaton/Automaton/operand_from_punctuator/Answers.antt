@@ -34,5 +34,5 @@ returns-clause-moves g c =
     (record {
       sound = h.path.ready.sound;
       signs = λ s. rw c.peek.ensures.value at (c.in_default.ensures.none s);
-      increments = λ s. rw c.peek-in_default.ensures.value at (c.in_default-increment_op_of.ensures.none s);
+      increments = λ s. rw c.peek-2.ensures.value at (c.in_default-increment_op_of.ensures.none s);
     }) (only_punctuator _ c.requires.starts.m c.requires.starts.is other) h.path)

@@ -32,7 +32,7 @@ returns-in_err-check_nesting-clause-moves g c =
     rw (p.1, p.2) (λ o h.
     nests h.path (under_tails c.args.floor _ c.args.self.now.frames h.depth) c.in_err-check_nesting.ensures.refused (λ depth.
     punctuator_too_deep c.args.self.now.tokens.position _ h.path.ready.near depth Unary (unary_punctuator c.args.sign) (Part Unary ∷ Make (unary_action c.args.sign) ∷ Close ∷ [])
-    (sign_chooses _ c.args.sign c.requires.starts) (sign_is_nested _ c.args.sign c.requires.starts) c.requires.starts))
+    (sign_chooses c.args.self.now.tokens.position c.args.sign c.requires.starts) (sign_is_nested c.args.self.now.tokens.position c.args.sign c.requires.starts) c.requires.starts))
 
 pub report_before_operand-requires : goal.report_before_operand-requires
 report_before_operand-requires g c =

@@ -30,9 +30,13 @@ pub returns-in-Name-clause-moves : goal.returns-in-Name-clause-moves
 returns-in-Name-clause-moves g c = λ o h.
     comes_to h (definition_path c.in-Name.field-0 (ap (λ (l : LocatedToken). l.token) (sym c.peek.ensures.value) ∙ c.in-Name.is) h.path) h.told h.depth h.few h.fits
 
-pub returns-in_default-clause-moves : goal.returns-in_default-clause-moves
-returns-in_default-clause-moves g c =
+pub returns-in_default : goal.returns-in_default
+returns-in_default g c =
     let other : is_keyword keyword.Type (token_of c.args.self.now.tokens) ≡ false = cc in
-    λ o h.
-    rw c.unexpected_token.ensures (source_misfits (λ same. c.in_default.not-End (ap (λ (l : LocatedToken). l.token) c.peek.ensures.value ∙ same)) other
-    (λ name same. c.in_default.not-Name name (ap (λ (l : LocatedToken). l.token) c.peek.ensures.value ∙ same)) h.path)
+    record {
+      moves = λ o h.
+          rw c.unexpected_token.ensures (source_misfits (λ same. c.in_default.not-End (ap (λ (l : LocatedToken). l.token) c.peek.ensures.value ∙ same)) other
+          (λ name same. c.in_default.not-Name name (ap (λ (l : LocatedToken). l.token) c.peek.ensures.value ∙ same)) h.path);
+      falls = tt;
+      builder = refl;
+    }

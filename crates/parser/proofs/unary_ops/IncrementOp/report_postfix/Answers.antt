@@ -21,16 +21,19 @@ report_prefix-requires g c = record {
 pub act-requires-2 : goal.act-requires-2
 act-requires-2 g c = record {
   follows =
-      next_follows (g.B.Build.stands c.args.build.now) _
+      next_follows (g.B.Build.stands c.args.build.now) (g.B.Build.stands c.report_prefix.new.build)
       (FetchVariable c.args.var ∷ prefix_actions c.args.self c.args.var) Chop [] c.requires.follow
-      (appends_both (g.B.Build.stands c.args.build.now) (g.B.Build.stands c.act.new.self) _ (FetchVariable c.args.var ∷ [])
+      (appends_both (g.B.Build.stands c.args.build.now) (g.B.Build.stands c.act.new.self)
+    (g.B.Build.stands c.report_prefix.new.build) (FetchVariable c.args.var ∷ [])
       (prefix_actions c.args.self c.args.var) c.in_ok-act.ensures.ok c.in_ok-report_prefix.ensures.reported);
 }
 
 pub returns-clause-reported : goal.returns-clause-reported
 returns-clause-reported g c =
-    appends_both (g.B.Build.stands c.args.build.now) (g.B.Build.stands c.report_prefix.new.build) _
+    appends_both (g.B.Build.stands c.args.build.now) (g.B.Build.stands c.report_prefix.new.build)
+    (g.B.Build.stands c.act-2.new.self)
     (FetchVariable c.args.var ∷ prefix_actions c.args.self c.args.var) (Chop ∷ [])
-    (appends_both (g.B.Build.stands c.args.build.now) (g.B.Build.stands c.act.new.self) _ (FetchVariable c.args.var ∷ [])
+    (appends_both (g.B.Build.stands c.args.build.now) (g.B.Build.stands c.act.new.self)
+    (g.B.Build.stands c.report_prefix.new.build) (FetchVariable c.args.var ∷ [])
     (prefix_actions c.args.self c.args.var) c.in_ok-act.ensures.ok c.in_ok-report_prefix.ensures.reported)
     c.in_ok-act-2.ensures.ok
