@@ -2,20 +2,24 @@ import os
 exec(open('/work/h/parser/scratch/mkexpr.py').read().split("OKN=")[0].split("COMMON='''")[0])
 BASE='/work/h/parser/crates/parser/proofs/automaton/Automaton/'
 COMMON='''use Rattle.std.proofs.lemmas.Result.{err_from_is_err_and}
-use Rattle.std.proofs.Common.{◌≡◌, ◌+◌, ◌<◌, ◌≤◌, ◌∙◌, ℕ, [], ◌∷◌, ◌++◌, refl, ap, sym, subst, true, false, arith, length}
+use Rattle.std.proofs.Common.{◌≡◌, ◌+◌, ◌<◌, ◌≤◌, ◌∙◌, ℕ, pos, [], ◌∷◌, ◌++◌, refl, ap, sym, subst, true, false, arith, length}
 use Rattle.tokens.specs.declared.located_tokens.Keyword.TheVariants as keyword
 use Rattle.tokens.specs.declared.located_tokens.LocatedToken.{LocatedToken}
 use Rattle.tokens.specs.declared.located_tokens.Punctuator.TheVariants as punctuator
 use Rattle.tokens.specs.declared.located_tokens.Token.TheVariants as token
-use Rattle.grammar.specs.declared.actions.Action.TheVariants.{BeginFunction}
+use Rattle.grammar.specs.declared.actions.Action.TheVariants.{BeginFunction, EndFunction, GiveBack, PushConstant}
 use Rattle.grammar.specs.Building.{Appends, MayFollow}
 use Rattle.grammar.specs.Grammar.{AKeyword, Close, Declarations, Define, Empty, Exactly, FunctionBlock, Make, Part, Source, Statements, Types, is_keyword, is_punctuator}
 use Rattle.grammar.specs.Scope.{end_definition}
 use Rattle.parser.specs.declared.roles.Declared.TheVariants as kind
 use Rattle.parser.specs.Declarations.{header_items, names_items}
 use Rattle.parser.specs.FunctionEnds.{end_actions}
-use Rattle.parser.specs.ScopedCursors.{scope_of, token_after, token_of, with_scope}
-use Rattle.parser.proofs.AutomatonLaws.{comes_to, has_place}
+use Rattle.parser.specs.ScopedCursors.{ScopedCursor, scope_of, token_after, token_of, with_scope}
+use Rattle.parser.proofs.AutomatonLaws.{comes_to, has_place, moves_back, put_back}
+use Rattle.parser.proofs.Reports.{next_follows}
+use Rattle.grammar.proofs.RepresentationLaws.{appends_both, may_first}
+use Rattle.parser.specs.Automata.{stack_of}
+use Rattle.parser.specs.Paths.{Path}
 use Rattle.parser.proofs.FunctionEnds.{end_follows, end_refused, function_ends}
 use Rattle.parser.proofs.PathLaws.{closed, falls, made, may, out_of_memory, punctuator_falls, punctuator_past, told_more}
 use Rattle.parser.proofs.AutomatonLaws.{refuses}
@@ -40,19 +44,21 @@ def fall(items, call, path, told='h.told', arm=''):
 ST='c.requires.starts'
 def named(arm,peek='peek'): return f"(ap (λ (l : LocatedToken). l.token) (sym c.{peek}.ensures.value) ∙ c.in-Name{arm}.is)"
 TOK="(ap (λ (l : LocatedToken). l.token) c.peek.ensures.value ∙ same)"
+TOK2="(ap (λ (l : LocatedToken). l.token) c.peek-2.ensures.value ∙ same)"
 write('source',[
- ('returns-in_End-clause-moves',"""returns-in_End-clause-moves g c =
-    let is : token_of c.args.self.now.tokens ≡ token.End = cc in
+ ('returns-in-End-clause-moves',"""returns-in-End-clause-moves g c =
+    let is : token_of c.args.self.now.tokens ≡ token.End =
+    ap (λ (l : LocatedToken). l.token) (sym c.peek-2.ensures.value) ∙ c.in-End.is in
     λ o h.
     comes_to h (end_path is h.path) h.told h.depth h.few (h.fits.0, h.fits.1, is)"""),
  ('returns-in-Name-clause-moves',f"""returns-in-Name-clause-moves g c = λ o h.
-    comes_to h (definition_path c.in-Name.field-0 {named('')} h.path) h.told h.depth h.few h.fits"""),
+    comes_to h (definition_path c.in-Name.field-0 {named('','peek-2')} h.path) h.told h.depth h.few h.fits"""),
  ('returns-in_default',f"""returns-in_default g c =
     let other : is_keyword keyword.Type (token_of c.args.self.now.tokens) ≡ false = cc in
     record {{
       moves = λ o h.
-          rw c.unexpected_token.ensures (source_misfits (λ same. c.in_default.not-End {TOK}) other
-          (λ name same. c.in_default.not-Name name {TOK}) h.path);
+          rw c.unexpected_token.ensures (source_misfits (λ same. c.in_default.not-End {TOK2}) other
+          (λ name same. c.in_default.not-Name name {TOK2}) h.path);
       falls = tt;
       builder = refl;
     }}"""),
@@ -72,7 +78,7 @@ write('head',[
     let is : is_punctuator punctuator.OpenRound (token_after c.args.self.now.tokens) ≡ true = cc in
     λ o h.
     comes_to h (head_definition_path c.in-Name.field-0 {named('')} is h.path) h.told h.depth h.few h.fits"""),
- err('external_declaration',False,fall('(names_items kind.Externals)','external_declaration',EX,arm='-in-Name-2'),lets=OT,arm='-in-Name-2'),
+ err('external_declaration',True,fall('(names_items kind.Externals)','external_declaration',EX,arm='-in-Name-2'),lets=OT,arm='-in-Name-2'),
  ('returns-in_ok-external_declaration-in-Name-2-clause-moves',f"""returns-in_ok-external_declaration-in-Name-2-clause-moves g c =
 {OT}    λ o h.
     comes_to h (c.in_ok-external_declaration-in-Name-2.ensures.passes _ _ _ _ {EX}) h.told h.depth h.few h.fits"""),
@@ -86,7 +92,7 @@ write('head',[
 H="(c.in_ok-number.ensures.passes _ _ _ _ h.path)"
 FEW="(rw h.fits.0 (omega arith))"
 D=f"(function_block_path is {FEW} {H})"
-IS="    let is : is_punctuator punctuator.OpenCurly (token_of c.function_header-number.new.parser) ≡ true = cc in\n"
+IS="    let is : is_punctuator punctuator.OpenCurly (token_of c.function_header.new.parser) ≡ true = cc in\n"
 NUM="(rw (c.in_ok-number.ensures.begun.is, sym c.parameter_count.ensures.count)"
 PAST=f"(punctuator_past punctuator.OpenCurly is c.in_ok-advance.ensures.consumes c.in_ok-advance.ensures.kept\n    {D})"
 TOLD="(told_more _ _ added h.told)"
@@ -96,7 +102,7 @@ DEC=f"(made Empty tt {PAST})"
 write('definition',[
  err('number',True,fall('header_items','number','h.path')),
  ('returns-then-not-is_punctuator-clause-moves',f"""returns-then-not-is_punctuator-clause-moves g c =
-    let other : is_punctuator punctuator.OpenCurly (token_of c.function_header-number.new.parser) ≡ false = cc in
+    let other : is_punctuator punctuator.OpenCurly (token_of c.function_header.new.parser) ≡ false = cc in
     λ o h.
     rw c.unexpected_token.ensures (block_misfits other {H})"""),
  ('act-requires',f"""act-requires g c =
@@ -121,30 +127,61 @@ write('function',[
     rw c.push.ensures (comes_to h (statement_path other h.path) h.told h.depth h.few (refl, h.fits.takes.1))"""),
 ])
 N=f"(no_statement_path {ST} h.path)"
-CL="(rw (c.variable_count-variables.ensures.count, c.in_ok-report_end.ensures.kept.tokens) c.in_ok-report_end.ensures.ends)"
 VAR="c.variable_count-variables.ensures.count"
-FE=f"(function_ends {N} h.told h.new (rw {VAR} at c.in_ok-report_end.ensures.ends))"
+LETS="""    let closes = rw c.variable_count-variables.ensures.count at c.in_ok-report_end.ensures.ends in
+    let same : c.end_definition.new.self ≡ with_scope (end_definition (scope_of c.args.self.now.tokens)) c.args.self.now.tokens =
+    rw c.in_ok-report_end.ensures.kept.tokens at c.end_definition.ensures in
+    let fits : is_punctuator punctuator.CloseCurly (token_of c.end_definition.new.self) ≡ true =
+    subst (λ (t : ScopedCursor). is_punctuator punctuator.CloseCurly (token_of t) ≡ true) (sym same) c.requires.starts in
+"""
+FE=f"""(subst (λ (t : ScopedCursor). Path o.origin
+    (Exactly punctuator.CloseCurly ∷ Close ∷ Part Source ∷ stack_of c.args.self.now.frames) []
+    (h.acts ++ end_actions (length (scope_of c.args.self.now.tokens).current.variables)) t) (sym same)
+    (function_ends {N} h.told h.new closes))"""
+write('report_end',[
+ ('act-requires',"""act-requires g c = record {
+  follows = may_first _ (PushConstant (pos 0)) (GiveBack ∷ EndFunction c.args.variables ∷ []) c.requires.follow;
+}"""),
+ ('act-requires-2',"""act-requires-2 g c = record {
+  follows = next_follows (g.B.Build.stands c.args.self.now.builder.now) _ (PushConstant (pos 0) ∷ []) GiveBack
+      (EndFunction c.args.variables ∷ []) c.requires.follow c.in_ok-act.ensures.ok;
+}"""),
+ ('act-requires-3',"""act-requires-3 g c = record {
+  follows = next_follows (g.B.Build.stands c.args.self.now.builder.now) _ (PushConstant (pos 0) ∷ GiveBack ∷ [])
+      (EndFunction c.args.variables) [] c.requires.follow
+      (appends_both (g.B.Build.stands c.args.self.now.builder.now) (g.B.Build.stands c.act.new.self)
+      (g.B.Build.stands c.act-2.new.self) (PushConstant (pos 0) ∷ []) (GiveBack ∷ []) c.in_ok-act.ensures.ok
+      c.in_ok-act-2.ensures.ok);
+}"""),
+])
 write('end_function',[
  ('report_end-requires',f"""report_end-requires g c =
     let h = c.requires.at.is in
     record {{ follow = rw {VAR} (end_follows {N} h.told h.new) }}"""),
  err('report_end',True,f"rw c.in_err-report_end.ensures.kept.tokens (end_refused c.in_err-report_end.field-0.0 {N} {ST} h.told h.new\n    c.in_err-report_end.ensures.ends)"),
- err('advance',False,f"punctuator_falls punctuator.CloseCurly {ST} (told_more _ _ c.in_ok-report_end.ensures.ends.added h.told) c.in_err-advance.ensures.kept\n    c.in_err-advance.ensures.consumes {FE}"),
- ('returns-clause-moves',f"""returns-clause-moves g c = λ o h.
+ err('advance',False,f"punctuator_falls punctuator.CloseCurly fits (told_more _ _ closes.added h.told) c.in_err-advance.ensures.kept\n    c.in_err-advance.ensures.consumes {FE}",lets=LETS),
+ ('returns-clause-moves',f"""returns-clause-moves g c =
+{LETS}    λ o h.
     comes_to h
-    (closed (punctuator_past punctuator.CloseCurly {ST} c.in_ok-advance.ensures.consumes c.in_ok-advance.ensures.kept
-    {FE})) (told_more _ _ c.in_ok-report_end.ensures.ends.added h.told) (omega (arith, h.depth)) (omega (arith, h.few))
+    (closed (punctuator_past punctuator.CloseCurly fits c.in_ok-advance.ensures.consumes c.in_ok-advance.ensures.kept
+    {FE})) (told_more _ _ closes.added h.told) (omega (arith, h.depth, c.in_ok-report_end.ensures.kept.depth)) (omega (arith, h.few))
     (h.fits.takes.1, refl)"""),
+])
+write('enclosing',[
+ ('behind-requires',"""behind-requires g c = record { at = put_back c.args.self.now _ c.in-Some.ensures.frame c.requires.at }"""),
+ ('returns-in-Some-clause-moves',"""returns-in-Some-clause-moves g c =
+    moves_back c.behind.result c.args.self.now _ c.in-Some.ensures.frame c.behind.ensures.moves"""),
 ])
 COMMON='''use Rattle.std.proofs.Common.{◌≡◌, ◌∙◌, refl, sym, subst, true, false}
 use Rattle.std.proofs.lemmas.Result.{err_from_is_err_and}
 use Rattle.parser.specs.declared.frames.Front.{Front}
 use Rattle.parser.specs.declared.frames.Front.TheVariants as front
-use Rattle.parser.specs.Automata.{Stands}'''
+use Rattle.parser.specs.Automata.{Stands}
+use Rattle.parser.proofs.AutomatonLaws.{has_more}'''
 write('run',[
  ('loop-front-init',"""loop-front-init g c = record { moved = λ o h. h; builder = refl }"""),
  ('loop-front-preserved',"""loop-front-preserved g c = record {
-  moved = λ o h. c.in_ok-step.ensures.moves o (c.loop-front.invariant.moved o h);
+  moved = λ o h. c.in_ok-front.ensures.moves o (c.loop-front.invariant.moved o h);
   builder = c.step.ensures.builder ∙ c.loop-front.invariant.builder;
 }"""),
  ('step-requires',"""step-requires g c = record {
@@ -152,11 +189,11 @@ write('run',[
     start = c.requires.at.start;
     is = c.loop-front.invariant.moved c.requires.at.start c.requires.at.is;
   };
-  more = {!!};
+  more = has_more c.loop-front.front (λ same. absurd (cc));
 }"""),
- ('returns-in_err-step-clause-runs',"""returns-in_err-step-clause-runs g c =
+ ('returns-in_err-front-clause-runs',"""returns-in_err-front-clause-runs g c =
     let p = err_from_is_err_and c.from_residual.result c.from_residual.ensures.1 in
-    rw (p.1, p.2) (λ o h. c.in_err-step.ensures.moves o (c.loop-front.invariant.moved o h))"""),
+    rw (p.1, p.2) (λ o h. c.in_err-front.ensures.moves o (c.loop-front.invariant.moved o h))"""),
  ('returns-clause-runs',"""returns-clause-runs g c =
     let is : c.loop-front.front ≡ front.End = cc in
     λ o h.

@@ -1,6 +1,6 @@
 -- What the steps of an automaton share: where it is before and after, and how they are refused.
 use Rattle.std.proofs.Common.{◌≡◌, ℕ, zero, suc, ◌+◌, ◌-◌, ◌*◌, ◌<◌, ◌≤◌, List, [], ◌∷◌, ◌++◌, refl, sym, ap, ◌∙◌, subst, Bool, true, false, length, append-nil, arith}
-use Rattle.std.specs.Prelude.{None, Err}
+use Rattle.std.specs.Prelude.{None, Result, Err}
 use Rattle.tokens.specs.declared.located_tokens.Token.{Token}
 use Rattle.grammar.specs.declared.actions.Action.{Action}
 use Rattle.grammar.specs.declared.build.BuildFault.{BuildFault}
@@ -24,7 +24,7 @@ use Rattle.parser.specs.declared.frames.Frame.TheVariants as frame
 use Rattle.parser.specs.declared.frames.Front.{Front}
 use Rattle.parser.specs.declared.frames.Front.TheVariants as front
 use Rattle.parser.specs.declared.frames.TheConstants.{MOST_FRAMES, UNARY_LEVEL}
-use Rattle.parser.specs.Automata.{Fits, InExpression, IsTooDeep, Moves, OnExpr, Stands, Start, Takes, Trees, all_tails, front_items, frame_items, stack_of, tails}
+use Rattle.parser.specs.Automata.{Fits, HasMore, InExpression, IsAt, IsTooDeep, Moves, OnExpr, Stands, Start, Takes, Trees, all_tails, front_items, frame_items, stack_of, tails}
 use Rattle.parser.specs.Paths.{HasTold, Origin, Path, Refused}
 use Rattle.parser.specs.ScopedCursors.{ScopedCursor, next_at, taken_at, token_of}
 use Rattle.parser.specs.Segment.{FailsAt}
@@ -42,6 +42,31 @@ pub comes_to : {F B : Type 0} {o : Start B} {stands : B → Representation} {old
     new.depth ≤ MOST_NESTED → Fits next new.frames (token_of new.tokens) values → Stands o stands next new
 comes_to h path told depth few fits =
     record { values = _; acts = _; path = path; new = h.new; told = told; depth = depth; few = few; fits = fits }
+
+pub has_more : (at : Front) → (at ≡ front.End → ⊥) → HasMore at
+has_more front.End other = other refl
+has_more front.Source other = tt
+has_more front.Head other = tt
+has_more front.Definition other = tt
+has_more front.Statement other = tt
+has_more front.Expression other = tt
+has_more (front.Operand floor) other = tt
+has_more (front.Operators floor) other = tt
+has_more (front.CallEnd callee floor) other = tt
+has_more front.Enclosing other = tt
+
+-- The frame on top was taken.
+
+pub put_back : {F B : Type 0} {stands : B → Representation} {next : Front} (at : Automaton F B) (frames : List Frame) →
+    at.frames ≡ frames → IsAt stands next at → IsAt stands next (record at { frames = frames })
+put_back {stands = stands} {next = next} at frames same h =
+    subst (λ (fs : List Frame). IsAt stands next (record at { frames = fs })) same h
+
+pub moves_back : {F B : Type 0} {denied : Type 0} {stands : B → Representation} {next : Front} {new : Automaton F B}
+    (r : Result Front ParseFault) (at : Automaton F B) (frames : List Frame) → at.frames ≡ frames →
+    Moves r denied stands next (record at { frames = frames }) new → Moves r denied stands next at new
+moves_back {denied = denied} {stands = stands} {next = next} {new = new} r at frames same h =
+    subst (λ (fs : List Frame). Moves r denied stands next (record at { frames = fs }) new) (sym same) h
 
 -- How many frames there are.
 

@@ -80,22 +80,7 @@ measured profile n ls stack rest values acts scope functions l =
     (append_assoc (definitions_actions functions) (BeginFunction scope.number scope.current.parameters ∷ [])
     (body_actions (last_body values)) ∙ e.reported ∙ l.emits)
 
-module _ {o : Origin} {began before : Representation} {stack : List Item} {values : List PartialTree} {acts : List Action}
-    {at : ScopedCursor} where
-  -- it may be reported, though the code may be too long
-  pub end_follows : Path o (Make Define ∷ stack) values acts at → HasTold began before acts → began o.profile [] →
-      MayFollowAll before (end_actions (length (scope_of at).current.variables))
-  end_follows p told new =
-      let l : Leads o.profile p.steps _ _ acts = p.follows _ (record { behind = []; is = refl }) in
-      let e : AtEnd p.steps _ values (scope_of at) p.functions =
-      at_end o.profile p.steps _ stack _ values (scope_of at) p.functions l.clean l.comes in
-      record {
-        profile = o.profile;
-        acts = acts;
-        stood = told.each o.profile new;
-        begins = subst IsBeginning (rw (l.emits, l.comes, p.ready.sound) refl) e.begins;
-      }
-
+module _ {o : Origin} {stack : List Item} {values : List PartialTree} {acts : List Action} {at : ScopedCursor} where
   -- The builder says that the code is too long: so it is, at the closing brace.
   too_much : {denied : Type 0} {told : List Action → Type 0} →
       Path o (Make Define ∷ Exactly punctuator.CloseCurly ∷ stack) values acts at →
@@ -138,6 +123,22 @@ module _ {o : Origin} {began before : Representation} {stack : List Item} {value
     };
     leaves = tt;
   }
+
+module _ {o : Origin} {began before : Representation} {stack : List Item} {values : List PartialTree} {acts : List Action}
+    {at : ScopedCursor} where
+  -- it may be reported, though the code may be too long
+  pub end_follows : Path o (Make Define ∷ stack) values acts at → HasTold began before acts → began o.profile [] →
+      MayFollowAll before (end_actions (length (scope_of at).current.variables))
+  end_follows p told new =
+      let l : Leads o.profile p.steps _ _ acts = p.follows _ (record { behind = []; is = refl }) in
+      let e : AtEnd p.steps _ values (scope_of at) p.functions =
+      at_end o.profile p.steps _ stack _ values (scope_of at) p.functions l.clean l.comes in
+      record {
+        profile = o.profile;
+        acts = acts;
+        stood = told.each o.profile new;
+        begins = subst IsBeginning (rw (l.emits, l.comes, p.ready.sound) refl) e.begins;
+      }
 
   -- the end of a function was refused
   pub end_refused : {denied : Type 0} {left : List Action → Type 0} (f : ParseFault) →

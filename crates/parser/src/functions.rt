@@ -12,7 +12,7 @@ use crate::frames::{Frame, Front};
 use crate::function_headers::{external_declaration, function_header};
 use crate::name_lists::{declarations, type_words};
 use crate::roles::Declared;
-use crate::token_predicates::is_punctuator;
+use crate::token_predicates::{is_keyword, is_punctuator};
 use grammar::{Action, Build, BuildFault, Code, ParseFault};
 use tokens::{Feed, Keyword, Punctuator, Token};
 
@@ -27,10 +27,12 @@ impl<F: Feed, B: Build> Automaton<'_, '_, '_, F, B> {
         ensures falls { Falls result Front.Source self.old self.new }
         ensures builder { KeepsBuilder self.old self.new }
     {
+        if is_keyword(&self.tokens.peek().token, Keyword::Type) {
+            return self.typed_part();
+        }
         match self.tokens.peek().token {
             Token::End => Ok(Front::End),
             Token::Name(_) => Ok(Front::Definition),
-            Token::Keyword(Keyword::Type) => self.typed_part(),
             _ => Err(self.tokens.unexpected_token()),
         }
     }

@@ -1,18 +1,22 @@
 use Rattle.std.proofs.lemmas.Result.{err_from_is_err_and}
-use Rattle.std.proofs.Common.{◌≡◌, ◌+◌, ◌<◌, ◌≤◌, ◌∙◌, ℕ, [], ◌∷◌, ◌++◌, refl, ap, sym, subst, true, false, arith, length}
+use Rattle.std.proofs.Common.{◌≡◌, ◌+◌, ◌<◌, ◌≤◌, ◌∙◌, ℕ, pos, [], ◌∷◌, ◌++◌, refl, ap, sym, subst, true, false, arith, length}
 use Rattle.tokens.specs.declared.located_tokens.Keyword.TheVariants as keyword
 use Rattle.tokens.specs.declared.located_tokens.LocatedToken.{LocatedToken}
 use Rattle.tokens.specs.declared.located_tokens.Punctuator.TheVariants as punctuator
 use Rattle.tokens.specs.declared.located_tokens.Token.TheVariants as token
-use Rattle.grammar.specs.declared.actions.Action.TheVariants.{BeginFunction}
+use Rattle.grammar.specs.declared.actions.Action.TheVariants.{BeginFunction, EndFunction, GiveBack, PushConstant}
 use Rattle.grammar.specs.Building.{Appends, MayFollow}
 use Rattle.grammar.specs.Grammar.{AKeyword, Close, Declarations, Define, Empty, Exactly, FunctionBlock, Make, Part, Source, Statements, Types, is_keyword, is_punctuator}
 use Rattle.grammar.specs.Scope.{end_definition}
 use Rattle.parser.specs.declared.roles.Declared.TheVariants as kind
 use Rattle.parser.specs.Declarations.{header_items, names_items}
 use Rattle.parser.specs.FunctionEnds.{end_actions}
-use Rattle.parser.specs.ScopedCursors.{scope_of, token_after, token_of, with_scope}
-use Rattle.parser.proofs.AutomatonLaws.{comes_to, has_place}
+use Rattle.parser.specs.ScopedCursors.{ScopedCursor, scope_of, token_after, token_of, with_scope}
+use Rattle.parser.proofs.AutomatonLaws.{comes_to, has_place, moves_back, put_back}
+use Rattle.parser.proofs.Reports.{next_follows}
+use Rattle.grammar.proofs.RepresentationLaws.{appends_both, may_first}
+use Rattle.parser.specs.Automata.{stack_of}
+use Rattle.parser.specs.Paths.{Path}
 use Rattle.parser.proofs.FunctionEnds.{end_follows, end_refused, function_ends}
 use Rattle.parser.proofs.PathLaws.{closed, falls, made, may, out_of_memory, punctuator_falls, punctuator_past, told_more}
 use Rattle.parser.proofs.AutomatonLaws.{refuses}
@@ -29,13 +33,13 @@ returns-in_err-number-clause-moves g c =
 
 pub returns-then-not-is_punctuator-clause-moves : goal.returns-then-not-is_punctuator-clause-moves
 returns-then-not-is_punctuator-clause-moves g c =
-    let other : is_punctuator punctuator.OpenCurly (token_of c.function_header-number.new.parser) ≡ false = cc in
+    let other : is_punctuator punctuator.OpenCurly (token_of c.function_header.new.parser) ≡ false = cc in
     λ o h.
     rw c.unexpected_token.ensures (block_misfits other (c.in_ok-number.ensures.passes _ _ _ _ h.path))
 
 pub act-requires : goal.act-requires
 act-requires g c =
-    let is : is_punctuator punctuator.OpenCurly (token_of c.function_header-number.new.parser) ≡ true = cc in
+    let is : is_punctuator punctuator.OpenCurly (token_of c.function_header.new.parser) ≡ true = cc in
     let h = c.requires.at.is in
     record {
       follows = (rw (c.in_ok-number.ensures.begun.is, sym c.parameter_count.ensures.count) at (may h.acts h.told h.new (function_block_path is (rw h.fits.0 (omega arith)) (c.in_ok-number.ensures.passes _ _ _ _ h.path))));
@@ -49,7 +53,7 @@ returns-in_err-act-clause-moves g c =
 
 pub returns-in_err-advance-clause-moves : goal.returns-in_err-advance-clause-moves
 returns-in_err-advance-clause-moves g c =
-    let is : is_punctuator punctuator.OpenCurly (token_of c.function_header-number.new.parser) ≡ true = cc in
+    let is : is_punctuator punctuator.OpenCurly (token_of c.function_header.new.parser) ≡ true = cc in
     let added = rw (sym c.in_ok-number.ensures.begun.is, c.parameter_count.ensures.count) at c.in_ok-act.ensures.ok in
     let p = err_from_is_err_and c.from_residual-in_err-advance.result c.from_residual-in_err-advance.ensures.1 in
     rw (p.1, p.2) (λ o h.
@@ -58,7 +62,7 @@ returns-in_err-advance-clause-moves g c =
 
 pub returns-in_err-declarations-clause-moves : goal.returns-in_err-declarations-clause-moves
 returns-in_err-declarations-clause-moves g c =
-    let is : is_punctuator punctuator.OpenCurly (token_of c.function_header-number.new.parser) ≡ true = cc in
+    let is : is_punctuator punctuator.OpenCurly (token_of c.function_header.new.parser) ≡ true = cc in
     let added = rw (sym c.in_ok-number.ensures.begun.is, c.parameter_count.ensures.count) at c.in_ok-act.ensures.ok in
     let p = err_from_is_err_and c.from_residual-in_err-declarations.result c.from_residual-in_err-declarations.ensures.1 in
     rw (p.1, p.2) (λ o h.
@@ -71,7 +75,7 @@ push-requires g c = rw c.requires.at.is.fits.0 (omega arith)
 
 pub returns-clause-moves : goal.returns-clause-moves
 returns-clause-moves g c =
-    let is : is_punctuator punctuator.OpenCurly (token_of c.function_header-number.new.parser) ≡ true = cc in
+    let is : is_punctuator punctuator.OpenCurly (token_of c.function_header.new.parser) ≡ true = cc in
     let added = rw (sym c.in_ok-number.ensures.begun.is, c.parameter_count.ensures.count) at c.in_ok-act.ensures.ok in
     λ o h.
     rw c.push.ensures (comes_to h (c.in_ok-declarations.ensures.passes _ _ _ _ (made Empty tt (punctuator_past punctuator.OpenCurly is c.in_ok-advance.ensures.consumes c.in_ok-advance.ensures.kept

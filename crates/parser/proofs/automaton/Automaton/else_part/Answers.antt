@@ -25,8 +25,8 @@ returns-in_err-act-clause-moves g c =
     rw (p.1, p.2) (λ o h.
     out_of_memory h.path (refuses c.in_err-act.field-0.0 _ c.in_err-act.ensures.judged))
 
-pub returns-in_ok-act-clause-moves : goal.returns-in_ok-act-clause-moves
-returns-in_ok-act-clause-moves g c =
+pub returns-clause-moves : goal.returns-clause-moves
+returns-clause-moves g c =
     let other : is_keyword keyword.Else (token_of c.args.self.now.tokens) ≡ false = cc in
     λ o h.
     comes_to h (closed (made Decide tt (no_else_path other h.path))) (told_more _ _ c.in_ok-act.ensures.ok h.told)

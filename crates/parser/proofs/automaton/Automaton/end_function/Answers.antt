@@ -1,18 +1,22 @@
 use Rattle.std.proofs.lemmas.Result.{err_from_is_err_and}
-use Rattle.std.proofs.Common.{◌≡◌, ◌+◌, ◌<◌, ◌≤◌, ◌∙◌, ℕ, [], ◌∷◌, ◌++◌, refl, ap, sym, subst, true, false, arith, length}
+use Rattle.std.proofs.Common.{◌≡◌, ◌+◌, ◌<◌, ◌≤◌, ◌∙◌, ℕ, pos, [], ◌∷◌, ◌++◌, refl, ap, sym, subst, true, false, arith, length}
 use Rattle.tokens.specs.declared.located_tokens.Keyword.TheVariants as keyword
 use Rattle.tokens.specs.declared.located_tokens.LocatedToken.{LocatedToken}
 use Rattle.tokens.specs.declared.located_tokens.Punctuator.TheVariants as punctuator
 use Rattle.tokens.specs.declared.located_tokens.Token.TheVariants as token
-use Rattle.grammar.specs.declared.actions.Action.TheVariants.{BeginFunction}
+use Rattle.grammar.specs.declared.actions.Action.TheVariants.{BeginFunction, EndFunction, GiveBack, PushConstant}
 use Rattle.grammar.specs.Building.{Appends, MayFollow}
 use Rattle.grammar.specs.Grammar.{AKeyword, Close, Declarations, Define, Empty, Exactly, FunctionBlock, Make, Part, Source, Statements, Types, is_keyword, is_punctuator}
 use Rattle.grammar.specs.Scope.{end_definition}
 use Rattle.parser.specs.declared.roles.Declared.TheVariants as kind
 use Rattle.parser.specs.Declarations.{header_items, names_items}
 use Rattle.parser.specs.FunctionEnds.{end_actions}
-use Rattle.parser.specs.ScopedCursors.{scope_of, token_after, token_of, with_scope}
-use Rattle.parser.proofs.AutomatonLaws.{comes_to, has_place}
+use Rattle.parser.specs.ScopedCursors.{ScopedCursor, scope_of, token_after, token_of, with_scope}
+use Rattle.parser.proofs.AutomatonLaws.{comes_to, has_place, moves_back, put_back}
+use Rattle.parser.proofs.Reports.{next_follows}
+use Rattle.grammar.proofs.RepresentationLaws.{appends_both, may_first}
+use Rattle.parser.specs.Automata.{stack_of}
+use Rattle.parser.specs.Paths.{Path}
 use Rattle.parser.proofs.FunctionEnds.{end_follows, end_refused, function_ends}
 use Rattle.parser.proofs.PathLaws.{closed, falls, made, may, out_of_memory, punctuator_falls, punctuator_past, told_more}
 use Rattle.parser.proofs.AutomatonLaws.{refuses}
@@ -34,14 +38,31 @@ returns-in_err-report_end-clause-moves g c =
 
 pub returns-in_err-advance-clause-moves : goal.returns-in_err-advance-clause-moves
 returns-in_err-advance-clause-moves g c =
+    let closes = rw c.variable_count-variables.ensures.count at c.in_ok-report_end.ensures.ends in
+    let same : c.end_definition.new.self ≡ with_scope (end_definition (scope_of c.args.self.now.tokens)) c.args.self.now.tokens =
+    rw c.in_ok-report_end.ensures.kept.tokens at c.end_definition.ensures in
+    let fits : is_punctuator punctuator.CloseCurly (token_of c.end_definition.new.self) ≡ true =
+    subst (λ (t : ScopedCursor). is_punctuator punctuator.CloseCurly (token_of t) ≡ true) (sym same) c.requires.starts in
     let p = err_from_is_err_and c.from_residual-in_err-advance.result c.from_residual-in_err-advance.ensures.1 in
     rw (p.1, p.2) (λ o h.
-    punctuator_falls punctuator.CloseCurly c.requires.starts (told_more _ _ c.in_ok-report_end.ensures.ends.added h.told) c.in_err-advance.ensures.kept
-    c.in_err-advance.ensures.consumes (function_ends (no_statement_path c.requires.starts h.path) h.told h.new (rw c.variable_count-variables.ensures.count at c.in_ok-report_end.ensures.ends)))
+    punctuator_falls punctuator.CloseCurly fits (told_more _ _ closes.added h.told) c.in_err-advance.ensures.kept
+    c.in_err-advance.ensures.consumes (subst (λ (t : ScopedCursor). Path o.origin
+    (Exactly punctuator.CloseCurly ∷ Close ∷ Part Source ∷ stack_of c.args.self.now.frames) []
+    (h.acts ++ end_actions (length (scope_of c.args.self.now.tokens).current.variables)) t) (sym same)
+    (function_ends (no_statement_path c.requires.starts h.path) h.told h.new closes)))
 
 pub returns-clause-moves : goal.returns-clause-moves
-returns-clause-moves g c = λ o h.
+returns-clause-moves g c =
+    let closes = rw c.variable_count-variables.ensures.count at c.in_ok-report_end.ensures.ends in
+    let same : c.end_definition.new.self ≡ with_scope (end_definition (scope_of c.args.self.now.tokens)) c.args.self.now.tokens =
+    rw c.in_ok-report_end.ensures.kept.tokens at c.end_definition.ensures in
+    let fits : is_punctuator punctuator.CloseCurly (token_of c.end_definition.new.self) ≡ true =
+    subst (λ (t : ScopedCursor). is_punctuator punctuator.CloseCurly (token_of t) ≡ true) (sym same) c.requires.starts in
+    λ o h.
     comes_to h
-    (closed (punctuator_past punctuator.CloseCurly c.requires.starts c.in_ok-advance.ensures.consumes c.in_ok-advance.ensures.kept
-    (function_ends (no_statement_path c.requires.starts h.path) h.told h.new (rw c.variable_count-variables.ensures.count at c.in_ok-report_end.ensures.ends)))) (told_more _ _ c.in_ok-report_end.ensures.ends.added h.told) (omega (arith, h.depth)) (omega (arith, h.few))
+    (closed (punctuator_past punctuator.CloseCurly fits c.in_ok-advance.ensures.consumes c.in_ok-advance.ensures.kept
+    (subst (λ (t : ScopedCursor). Path o.origin
+    (Exactly punctuator.CloseCurly ∷ Close ∷ Part Source ∷ stack_of c.args.self.now.frames) []
+    (h.acts ++ end_actions (length (scope_of c.args.self.now.tokens).current.variables)) t) (sym same)
+    (function_ends (no_statement_path c.requires.starts h.path) h.told h.new closes)))) (told_more _ _ closes.added h.told) (omega (arith, h.depth, c.in_ok-report_end.ensures.kept.depth)) (omega (arith, h.few))
     (h.fits.takes.1, refl)

@@ -1,18 +1,22 @@
 use Rattle.std.proofs.lemmas.Result.{err_from_is_err_and}
-use Rattle.std.proofs.Common.{◌≡◌, ◌+◌, ◌<◌, ◌≤◌, ◌∙◌, ℕ, [], ◌∷◌, ◌++◌, refl, ap, sym, subst, true, false, arith, length}
+use Rattle.std.proofs.Common.{◌≡◌, ◌+◌, ◌<◌, ◌≤◌, ◌∙◌, ℕ, pos, [], ◌∷◌, ◌++◌, refl, ap, sym, subst, true, false, arith, length}
 use Rattle.tokens.specs.declared.located_tokens.Keyword.TheVariants as keyword
 use Rattle.tokens.specs.declared.located_tokens.LocatedToken.{LocatedToken}
 use Rattle.tokens.specs.declared.located_tokens.Punctuator.TheVariants as punctuator
 use Rattle.tokens.specs.declared.located_tokens.Token.TheVariants as token
-use Rattle.grammar.specs.declared.actions.Action.TheVariants.{BeginFunction}
+use Rattle.grammar.specs.declared.actions.Action.TheVariants.{BeginFunction, EndFunction, GiveBack, PushConstant}
 use Rattle.grammar.specs.Building.{Appends, MayFollow}
 use Rattle.grammar.specs.Grammar.{AKeyword, Close, Declarations, Define, Empty, Exactly, FunctionBlock, Make, Part, Source, Statements, Types, is_keyword, is_punctuator}
 use Rattle.grammar.specs.Scope.{end_definition}
 use Rattle.parser.specs.declared.roles.Declared.TheVariants as kind
 use Rattle.parser.specs.Declarations.{header_items, names_items}
 use Rattle.parser.specs.FunctionEnds.{end_actions}
-use Rattle.parser.specs.ScopedCursors.{scope_of, token_after, token_of, with_scope}
-use Rattle.parser.proofs.AutomatonLaws.{comes_to, has_place}
+use Rattle.parser.specs.ScopedCursors.{ScopedCursor, scope_of, token_after, token_of, with_scope}
+use Rattle.parser.proofs.AutomatonLaws.{comes_to, has_place, moves_back, put_back}
+use Rattle.parser.proofs.Reports.{next_follows}
+use Rattle.grammar.proofs.RepresentationLaws.{appends_both, may_first}
+use Rattle.parser.specs.Automata.{stack_of}
+use Rattle.parser.specs.Paths.{Path}
 use Rattle.parser.proofs.FunctionEnds.{end_follows, end_refused, function_ends}
 use Rattle.parser.proofs.PathLaws.{closed, falls, made, may, out_of_memory, punctuator_falls, punctuator_past, told_more}
 use Rattle.parser.proofs.AutomatonLaws.{refuses}
@@ -29,7 +33,7 @@ returns-in-Name-clause-moves g c =
 pub returns-in_err-external_declaration-in-Name-2-clause-moves : goal.returns-in_err-external_declaration-in-Name-2-clause-moves
 returns-in_err-external_declaration-in-Name-2-clause-moves g c =
     let other : is_punctuator punctuator.OpenRound (token_after c.args.self.now.tokens) ≡ false = cc in
-    let p = err_from_is_err_and c.from_residual-in_err-external_declaration-in-Name-2.result c.from_residual-in_err-external_declaration-in-Name-2.ensures.1 in
+    let p = err_from_is_err_and c.from_residual.result c.from_residual.ensures.1 in
     rw (p.1, p.2) (λ o h.
     falls (names_items kind.Externals) _ c.in_err-external_declaration-in-Name-2.field-0.0 (external_path c.in-Name-2.field-0 (ap (λ (l : LocatedToken). l.token) (sym c.peek.ensures.value) ∙ c.in-Name-2.is) other h.path) h.told c.in_err-external_declaration-in-Name-2.ensures.kept
     c.in_err-external_declaration-in-Name-2.ensures.matches)

@@ -3,6 +3,7 @@ use Rattle.std.proofs.lemmas.Result.{err_from_is_err_and}
 use Rattle.parser.specs.declared.frames.Front.{Front}
 use Rattle.parser.specs.declared.frames.Front.TheVariants as front
 use Rattle.parser.specs.Automata.{Stands}
+use Rattle.parser.proofs.AutomatonLaws.{has_more}
 use Rattle.parser.proofs.automaton.Automaton.run.Goals as goal
 
 pub loop-front-init : goal.loop-front-init
@@ -10,7 +11,7 @@ loop-front-init g c = record { moved = λ o h. h; builder = refl }
 
 pub loop-front-preserved : goal.loop-front-preserved
 loop-front-preserved g c = record {
-  moved = λ o h. c.in_ok-step.ensures.moves o (c.loop-front.invariant.moved o h);
+  moved = λ o h. c.in_ok-front.ensures.moves o (c.loop-front.invariant.moved o h);
   builder = c.step.ensures.builder ∙ c.loop-front.invariant.builder;
 }
 
@@ -20,13 +21,13 @@ step-requires g c = record {
     start = c.requires.at.start;
     is = c.loop-front.invariant.moved c.requires.at.start c.requires.at.is;
   };
-  more = {!!};
+  more = has_more c.loop-front.front (λ same. absurd (cc));
 }
 
-pub returns-in_err-step-clause-runs : goal.returns-in_err-step-clause-runs
-returns-in_err-step-clause-runs g c =
+pub returns-in_err-front-clause-runs : goal.returns-in_err-front-clause-runs
+returns-in_err-front-clause-runs g c =
     let p = err_from_is_err_and c.from_residual.result c.from_residual.ensures.1 in
-    rw (p.1, p.2) (λ o h. c.in_err-step.ensures.moves o (c.loop-front.invariant.moved o h))
+    rw (p.1, p.2) (λ o h. c.in_err-front.ensures.moves o (c.loop-front.invariant.moved o h))
 
 pub returns-clause-runs : goal.returns-clause-runs
 returns-clause-runs g c =

@@ -5,7 +5,7 @@ use Rattle.parser.proofs.automaton.Automaton.run.Given as goal
 
 abbrev pub invariant-loop-front : goal.invariant-loop-front
 invariant-loop-front g l = record {
-  moved : (o : Start g.B) → Stands o g.B.Build.stands front.Source l.fn.self → Stands o g.B.Build.stands l.front l.self;
+  moved : (o : Start _) → Stands o g.B.Build.stands front.Source l.fn.self → Stands o g.B.Build.stands l.front l.self;
   builder : KeepsBuilder l.fn.self l.self;
 }
 

@@ -1,18 +1,22 @@
 use Rattle.std.proofs.lemmas.Result.{err_from_is_err_and}
-use Rattle.std.proofs.Common.{◌≡◌, ◌+◌, ◌<◌, ◌≤◌, ◌∙◌, ℕ, [], ◌∷◌, ◌++◌, refl, ap, sym, subst, true, false, arith, length}
+use Rattle.std.proofs.Common.{◌≡◌, ◌+◌, ◌<◌, ◌≤◌, ◌∙◌, ℕ, pos, [], ◌∷◌, ◌++◌, refl, ap, sym, subst, true, false, arith, length}
 use Rattle.tokens.specs.declared.located_tokens.Keyword.TheVariants as keyword
 use Rattle.tokens.specs.declared.located_tokens.LocatedToken.{LocatedToken}
 use Rattle.tokens.specs.declared.located_tokens.Punctuator.TheVariants as punctuator
 use Rattle.tokens.specs.declared.located_tokens.Token.TheVariants as token
-use Rattle.grammar.specs.declared.actions.Action.TheVariants.{BeginFunction}
+use Rattle.grammar.specs.declared.actions.Action.TheVariants.{BeginFunction, EndFunction, GiveBack, PushConstant}
 use Rattle.grammar.specs.Building.{Appends, MayFollow}
 use Rattle.grammar.specs.Grammar.{AKeyword, Close, Declarations, Define, Empty, Exactly, FunctionBlock, Make, Part, Source, Statements, Types, is_keyword, is_punctuator}
 use Rattle.grammar.specs.Scope.{end_definition}
 use Rattle.parser.specs.declared.roles.Declared.TheVariants as kind
 use Rattle.parser.specs.Declarations.{header_items, names_items}
 use Rattle.parser.specs.FunctionEnds.{end_actions}
-use Rattle.parser.specs.ScopedCursors.{scope_of, token_after, token_of, with_scope}
-use Rattle.parser.proofs.AutomatonLaws.{comes_to, has_place}
+use Rattle.parser.specs.ScopedCursors.{ScopedCursor, scope_of, token_after, token_of, with_scope}
+use Rattle.parser.proofs.AutomatonLaws.{comes_to, has_place, moves_back, put_back}
+use Rattle.parser.proofs.Reports.{next_follows}
+use Rattle.grammar.proofs.RepresentationLaws.{appends_both, may_first}
+use Rattle.parser.specs.Automata.{stack_of}
+use Rattle.parser.specs.Paths.{Path}
 use Rattle.parser.proofs.FunctionEnds.{end_follows, end_refused, function_ends}
 use Rattle.parser.proofs.PathLaws.{closed, falls, made, may, out_of_memory, punctuator_falls, punctuator_past, told_more}
 use Rattle.parser.proofs.AutomatonLaws.{refuses}
@@ -20,23 +24,24 @@ use Rattle.parser.proofs.SourceSteps.{block_misfits, definition_path, end_path, 
 use Rattle.parser.proofs.StatementSteps.{no_statement_path, statement_path}
 use Rattle.parser.proofs.automaton.Automaton.source.Goals as goal
 
-pub returns-in_End-clause-moves : goal.returns-in_End-clause-moves
-returns-in_End-clause-moves g c =
-    let is : token_of c.args.self.now.tokens ≡ token.End = cc in
+pub returns-in-End-clause-moves : goal.returns-in-End-clause-moves
+returns-in-End-clause-moves g c =
+    let is : token_of c.args.self.now.tokens ≡ token.End =
+    ap (λ (l : LocatedToken). l.token) (sym c.peek-2.ensures.value) ∙ c.in-End.is in
     λ o h.
     comes_to h (end_path is h.path) h.told h.depth h.few (h.fits.0, h.fits.1, is)
 
 pub returns-in-Name-clause-moves : goal.returns-in-Name-clause-moves
 returns-in-Name-clause-moves g c = λ o h.
-    comes_to h (definition_path c.in-Name.field-0 (ap (λ (l : LocatedToken). l.token) (sym c.peek.ensures.value) ∙ c.in-Name.is) h.path) h.told h.depth h.few h.fits
+    comes_to h (definition_path c.in-Name.field-0 (ap (λ (l : LocatedToken). l.token) (sym c.peek-2.ensures.value) ∙ c.in-Name.is) h.path) h.told h.depth h.few h.fits
 
 pub returns-in_default : goal.returns-in_default
 returns-in_default g c =
     let other : is_keyword keyword.Type (token_of c.args.self.now.tokens) ≡ false = cc in
     record {
       moves = λ o h.
-          rw c.unexpected_token.ensures (source_misfits (λ same. c.in_default.not-End (ap (λ (l : LocatedToken). l.token) c.peek.ensures.value ∙ same)) other
-          (λ name same. c.in_default.not-Name name (ap (λ (l : LocatedToken). l.token) c.peek.ensures.value ∙ same)) h.path);
+          rw c.unexpected_token.ensures (source_misfits (λ same. c.in_default.not-End (ap (λ (l : LocatedToken). l.token) c.peek-2.ensures.value ∙ same)) other
+          (λ name same. c.in_default.not-Name name (ap (λ (l : LocatedToken). l.token) c.peek-2.ensures.value ∙ same)) h.path);
       falls = tt;
       builder = refl;
     }
