@@ -162,15 +162,15 @@ write('end_function',[
  err('advance',False,f"punctuator_falls punctuator.CloseCurly fits (told_more _ _ closes.added h.told) c.in_err-advance.ensures.kept\n    c.in_err-advance.ensures.consumes {FE}",lets=LETS),
  ('returns-clause-moves',f"""returns-clause-moves g c =
 {LETS}    λ o h.
-    comes_to h
+    rw (c.in_ok-report_end.ensures.kept.frames, c.in_ok-report_end.ensures.kept.depth) (comes_to h
     (closed (punctuator_past punctuator.CloseCurly fits c.in_ok-advance.ensures.consumes c.in_ok-advance.ensures.kept
-    {FE})) (told_more _ _ closes.added h.told) (omega (arith, h.depth, c.in_ok-report_end.ensures.kept.depth)) (omega (arith, h.few))
-    (h.fits.takes.1, refl)"""),
+    {FE})) (told_more _ _ closes.added h.told) (omega (arith, h.depth)) (omega (arith, h.few))
+    (h.fits.takes.1, refl))"""),
 ])
 write('enclosing',[
  ('behind-requires',"""behind-requires g c = record { at = put_back c.args.self.now _ c.in-Some.ensures.frame c.requires.at }"""),
  ('returns-in-Some-clause-moves',"""returns-in-Some-clause-moves g c =
-    moves_back c.behind.result c.args.self.now _ c.in-Some.ensures.frame c.behind.ensures.moves"""),
+    moves_back _ _ _ _ c.behind.result c.args.self.now _ c.in-Some.ensures.frame c.behind.ensures.moves"""),
 ])
 COMMON='''use Rattle.std.proofs.Common.{◌≡◌, ◌∙◌, refl, sym, subst, true, false}
 use Rattle.std.proofs.lemmas.Result.{err_from_is_err_and}
@@ -189,13 +189,11 @@ write('run',[
     start = c.requires.at.start;
     is = c.loop-front.invariant.moved c.requires.at.start c.requires.at.is;
   };
-  more = has_more c.loop-front.front (λ same. absurd (cc));
+  more = has_more c.loop-front.front c.in_default.not-End;
 }"""),
  ('returns-in_err-front-clause-runs',"""returns-in_err-front-clause-runs g c =
     let p = err_from_is_err_and c.from_residual.result c.from_residual.ensures.1 in
     rw (p.1, p.2) (λ o h. c.in_err-front.ensures.moves o (c.loop-front.invariant.moved o h))"""),
- ('returns-clause-runs',"""returns-clause-runs g c =
-    let is : c.loop-front.front ≡ front.End = cc in
-    λ o h.
-    subst (λ (f : Front). Stands o g.B.Build.stands f c.loop-front.self) is (c.loop-front.invariant.moved o h)"""),
+ ('returns-in-End-clause-runs',"""returns-in-End-clause-runs g c = λ o h.
+    subst (λ (f : Front). Stands o g.B.Build.stands f c.loop-front.self) c.in-End.is (c.loop-front.invariant.moved o h)"""),
 ])

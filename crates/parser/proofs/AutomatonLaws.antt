@@ -62,10 +62,10 @@ pub put_back : {F B : Type 0} {stands : B → Representation} {next : Front} (at
 put_back {stands = stands} {next = next} at frames same h =
     subst (λ (fs : List Frame). IsAt stands next (record at { frames = fs })) same h
 
-pub moves_back : {F B : Type 0} {denied : Type 0} {stands : B → Representation} {next : Front} {new : Automaton F B}
+pub moves_back : {F B : Type 0} (denied : Type 0) (stands : B → Representation) (next : Front) (new : Automaton F B)
     (r : Result Front ParseFault) (at : Automaton F B) (frames : List Frame) → at.frames ≡ frames →
     Moves r denied stands next (record at { frames = frames }) new → Moves r denied stands next at new
-moves_back {denied = denied} {stands = stands} {next = next} {new = new} r at frames same h =
+moves_back denied stands next new r at frames same h =
     subst (λ (fs : List Frame). Moves r denied stands next (record at { frames = fs }) new) (sym same) h
 
 -- How many frames there are.

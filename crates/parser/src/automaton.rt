@@ -31,10 +31,12 @@ impl<F: Feed, B: Build> Automaton<'_, '_, '_, F, B> {
         ensures builder { KeepsBuilder self.old self.new }
     {
         let mut front = Front::Source;
-        while front != Front::End {
+        loop {
+            if let Front::End = front {
+                return Ok(());
+            }
             front = self.step(front)?;
         }
-        Ok(())
     }
 
     /// Goes on by what is in front.

@@ -71,10 +71,11 @@ pub fn parse_into<F: Feed, B: Build>(
     let mut cursor = Cursor::new();
     open_cursor(&mut cursor, feed)?;
     let parser = ScopedCursor::new(cursor, scope, feed);
+    let frames = Frames::new();
     let mut reader = Automaton {
         tokens: parser,
         builder: build,
-        frames: Frames::new(),
+        frames,
         depth: 0,
     };
     let read = reader.run();

@@ -29,4 +29,4 @@ behind-requires g c = record { at = put_back c.args.self.now _ c.in-Some.ensures
 
 pub returns-in-Some-clause-moves : goal.returns-in-Some-clause-moves
 returns-in-Some-clause-moves g c =
-    moves_back c.behind.result c.args.self.now _ c.in-Some.ensures.frame c.behind.ensures.moves
+    moves_back _ _ _ _ c.behind.result c.args.self.now _ c.in-Some.ensures.frame c.behind.ensures.moves

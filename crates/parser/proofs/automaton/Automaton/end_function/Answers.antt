@@ -59,10 +59,10 @@ returns-clause-moves g c =
     let fits : is_punctuator punctuator.CloseCurly (token_of c.end_definition.new.self) ≡ true =
     subst (λ (t : ScopedCursor). is_punctuator punctuator.CloseCurly (token_of t) ≡ true) (sym same) c.requires.starts in
     λ o h.
-    comes_to h
+    rw (c.in_ok-report_end.ensures.kept.frames, c.in_ok-report_end.ensures.kept.depth) (comes_to h
     (closed (punctuator_past punctuator.CloseCurly fits c.in_ok-advance.ensures.consumes c.in_ok-advance.ensures.kept
     (subst (λ (t : ScopedCursor). Path o.origin
     (Exactly punctuator.CloseCurly ∷ Close ∷ Part Source ∷ stack_of c.args.self.now.frames) []
     (h.acts ++ end_actions (length (scope_of c.args.self.now.tokens).current.variables)) t) (sym same)
-    (function_ends (no_statement_path c.requires.starts h.path) h.told h.new closes)))) (told_more _ _ closes.added h.told) (omega (arith, h.depth, c.in_ok-report_end.ensures.kept.depth)) (omega (arith, h.few))
-    (h.fits.takes.1, refl)
+    (function_ends (no_statement_path c.requires.starts h.path) h.told h.new closes)))) (told_more _ _ closes.added h.told) (omega (arith, h.depth)) (omega (arith, h.few))
+    (h.fits.takes.1, refl))

@@ -21,7 +21,7 @@ step-requires g c = record {
     start = c.requires.at.start;
     is = c.loop-front.invariant.moved c.requires.at.start c.requires.at.is;
   };
-  more = has_more c.loop-front.front (λ same. absurd (cc));
+  more = has_more c.loop-front.front c.in_default.not-End;
 }
 
 pub returns-in_err-front-clause-runs : goal.returns-in_err-front-clause-runs
@@ -29,8 +29,6 @@ returns-in_err-front-clause-runs g c =
     let p = err_from_is_err_and c.from_residual.result c.from_residual.ensures.1 in
     rw (p.1, p.2) (λ o h. c.in_err-front.ensures.moves o (c.loop-front.invariant.moved o h))
 
-pub returns-clause-runs : goal.returns-clause-runs
-returns-clause-runs g c =
-    let is : c.loop-front.front ≡ front.End = cc in
-    λ o h.
-    subst (λ (f : Front). Stands o g.B.Build.stands f c.loop-front.self) is (c.loop-front.invariant.moved o h)
+pub returns-in-End-clause-runs : goal.returns-in-End-clause-runs
+returns-in-End-clause-runs g c = λ o h.
+    subst (λ (f : Front). Stands o g.B.Build.stands f c.loop-front.self) c.in-End.is (c.loop-front.invariant.moved o h)
