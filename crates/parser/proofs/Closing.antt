@@ -1,6 +1,6 @@
 -- The actions of whole functions leave nothing open.
 use Rattle.std.proofs.Common.{◌≡◌, ℕ, List, [], ◌∷◌, ◌++◌, refl, sym, ap, ◌∙◌, subst, Bool, true, false, append_assoc, append-nil, length}
-use Rattle.std.specs.Prelude.{Option, Some, None, IsTrue, is_some}
+use Rattle.std.specs.Prelude.{Option, Some, None, IsTrue, if◌then◌else◌, is_some}
 use Rattle.grammar.specs.declared.actions.Action.{Action}
 use Rattle.grammar.specs.declared.actions.Action.TheVariants.{BeginFunction, EndFunction}
 use Rattle.grammar.specs.Actions.{body_actions, function_actions, last_return}
@@ -65,7 +65,7 @@ nothing_open (d ∷ ds) begins =
     by (follow_all (definitions_actions (d ∷ ds)) []) refl (beginning_follows (definitions_actions (d ∷ ds)) begins)
   where
     by : (r : Option Opened) → follow_all (definitions_actions (d ∷ ds)) [] ≡ r → IsTrue (is_some r) → r ≡ Some []
-    by None e h = absurd h
+    by None e h = absurd (cc)
     by (Some q) e h =
         let k : EndsFunction (definitions_actions (d ∷ ds)) = all_end d ds in
         ap Some (all_closed k.before k.variables [] q (subst (λ (xs : List Action). follow_all xs [] ≡ Some q) k.is e))

@@ -260,10 +260,10 @@ module _ {began left : Representation} {told : Option (List ℕ)} {at : ScopedCu
       ∙ ap (λ (n : ℕ). Err (diagnostic n fault_code.NoMainFunction))
       (last_line_is q.is.consumed (next_at at.position)))
 
-  pub lacking : {denied : Type 0} {to_come : Option (List ℕ)} {f : ParseFault} →
+  pub lacking : (denied : Type 0) (to_come : Option (List ℕ)) (f : ParseFault) →
       LacksDefinition at.position.lookahead f → ParseIsRefused began left denied told to_come f
-  lacking (ADefinition line is same) = rw same (lacks_definition line is)
-  lacking (AMain defined none same) = rw same (lacks_main defined none)
+  lacking denied to_come f (ADefinition line is same) = rw same (lacks_definition line is)
+  lacking denied to_come f (AMain defined none same) = rw same (lacks_main defined none)
 
 -- How much was taken.
 
@@ -394,7 +394,7 @@ first_fails before told told' d stops bytes shows profile h =
     (d ≡ diagnostic (line_at (tokens bytes)) (unexpected_token_code (next_token (tokens bytes)))) =
     stops.refused.lexical_error (tokens bytes) (ap (option_map tokens) shows) in
     compiled_as profile bytes (tokens bytes) (Err d) refl
-    (fault_verdict profile (tokens bytes) d (rw s.1 (at_fault profile at_source (tokens bytes) [] no_names [] s.0)))
+    (fault_verdict profile (tokens bytes) d (rw s.1 (at_fault profile (Part Source ∷ []) (tokens bytes) [] no_names [] s.0)))
 
 pub first_taking : (before : Representation) (told to_come : Option (List ℕ)) (f : ParseFault) →
     StopsAtFirst told to_come f →

@@ -1,4 +1,4 @@
-use Rattle.std.proofs.Common.{rules, ◌≡◌, ◌∙◌, List, drop, refl}
+use Rattle.std.proofs.Common.{rules, ◌≡◌, ◌∙◌, List, [], ◌∷◌, drop, refl}
 use Rattle.std.proofs.lemmas.Result.{err_from_is_err_and}
 use Rattle.std.specs.Option.{option_map}
 use Rattle.tokens.specs.Tokens.{tokens}
@@ -62,7 +62,7 @@ returns-in_err-read-clause-refused g c =
       near = rw c.new-parser.ensures.position c.in_ok-open_cursor.ensures.ready.near;
       count = rw counted c.requires.ready.countable;
     } in
-    let refused = λ (profile : Profile) new. c.in_err-read.ensures.runs (record { origin = from told account c.new-parser.result.borrows profile; builder = c.args.build.now })
+    let refused = λ (profile : Profile) (new : g.B.Build.stands c.args.build.now profile []). c.in_err-read.ensures.runs (record { origin = from told account c.new-parser.result.borrows profile; builder = c.args.build.now })
     (begins g.B.Build.stands told account _ c.new-frames.ensures refl shows nothing counted took ready profile new) in
     let p = err_from_is_err_and c.from_residual-in_err-read.result c.from_residual-in_err-read.ensures.1 in
     rw (p.1, p.2) (refused_left (g.B.Build.stands c.args.build.now) _
@@ -87,7 +87,7 @@ returns-in_err-read-clause-taken g c =
       near = rw c.new-parser.ensures.position c.in_ok-open_cursor.ensures.ready.near;
       count = rw counted c.requires.ready.countable;
     } in
-    let refused = λ (profile : Profile) new. c.in_err-read.ensures.runs (record { origin = from told account c.new-parser.result.borrows profile; builder = c.args.build.now })
+    let refused = λ (profile : Profile) (new : g.B.Build.stands c.args.build.now profile []). c.in_err-read.ensures.runs (record { origin = from told account c.new-parser.result.borrows profile; builder = c.args.build.now })
     (begins g.B.Build.stands told account _ c.new-frames.ensures refl shows nothing counted took ready profile new) in
     let p = err_from_is_err_and c.from_residual-in_err-read.result c.from_residual-in_err-read.ensures.1 in
     rw (p.1, p.2) (stops_taking c.in_err-read.field-0.0 (has_taken c.run-read.new.self.tokens told _ (refused c.requires.new.0.profile c.requires.new.0.stands).ended.took (search rules) c.into_parts-names.ensures.limited) refused)
@@ -109,7 +109,7 @@ returns-in_err-read-clause-counted g c =
       near = rw c.new-parser.ensures.position c.in_ok-open_cursor.ensures.ready.near;
       count = rw counted c.requires.ready.countable;
     } in
-    let refused = λ (profile : Profile) new. c.in_err-read.ensures.runs (record { origin = from told account c.new-parser.result.borrows profile; builder = c.args.build.now })
+    let refused = λ (profile : Profile) (new : g.B.Build.stands c.args.build.now profile []). c.in_err-read.ensures.runs (record { origin = from told account c.new-parser.result.borrows profile; builder = c.args.build.now })
     (begins g.B.Build.stands told account _ c.new-frames.ensures refl shows nothing counted took ready profile new) in
     let p = err_from_is_err_and c.from_residual-in_err-read.result c.from_residual-in_err-read.ensures.1 in
     rw (p.1, p.2) (search (rules, (refused c.requires.new.0.profile c.requires.new.0.stands).ended.account))
@@ -131,14 +131,14 @@ returns-in_err-checked-clause-refused g c =
       near = rw c.new-parser.ensures.position c.in_ok-open_cursor.ensures.ready.near;
       count = rw counted c.requires.ready.countable;
     } in
-    let stand = λ (profile : Profile) new. c.in_ok-read.ensures.runs (record { origin = from told account c.new-parser.result.borrows profile; builder = c.args.build.now })
+    let stand = λ (profile : Profile) (new : g.B.Build.stands c.args.build.now profile []). c.in_ok-read.ensures.runs (record { origin = from told account c.new-parser.result.borrows profile; builder = c.args.build.now })
     (begins g.B.Build.stands told account _ c.new-frames.ensures refl shows nothing counted took ready profile new) in
-    let reads = λ (profile : Profile) new. reads_of (stand profile new) in
+    let reads = λ (profile : Profile) (new : g.B.Build.stands c.args.build.now profile []). reads_of (stand profile new) in
     let p = err_from_is_err_and c.from_residual-in_err-checked.result c.from_residual-in_err-checked.ensures.1 in
     rw (p.1, p.2) (refused_left (g.B.Build.stands c.args.build.now) _
     (g.B.Build.stands c.run-read.new.self.builder.now) g.B.Build.denied told _ c.in_err-checked.field-0.0
     (λ profile acts h. search (rules, h))
-    (lacking c.requires.new.0.profile c.requires.new.0.stands reads c.in_err-checked.ensures.lacks))
+    (lacking c.requires.new.0.profile c.requires.new.0.stands reads _ _ _ c.in_err-checked.ensures.lacks))
 
 pub returns-in_err-checked-clause-taken : goal.returns-in_err-checked-clause-taken
 returns-in_err-checked-clause-taken g c =
@@ -157,9 +157,9 @@ returns-in_err-checked-clause-taken g c =
       near = rw c.new-parser.ensures.position c.in_ok-open_cursor.ensures.ready.near;
       count = rw counted c.requires.ready.countable;
     } in
-    let stand = λ (profile : Profile) new. c.in_ok-read.ensures.runs (record { origin = from told account c.new-parser.result.borrows profile; builder = c.args.build.now })
+    let stand = λ (profile : Profile) (new : g.B.Build.stands c.args.build.now profile []). c.in_ok-read.ensures.runs (record { origin = from told account c.new-parser.result.borrows profile; builder = c.args.build.now })
     (begins g.B.Build.stands told account _ c.new-frames.ensures refl shows nothing counted took ready profile new) in
-    let reads = λ (profile : Profile) new. reads_of (stand profile new) in
+    let reads = λ (profile : Profile) (new : g.B.Build.stands c.args.build.now profile []). reads_of (stand profile new) in
     let p = err_from_is_err_and c.from_residual-in_err-checked.result c.from_residual-in_err-checked.ensures.1 in
     rw (p.1, p.2) (lacks_taking reads (stand c.requires.new.0.profile c.requires.new.0.stands).path.ready (has_taken c.run-read.new.self.tokens told _ (stand c.requires.new.0.profile c.requires.new.0.stands).path.took (search rules) c.into_parts-names.ensures.limited)
     c.in_err-checked.ensures.lacks)
@@ -181,9 +181,9 @@ returns-in_err-checked-clause-counted g c =
       near = rw c.new-parser.ensures.position c.in_ok-open_cursor.ensures.ready.near;
       count = rw counted c.requires.ready.countable;
     } in
-    let stand = λ (profile : Profile) new. c.in_ok-read.ensures.runs (record { origin = from told account c.new-parser.result.borrows profile; builder = c.args.build.now })
+    let stand = λ (profile : Profile) (new : g.B.Build.stands c.args.build.now profile []). c.in_ok-read.ensures.runs (record { origin = from told account c.new-parser.result.borrows profile; builder = c.args.build.now })
     (begins g.B.Build.stands told account _ c.new-frames.ensures refl shows nothing counted took ready profile new) in
-    let reads = λ (profile : Profile) new. reads_of (stand profile new) in
+    let reads = λ (profile : Profile) (new : g.B.Build.stands c.args.build.now profile []). reads_of (stand profile new) in
     let p = err_from_is_err_and c.from_residual-in_err-checked.result c.from_residual-in_err-checked.ensures.1 in
     rw (p.1, p.2) (search (rules, (stand c.requires.new.0.profile c.requires.new.0.stands).path.account, c.in_err-checked.ensures.lacks))
 
@@ -204,9 +204,9 @@ returns-clause-file g c =
       near = rw c.new-parser.ensures.position c.in_ok-open_cursor.ensures.ready.near;
       count = rw counted c.requires.ready.countable;
     } in
-    let stand = λ (profile : Profile) new. c.in_ok-read.ensures.runs (record { origin = from told account c.new-parser.result.borrows profile; builder = c.args.build.now })
+    let stand = λ (profile : Profile) (new : g.B.Build.stands c.args.build.now profile []). c.in_ok-read.ensures.runs (record { origin = from told account c.new-parser.result.borrows profile; builder = c.args.build.now })
     (begins g.B.Build.stands told account _ c.new-frames.ensures refl shows nothing counted took ready profile new) in
-    let reads = λ (profile : Profile) new. reads_of (stand profile new) in
+    let reads = λ (profile : Profile) (new : g.B.Build.stands c.args.build.now profile []). reads_of (stand profile new) in
     file_left g.B.Build.stands _ _ c.run-read.new.self.builder.now _ _ (search rules)
     (whole_file c.requires.new.0.profile c.requires.new.0.stands reads c.in_ok-checked.ensures.complete (search rules))
 
@@ -227,9 +227,9 @@ returns-clause-taken g c =
       near = rw c.new-parser.ensures.position c.in_ok-open_cursor.ensures.ready.near;
       count = rw counted c.requires.ready.countable;
     } in
-    let stand = λ (profile : Profile) new. c.in_ok-read.ensures.runs (record { origin = from told account c.new-parser.result.borrows profile; builder = c.args.build.now })
+    let stand = λ (profile : Profile) (new : g.B.Build.stands c.args.build.now profile []). c.in_ok-read.ensures.runs (record { origin = from told account c.new-parser.result.borrows profile; builder = c.args.build.now })
     (begins g.B.Build.stands told account _ c.new-frames.ensures refl shows nothing counted took ready profile new) in
-    let reads = λ (profile : Profile) new. reads_of (stand profile new) in
+    let reads = λ (profile : Profile) (new : g.B.Build.stands c.args.build.now profile []). reads_of (stand profile new) in
     whole_takes reads (stand c.requires.new.0.profile c.requires.new.0.stands).path.ready (has_taken c.run-read.new.self.tokens told _ (stand c.requires.new.0.profile c.requires.new.0.stands).path.took (search rules) c.into_parts-names.ensures.limited)
 
 pub returns-clause-counted : goal.returns-clause-counted
@@ -249,7 +249,7 @@ returns-clause-counted g c =
       near = rw c.new-parser.ensures.position c.in_ok-open_cursor.ensures.ready.near;
       count = rw counted c.requires.ready.countable;
     } in
-    let stand = λ (profile : Profile) new. c.in_ok-read.ensures.runs (record { origin = from told account c.new-parser.result.borrows profile; builder = c.args.build.now })
+    let stand = λ (profile : Profile) (new : g.B.Build.stands c.args.build.now profile []). c.in_ok-read.ensures.runs (record { origin = from told account c.new-parser.result.borrows profile; builder = c.args.build.now })
     (begins g.B.Build.stands told account _ c.new-frames.ensures refl shows nothing counted took ready profile new) in
-    let reads = λ (profile : Profile) new. reads_of (stand profile new) in
+    let reads = λ (profile : Profile) (new : g.B.Build.stands c.args.build.now profile []). reads_of (stand profile new) in
     search (rules, (stand c.requires.new.0.profile c.requires.new.0.stands).path.account)
