@@ -1,7 +1,6 @@
 -- What the steps of an automaton share: where it is before and after, and how they are refused.
-use Rattle.std.proofs.Common.{◌≡◌, ℕ, zero, suc, ◌+◌, ◌-◌, ◌*◌, ◌<◌, ◌≤◌, List, [], ◌∷◌, ◌++◌, refl, sym, ap, ◌∙◌, subst, Bool, true, false, length, append-nil, arith}
+use Rattle.std.proofs.Common.{◌≡◌, ℕ, zero, suc, ◌+◌, ◌-◌, ◌*◌, ◌<◌, ◌≤◌, List, [], ◌∷◌, ◌++◌, refl, sym, ◌∙◌, subst, length, append-nil, arith}
 use Rattle.std.specs.Prelude.{None, Result, Err}
-use Rattle.tokens.specs.declared.located_tokens.Token.{Token}
 use Rattle.grammar.specs.declared.actions.Action.{Action}
 use Rattle.grammar.specs.declared.build.BuildFault.{BuildFault}
 use Rattle.grammar.specs.declared.build.BuildFault.TheVariants as build_fault
@@ -13,9 +12,8 @@ use Rattle.grammar.specs.Building.{AppendsAll, MayFollowAll, Refuses, Representa
 use Rattle.grammar.specs.Compiled.{diagnostic}
 use Rattle.grammar.specs.Derivation.{PartialTree, AnExpr}
 use Rattle.grammar.specs.Faults.{nested_count}
-use Rattle.grammar.specs.Grammar.{Item, Symbol, Part, Tail}
+use Rattle.grammar.specs.Grammar.{Item, Symbol, Part}
 use Rattle.grammar.specs.Laws.Climbing.{operator_from}
-use Rattle.grammar.specs.Profile.{Profile}
 use Rattle.grammar.specs.Tree.{Expr}
 use Rattle.grammar_laws.specs.Emission.{and_then}
 use Rattle.parser.specs.declared.automaton.Automaton.{Automaton}
@@ -23,8 +21,8 @@ use Rattle.parser.specs.declared.frames.Frame.{Frame}
 use Rattle.parser.specs.declared.frames.Frame.TheVariants as frame
 use Rattle.parser.specs.declared.frames.Front.{Front}
 use Rattle.parser.specs.declared.frames.Front.TheVariants as front
-use Rattle.parser.specs.declared.frames.TheConstants.{MOST_FRAMES, UNARY_LEVEL}
-use Rattle.parser.specs.Automata.{Fits, HasMore, InExpression, IsAt, IsTooDeep, Moves, OnExpr, Stands, Start, Takes, Trees, all_tails, front_items, frame_items, stack_of, tails}
+use Rattle.parser.specs.declared.frames.TheConstants.{MOST_FRAMES}
+use Rattle.parser.specs.Automata.{Fits, HasMore, InExpression, IsAt, IsTooDeep, Moves, OnExpr, Stands, Start, Takes, Trees, all_tails, front_items, stack_of, tails}
 use Rattle.parser.specs.Paths.{HasTold, Origin, Path, Refused}
 use Rattle.parser.specs.ScopedCursors.{ScopedCursor, next_at, taken_at, token_of}
 use Rattle.parser.specs.Segment.{FailsAt}

@@ -1,5 +1,5 @@
 -- Which production of an operand a token chooses.
-use Rattle.std.proofs.Common.{◌≡◌, ℕ, pos, ◌+◌, ◌≤◌, List, [], ◌∷◌, refl, sym, ◌∙◌, Bool, true, false}
+use Rattle.std.proofs.Common.{◌≡◌, ℕ, pos, List, [], ◌∷◌, refl, sym, ◌∙◌, true, false}
 use Rattle.std.specs.Prelude.{Some, None}
 use Rattle.tokens.specs.Cursors.{IsNearTo}
 use Rattle.tokens.specs.declared.located_tokens.Punctuator.{Punctuator}

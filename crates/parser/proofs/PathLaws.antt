@@ -1,5 +1,5 @@
 -- One step of the derivation after another, from the file's start on.
-use Rattle.std.proofs.Common.{◌≡◌, ℕ, zero, suc, ◌+◌, ◌<◌, ◌≤◌, List, [], ◌∷◌, ◌++◌, refl, sym, ap, ◌∙◌, subst, Bool, true, false, append_assoc, append-nil, zero-add, suc-add, length}
+use Rattle.std.proofs.Common.{◌≡◌, ℕ, zero, suc, ◌+◌, ◌<◌, List, [], ◌∷◌, ◌++◌, refl, sym, ap, ◌∙◌, subst, Bool, true, false, append_assoc, append-nil, zero-add, suc-add, length}
 use Rattle.std.specs.Prelude.{pos, Some, nat_le}
 use Rattle.tokens.specs.Tokens.{followed_by, is_last}
 use Rattle.tokens.specs.declared.located_tokens.LocatedToken.{LocatedToken}
@@ -18,7 +18,7 @@ use Rattle.grammar.specs.Beginning.{IsBeginning}
 use Rattle.grammar.specs.Building.{AppendsAll, MayFollow, MayFollowAll, Representation}
 use Rattle.grammar.specs.Derivation.{State, PartialTree, Definition, AnExpr, trees_after, scope_after_action, functions_defined, next_token, name_of_token, name_tree, derived, initial_state, stepped}
 use Rattle.grammar.specs.Faults.{Fault, item_faults, faults_at, faults_in, fault, nested_count, only_if}
-use Rattle.grammar.specs.Grammar.{External, Parameter, Typed, Local, AConstant, AKeyword, AName, Role, Close, Exactly, Item, Make, Part, SemanticAction, Symbol, Define, choice, is_lexical_error, is_punctuator, is_keyword, enters}
+use Rattle.grammar.specs.Grammar.{External, Parameter, Typed, Local, AConstant, AKeyword, AName, Role, Close, Exactly, Item, Make, Part, SemanticAction, Symbol, Define, choice, is_punctuator, is_keyword, enters}
 use Rattle.grammar.specs.Laws.Naming.{LearnsName}
 use Rattle.grammar.specs.Laws.Parsing.{DerivesWithoutFault as Clean}
 use Rattle.grammar.specs.Laws.StateParts.{state}
@@ -30,14 +30,13 @@ use Rattle.grammar.proofs.Runs.{derived-add, faults_in-add}
 use Rattle.grammar_laws.proofs.Emitted.{emits_a_beginning}
 use Rattle.grammar_laws.specs.Emission.{and_then, on_choice, on_name, emitted, emissions, on_rule}
 use Rattle.parser.specs.Advancing.{HasAdvanced, Stopped}
-use Rattle.parser.specs.Matching.{Matches}
-use Rattle.parser.specs.Paths.{Ended, HasTold, Leads, Leaves, Origin, Path, Refused, StopsBehind}
+use Rattle.parser.specs.Paths.{Ended, HasTold, Leads, Origin, Path, Refused}
 use Rattle.parser.specs.Roles.{role_of}
 use Rattle.parser.specs.declared.roles.Declared.{Declared}
 use Rattle.parser.specs.declared.roles.Declared.TheVariants as kind
 use Rattle.parser.specs.ScopedCursors.{MayContinue, UnreadPosition, ScopedCursor, next_at, scope_of, taken_at, token_of, tokens_at, with_scope}
 use Rattle.parser.specs.Segment.{FailsAt, FailsItem, GoesPast, Refused as IsRefused, StopsAt, TakesTokens, account_after}
-use Rattle.parser.specs.Stopping.{Stop, StopsInside, stop_with}
+use Rattle.parser.specs.Stopping.{StopsInside, stop_with}
 use Rattle.parser.proofs.Items.{punctuator_stops, word_stops}
 use Rattle.parser.proofs.Parts.{within}
 use Rattle.parser.proofs.Productions.{EntersNone, WithAfter}

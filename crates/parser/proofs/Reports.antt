@@ -1,5 +1,5 @@
 -- Several actions that are reported one after another.
-use Rattle.std.proofs.Common.{List, [], ◌∷◌, ◌++◌}
+use Rattle.std.proofs.Common.{List, ◌∷◌, ◌++◌}
 use Rattle.grammar.specs.declared.actions.Action.{Action}
 use Rattle.grammar.specs.Building.{AppendsAll, MayFollow, MayFollowAll, Representation}
 use Rattle.grammar.proofs.RepresentationLaws.{may_first, may_then}

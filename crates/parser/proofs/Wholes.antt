@@ -45,7 +45,7 @@ use Rattle.parser.specs.Advancing.{IsReady}
 use Rattle.parser.specs.Automata.{Stands, Start, stack_of}
 use Rattle.parser.specs.Complete.{ADefinition, AMain, IsComplete, LacksDefinition}
 use Rattle.parser.specs.ParsedFiles.{BuildsAhead, FailsBytes, HasBuilt, LeavesUndecided, ParsesToFile, ParseIsRefused, StopsTaking, TakesNoMore, TakesUpTo}
-use Rattle.parser.specs.Paths.{HasTold, Leads, Origin, Path, Refused, StopsBehind}
+use Rattle.parser.specs.Paths.{HasTold, Leads, Origin, Path, Refused}
 use Rattle.parser.specs.ScopedCursors.{MayContinue, ScopedCursor, UnreadPosition, next_at, pools_in, scope_of, taken_at, token_of, tokens_at}
 use Rattle.parser.specs.Segment.{StopsFirst, StopsAtFirst, TakesTokens}
 use Rattle.parser.specs.Stopping.{NoFaultBefore, Stops, stop_with}

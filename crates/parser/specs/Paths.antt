@@ -1,5 +1,5 @@
 -- The derivation's path from the file's start to where the parser is, and where it ends.
-use Rattle.std.specs.Prelude.{ℕ, ◌≡◌, List, [], ◌∷◌, ◌++◌, drop, Option, Some, Result, Ok, Err}
+use Rattle.std.specs.Prelude.{ℕ, ◌≡◌, List, [], ◌++◌, drop, Option, Some}
 use Rattle.std.specs.Option.{option_map}
 use Rattle.tokens.specs.Device.{FailureCount}
 use Rattle.tokens.specs.Tokens.{tokens}

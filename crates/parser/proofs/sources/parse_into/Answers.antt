@@ -1,4 +1,4 @@
-use Rattle.std.proofs.Common.{rules, ◌≡◌, ◌∙◌, List, [], ◌∷◌, drop, refl}
+use Rattle.std.proofs.Common.{rules, ◌≡◌, ◌∙◌, [], drop, refl}
 use Rattle.std.proofs.lemmas.Result.{err_from_is_err_and}
 use Rattle.std.specs.Option.{option_map}
 use Rattle.tokens.specs.Tokens.{tokens}

@@ -1,7 +1,6 @@
-use Rattle.std.proofs.Common.{◌≡◌, ◌∙◌, refl, sym, subst, true, false}
+use Rattle.std.proofs.Common.{◌∙◌, refl, subst}
 use Rattle.std.proofs.lemmas.Result.{err_from_is_err_and}
 use Rattle.parser.specs.declared.frames.Front.{Front}
-use Rattle.parser.specs.declared.frames.Front.TheVariants as front
 use Rattle.parser.specs.Automata.{Stands}
 use Rattle.parser.proofs.AutomatonLaws.{has_more}
 use Rattle.parser.proofs.automaton.Automaton.run.Goals as goal

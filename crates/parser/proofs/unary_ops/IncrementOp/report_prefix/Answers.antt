@@ -1,4 +1,4 @@
-use Rattle.std.proofs.Common.{[], ◌∷◌, pos, sym}
+use Rattle.std.proofs.Common.{[], ◌∷◌, pos}
 use Rattle.grammar.specs.declared.actions.Action.TheVariants.{PushConstant, StoreVariable}
 use Rattle.grammar.proofs.RepresentationLaws.{appends_both, may_first}
 use Rattle.parser.specs.UnaryOps.{increment_store_op}
