@@ -68,7 +68,8 @@ moves_back denied stands next new r at frames same h =
 
 -- How many frames there are.
 
-pub nested_tails : (count floor : ℕ) (stack : List Item) → nested_count (tails count floor ++ stack) ≡ nested_count stack
+pub nested_tails : (count floor : ℕ) (stack : List Item) →
+    nested_count (tails count floor ++ stack) ≡ nested_count stack
 nested_tails zero floor stack = refl
 nested_tails (suc count) floor stack = nested_tails count floor stack
 
@@ -202,5 +203,6 @@ pub operand_done : {F B : Type 0} {o : Start B} {stands : B → Representation} 
     HasTold (stands o.builder) (stands new.builder.now) acts → new.frames ≡ at.frames → new.depth ≡ at.depth →
     Stands o stands (front.Operators floor) new
 operand_done {e = e} floor h path told frames depth =
-    operand_stands {values = AnExpr e ∷ h.values} h floor (rw frames path) told (rw (frames, depth) h.depth) (rw depth h.few)
+    operand_stands {values = AnExpr e ∷ h.values} h floor (rw frames path) told (rw (frames, depth) h.depth)
+    (rw depth h.few)
     (rw frames (record { least = h.fits.least; most = h.fits.most; takes = h.fits.takes; trees = h.fits.trees }))

@@ -94,10 +94,12 @@ operators_path {o} {values} {acts} {at} stack count floor none h = by (operator_
 module _ {o : Origin} {values : List PartialTree} {acts : List Action} {at : ScopedCursor} where
   -- An operator.
 
-  pub operator_path : (stack : List Item) (b : BinaryOperator) (floor : ℕ) (s : SpellsOperator b.level b.op (token_of at)) →
+  pub operator_path : (stack : List Item) (b : BinaryOperator) (floor : ℕ)
+      (s : SpellsOperator b.level b.op (token_of at)) →
       operator_from floor (token_of at) ≡ Some b →
       Path o (tails_to (operator_from floor (token_of at)) floor ++ stack) values acts at →
-      Path o (Exactly s.m ∷ Part (Level (b.level + 1)) ∷ Make (Operate b.op) ∷ tails (b.level + 1 - floor) floor ++ stack)
+      Path o
+      (Exactly s.m ∷ Part (Level (b.level + 1)) ∷ Make (Operate b.op) ∷ tails (b.level + 1 - floor) floor ++ stack)
       values (and_then acts (middle b.op)) at
   operator_path stack b floor s is h =
       let order : floor ≤ b.level = (found floor (token_of at) b is).1 in
@@ -108,7 +110,8 @@ module _ {o : Origin} {values : List PartialTree} {acts : List Action} {at : Sco
       let own : operator_at b.level (token_of at) ≡ Some b.op =
       at_its_own (token_of at) b (found floor (token_of at) b is).0 in
       rw whole
-      (chosen {more = middle b.op} (Tail b.level) (Exactly s.m ∷ Part (Level (b.level + 1)) ∷ Make (Operate b.op) ∷ Part (Tail b.level) ∷ [])
+      (chosen {more = middle b.op} (Tail b.level)
+      (Exactly s.m ∷ Part (Level (b.level + 1)) ∷ Make (Operate b.op) ∷ Part (Tail b.level) ∷ [])
       (λ after last. s.choice_is after) (λ after last. refl) (rw own refl)
       (subst (λ (xs : List Item). Path o (xs ++ stack) values acts at) whole
       (subst (λ (b : Option BinaryOperator). Path o (tails_to b floor ++ stack) values acts at) is h)))
@@ -123,7 +126,8 @@ module _ {o : Origin} {values : List PartialTree} {acts : List Action} {at : Sco
       (λ after last. plain_choice (token_of at) after (none_behind at.position after none last))
       (λ after last. plain_enters (token_of at) after (none_behind at.position after none last)) refl h)
 
-  pub store_path : {stack : List Item} (op : StoreOp) (a : IsAssignment at.position op) (s : SpellsStore op (token_after at)) →
+  pub store_path : {stack : List Item} (op : StoreOp) (a : IsAssignment at.position op)
+      (s : SpellsStore op (token_after at)) →
       nested_count stack < MOST_NESTED → Path o (Part Expression ∷ stack) values acts at →
       Path o (AName Mentioned ∷ Exactly s.m ∷ Part Expression ∷ Make (Store op) ∷ Close ∷ stack) values acts at
   store_path op a s few h =

@@ -122,7 +122,8 @@ module _ {o : Origin} {stack : List Item} {values : List PartialTree} {acts : Li
     leaves = tt;
   }
 
-module _ {o : Origin} {began before : Representation} {stack : List Item} {values : List PartialTree} {acts : List Action}
+module _ {o : Origin} {began before : Representation} {stack : List Item} {values : List PartialTree}
+    {acts : List Action}
     {at : ScopedCursor} where
   -- it may be reported, though the code may be too long
   pub end_follows : Path o (Make Define ∷ stack) values acts at → HasTold began before acts → began o.profile [] →

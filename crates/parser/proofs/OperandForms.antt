@@ -151,7 +151,8 @@ sign_chooses at s fits = record {
       (sign_choice s after);
 }
 
-pub sign_is_nested : (at : UnreadPosition) (s : UnaryOp) → is_punctuator (unary_punctuator s) (next_at at).token ≡ true →
+pub sign_is_nested : (at : UnreadPosition) (s : UnaryOp) →
+    is_punctuator (unary_punctuator s) (next_at at).token ≡ true →
     IsNested at Unary
 sign_is_nested at s fits after more =
     let t : (next_at at).token ≡ token.Punctuator (unary_punctuator s) =
@@ -343,7 +344,8 @@ constant_leads located_token value is depth in_scope rest = record {
       constant profile value stack (located_token ∷ rest) values in_scope functions sound found;
 }
 
-pub constant_stops : (used : ℕ) (at : UnreadPosition) (value : ℕ) (f : ParseFault) → (next_at at).token ≡ token.Constant value →
+pub constant_stops : (used : ℕ) (at : UnreadPosition) (value : ℕ) (f : ParseFault) →
+    (next_at at).token ≡ token.Constant value →
     Refused (StopsAt at) ⊥ used f → Refused (FailsItem AConstant at) ⊥ used f
 constant_stops used at value f is stop =
     refused_map used (StopsAt at) (FailsItem AConstant at) ⊥ ⊥ f

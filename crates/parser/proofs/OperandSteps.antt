@@ -48,7 +48,8 @@ module _ {o : Origin} {stack : List Item} {values : List PartialTree} {acts : Li
   pub primary_path : NoOperator (token_of at) → Path o (Part Unary ∷ stack) values acts at →
       Path o (Part Primary ∷ stack) values acts at
   primary_path n h =
-      chosen {more = []} Unary (Part Primary ∷ []) (λ after last. primary_choice (token_of at) after n.signs n.increments)
+      chosen {more = []} Unary (Part Primary ∷ [])
+      (λ after last. primary_choice (token_of at) after n.signs n.increments)
       (λ after last. primary_enters (token_of at) after n.signs) (primary_emits (token_of at) _ n.signs) h
 
   -- Constants and variables.
@@ -57,7 +58,8 @@ module _ {o : Origin} {stack : List Item} {values : List PartialTree} {acts : Li
       Path o (AConstant ∷ stack) values acts at
   constant_path value is h =
       chosen {more = []} Primary (AConstant ∷ []) (λ after last. rw is refl) (λ after last. rw is refl) refl
-      (chosen {more = []} Unary (Part Primary ∷ []) (λ after last. rw is refl) (λ after last. rw is refl) (rw is refl) h)
+      (chosen {more = []} Unary (Part Primary ∷ []) (λ after last. rw is refl) (λ after last. rw is refl) (rw is refl)
+      h)
 
   pub named_path : IsNamed (token_of at) → Path o (Part Unary ∷ stack) values acts at →
       Path o (Part Primary ∷ stack) values acts at
@@ -87,12 +89,14 @@ module _ {o : Origin} {stack : List Item} {values : List PartialTree} {acts : Li
 
   pub call_path : StartsCall at → nested_count stack < MOST_NESTED → Path o (Part Unary ∷ stack) values acts at →
       Path o
-      (AName Called ∷ Exactly punctuator.OpenRound ∷ Part Arguments ∷ Exactly punctuator.CloseRound ∷ Make Invoke ∷ Close
+      (AName Called ∷ Exactly punctuator.OpenRound ∷ Part Arguments ∷ Exactly punctuator.CloseRound ∷ Make Invoke ∷
+      Close
       ∷ stack) values acts at
   call_path starts few h =
       let n : IsNamed (token_of at) = is_named _ starts.named in
       opened {more = []} Primary
-      (AName Called ∷ Exactly punctuator.OpenRound ∷ Part Arguments ∷ Exactly punctuator.CloseRound ∷ Make Invoke ∷ Close
+      (AName Called ∷ Exactly punctuator.OpenRound ∷ Part Arguments ∷ Exactly punctuator.CloseRound ∷ Make Invoke ∷
+      Close
       ∷ []) (call_chooses at.position n starts.is).is few refl (named_path n h)
 
   pub no_arguments_path : is_punctuator punctuator.CloseRound (token_of at) ≡ true →
@@ -119,11 +123,13 @@ module _ {o : Origin} {stack : List Item} {values : List PartialTree} {acts : Li
   pub last_argument_path : is_punctuator punctuator.Comma (token_of at) ≡ false →
       Path o (Part MoreArguments ∷ stack) values acts at → Path o stack values acts at
   last_argument_path other h =
-      chosen {more = []} MoreArguments [] (λ after last. end_choice (token_of at) after other) (λ after last. refl) refl h
+      chosen {more = []} MoreArguments [] (λ after last. end_choice (token_of at) after other) (λ after last. refl) refl
+      h
 
   -- Brackets.
 
-  pub bracketed_path : is_punctuator punctuator.OpenRound (token_of at) ≡ true → Path o (Part Unary ∷ stack) values acts at →
+  pub bracketed_path : is_punctuator punctuator.OpenRound (token_of at) ≡ true →
+      Path o (Part Unary ∷ stack) values acts at →
       Path o (Part Primary ∷ stack) values acts at
   bracketed_path is h =
       let t = punctuator_is punctuator.OpenRound (token_of at) is in
@@ -131,7 +137,8 @@ module _ {o : Origin} {stack : List Item} {values : List PartialTree} {acts : Li
 
   pub bracket_path : is_punctuator punctuator.OpenRound (token_of at) ≡ true → nested_count stack < MOST_NESTED →
       Path o (Part Unary ∷ stack) values acts at →
-      Path o (Exactly punctuator.OpenRound ∷ Part Expression ∷ Exactly punctuator.CloseRound ∷ Close ∷ stack) values acts at
+      Path o (Exactly punctuator.OpenRound ∷ Part Expression ∷ Exactly punctuator.CloseRound ∷ Close ∷ stack) values
+      acts at
   bracket_path is few h =
       opened {more = []} Primary
       (Exactly punctuator.OpenRound ∷ Part Expression ∷ Exactly punctuator.CloseRound ∷ Close ∷ [])
@@ -147,7 +154,8 @@ module _ {o : Origin} {stack : List Item} {values : List PartialTree} {acts : Li
 
   -- No operand.
 
-  pub operand_misfits : {denied : Type 0} {told : List Action → Type 0} → NoOperator (token_of at) → NoPrimary (token_of at) →
+  pub operand_misfits : {denied : Type 0} {told : List Action → Type 0} → NoOperator (token_of at) →
+      NoPrimary (token_of at) →
       Path o (Part Unary ∷ stack) values acts at →
       Refused o denied told
       (parse_fault.Source (diagnostic (next_at at.position).line (unexpected_token_code (token_of at)))) at

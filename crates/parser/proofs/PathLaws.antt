@@ -367,7 +367,8 @@ here : (at : ScopedCursor) (f : ParseFault) → at.account ≡ account_after at.
 here at f same = record { borrows = refl; account = same; took = record { rest = λ total h. h } }
 
 -- A call of the cursor was refused within these items.
-pub falls : {o : Origin} {denied : Type 0} {told : List Action → Type 0} {values : List PartialTree} {acts : List Action}
+pub falls : {o : Origin} {denied : Type 0} {told : List Action → Type 0} {values : List PartialTree}
+    {acts : List Action}
     {at there : ScopedCursor} (front stack : List Item) (f : ParseFault) → Path o (front ++ stack) values acts at →
     told acts → Stopped f at there →
     IsRefused (λ stop. (depth : ℕ) → FailsAt depth front [] at.position stop) ⊥ (taken_at there.position) f →
@@ -380,7 +381,8 @@ falls front stack parse_fault.Memory h t s r = absurd r.0
 
 -- The next token fits, and the one after it is a lexical error, or the device failed.
 
-pub word_falls : {o : Origin} {denied : Type 0} {told : List Action → Type 0} {stack : List Item} {values : List PartialTree}
+pub word_falls : {o : Origin} {denied : Type 0} {told : List Action → Type 0} {stack : List Item}
+    {values : List PartialTree}
     {acts : List Action} {at there : ScopedCursor} {f : ParseFault} (w : Keyword) → is_keyword w (token_of at) ≡ true →
     told acts → Stopped f at there → IsRefused (StopsAt at.position) ⊥ (taken_at there.position) f →
     Path o (AKeyword w ∷ stack) values acts at → Refused o denied told f there
@@ -412,7 +414,8 @@ out_of_memory {stack = stack} {at = at} h asks = record {
 }
 
 -- the next token has a fault
-pub faulty : {o : Origin} {denied : Type 0} {told : List Action → Type 0} {values : List PartialTree} {acts : List Action}
+pub faulty : {o : Origin} {denied : Type 0} {told : List Action → Type 0} {values : List PartialTree}
+    {acts : List Action}
     {at : ScopedCursor} {d : Diagnostic} (front stack : List Item) → Path o (front ++ stack) values acts at →
     FailsAt (nested_count stack) front [] at.position (stop_with (parse_fault.Source d) (taken_at at.position)) →
     Refused o denied told (parse_fault.Source d) at
@@ -421,7 +424,8 @@ faulty {at = at} front stack h fails =
 
 -- What was told a builder, and what may be.
 
-pub told_more : {began now : Representation} (after : Representation) (acts : List Action) {more : List Action} → AppendsAll now after more →
+pub told_more : {began now : Representation} (after : Representation) (acts : List Action) {more : List Action} →
+    AppendsAll now after more →
     HasTold began now acts → HasTold began after (acts ++ more)
 told_more after acts added told = record { each = λ profile new. added profile _ (told.each profile new) }
 

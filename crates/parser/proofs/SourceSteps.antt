@@ -61,7 +61,8 @@ no_block_enters t after other = refl
 
 -- what follows the opening brace of a function's block
 abbrev pub in_function : List Item
-in_function = Make Empty ∷ Part Declarations ∷ Part Statements ∷ Make Define ∷ Exactly punctuator.CloseCurly ∷ Close ∷ []
+in_function =
+    Make Empty ∷ Part Declarations ∷ Part Statements ∷ Make Define ∷ Exactly punctuator.CloseCurly ∷ Close ∷ []
 
 module _ {o : Origin} {stack : List Item} {values : List PartialTree} {acts : List Action} {at : ScopedCursor} where
   -- A file's parts.
@@ -100,8 +101,11 @@ module _ {o : Origin} {stack : List Item} {values : List PartialTree} {acts : Li
       Path o (definition_items ++ stack) values acts at
   head_definition_path name is call h =
       chosen {more = []} Head definition_items
-      (λ after last. rw (is, after_name at.position after (record { name = name; is = is }) last,
-      punctuator_is punctuator.OpenRound (token_after at) call) refl) (λ after last. refl) refl h
+      (λ after last. rw (
+        is,
+        after_name at.position after (record { name = name; is = is }) last,
+        punctuator_is punctuator.OpenRound (token_after at) call,
+      ) refl) (λ after last. refl) refl h
 
   pub external_path : (name : List ℕ) → token_of at ≡ token.Name name →
       is_punctuator punctuator.OpenRound (token_after at) ≡ false → Path o (Part Head ∷ stack) values acts at →
@@ -111,7 +115,8 @@ module _ {o : Origin} {stack : List Item} {values : List PartialTree} {acts : Li
       (λ after last. rw (is, after_name at.position after (record { name = name; is = is }) last)
       (external_choice name (token_after at) other)) (λ after last. refl) refl h
 
-  pub head_misfits : {denied : Type 0} {told : List Action → Type 0} → ((name : List ℕ) → token_of at ≡ token.Name name → ⊥) →
+  pub head_misfits : {denied : Type 0} {told : List Action → Type 0} →
+      ((name : List ℕ) → token_of at ≡ token.Name name → ⊥) →
       Path o (Part Head ∷ stack) values acts at →
       Refused o denied told
       (parse_fault.Source (diagnostic (next_at at.position).line (unexpected_token_code (token_of at)))) at

@@ -20,7 +20,8 @@ use Rattle.parser.proofs.Parts.{punctuator_is, word_is}
 use Rattle.parser.proofs.PathLaws.{chosen, opened}
 
 module _ {o : Origin} {stack : List Item} {values : List PartialTree} {acts : List Action} {at : ScopedCursor} where
-  pub empty_path : is_punctuator punctuator.Semicolon (token_of at) ≡ true → Path o (Part Statement ∷ stack) values acts at →
+  pub empty_path : is_punctuator punctuator.Semicolon (token_of at) ≡ true →
+      Path o (Part Statement ∷ stack) values acts at →
       Path o (Exactly punctuator.Semicolon ∷ stack) values acts at
   empty_path is h =
       chosen {more = []} Statement (Exactly punctuator.Semicolon ∷ []) (λ after last. empty_chosen _ is after)
@@ -30,7 +31,8 @@ module _ {o : Origin} {stack : List Item} {values : List PartialTree} {acts : Li
       Path o (Part Statement ∷ stack) values acts at →
       Path o (AKeyword keyword.If ∷ conditioned behind_if ++ stack) values acts at
   if_path is few h =
-      opened {more = []} Statement (AKeyword keyword.If ∷ conditioned behind_if) (λ after last. if_chosen _ is after) few
+      opened {more = []} Statement (AKeyword keyword.If ∷ conditioned behind_if) (λ after last. if_chosen _ is after)
+      few
       (rw (word_is keyword.If (token_of at) is) refl) h
 
   pub else_path : is_keyword keyword.Else (token_of at) ≡ true → Path o (Part ElsePart ∷ stack) values acts at →
@@ -42,7 +44,8 @@ module _ {o : Origin} {stack : List Item} {values : List PartialTree} {acts : Li
   pub no_else_path : is_keyword keyword.Else (token_of at) ≡ false → Path o (Part ElsePart ∷ stack) values acts at →
       Path o (Make Decide ∷ stack) values acts at
   no_else_path other h =
-      chosen {more = []} ElsePart (Make Decide ∷ []) (λ after last. no_else_chosen _ other after) (λ after last. refl) refl
+      chosen {more = []} ElsePart (Make Decide ∷ []) (λ after last. no_else_chosen _ other after) (λ after last. refl)
+      refl
       h
 
   pub while_path : is_keyword keyword.While (token_of at) ≡ true → nested_count stack < MOST_NESTED →
@@ -65,10 +68,12 @@ module _ {o : Origin} {stack : List Item} {values : List PartialTree} {acts : Li
   zero_path is h =
       chosen {more = []} Back (Make Zero ∷ []) (λ after last. zero_chosen _ is after) (λ after last. refl) refl h
 
-  pub value_path : is_punctuator punctuator.Semicolon (token_of at) ≡ false → Path o (Part Back ∷ stack) values acts at →
+  pub value_path : is_punctuator punctuator.Semicolon (token_of at) ≡ false →
+      Path o (Part Back ∷ stack) values acts at →
       Path o (Part Expression ∷ stack) values acts at
   value_path other h =
-      chosen {more = []} Back (Part Expression ∷ []) (λ after last. value_chosen _ other after) (λ after last. refl) refl h
+      chosen {more = []} Back (Part Expression ∷ []) (λ after last. value_chosen _ other after) (λ after last. refl)
+      refl h
 
   pub evaluation_path : begins_statement (token_of at) ≡ false → Path o (Part Statement ∷ stack) values acts at →
       Path o (Part Expression ∷ Exactly punctuator.Semicolon ∷ Make Evaluate ∷ stack) values acts at
@@ -86,7 +91,8 @@ module _ {o : Origin} {stack : List Item} {values : List PartialTree} {acts : Li
       emits token.End scope plain = refl
       emits (token.Fault lexical_error) scope plain = refl
 
-  pub block_path : is_punctuator punctuator.OpenCurly (token_of at) ≡ true → Path o (Part Statement ∷ stack) values acts at →
+  pub block_path : is_punctuator punctuator.OpenCurly (token_of at) ≡ true →
+      Path o (Part Statement ∷ stack) values acts at →
       Path o (Part Block ∷ stack) values acts at
   block_path is h =
       let b : BeginsBlock (token_of at) = begins_block (token_of at) is in

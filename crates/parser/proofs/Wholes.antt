@@ -147,7 +147,8 @@ whole {o} {acts} {at} p is =
       reports = sym after.emits
           ∙ emits_its_functions (p.steps + 1) (p.consumed ++ next) (ap (λ (s : State). s.stack) after.comes)
           ∙ ap (λ (s : State). definitions_actions s.functions) after.comes;
-      begins = subst IsBeginning after.emits (emits_a_beginning o.profile (p.steps + 1) (p.consumed ++ next) after.clean);
+      begins = subst IsBeginning after.emits
+          (emits_a_beginning o.profile (p.steps + 1) (p.consumed ++ next) after.clean);
       tells = λ bytes shows.
           (p.told (tokens bytes) (ap (option_map tokens) shows)).is
           ∙ ap (λ (ls : List LocatedToken). p.consumed ++ ls) (alone bytes shows);
@@ -176,7 +177,8 @@ reads_of {o = o} {at = at} h = record {
   acts = h.acts;
   is = whole
       (subst (λ (fs : List Frame). Path o.origin (AnEnd ∷ stack_of fs) [] h.acts at.tokens) h.fits.0
-      (subst (λ (vs : List PartialTree). Path o.origin (AnEnd ∷ stack_of at.frames) vs h.acts at.tokens) h.fits.1 h.path))
+      (subst (λ (vs : List PartialTree). Path o.origin (AnEnd ∷ stack_of at.frames) vs h.acts at.tokens) h.fits.1
+      h.path))
       h.fits.2;
   tells = h.told;
 }
@@ -192,7 +194,8 @@ one_end : (p q : Profile) (ls ms : List LocatedToken) (scope : Scope) (fs gs : L
     PassesAll p ls scope fs → PassesAll q ms scope gs → fs ≡ gs
 one_end p q ls ms scope fs gs same a b =
     let back : derived b.steps (initial_state ls) ≡ state [] [] [] scope gs =
-    subst (λ (xs : List LocatedToken). derived b.steps (initial_state xs) ≡ state [] [] [] scope gs) (sym same) b.leads in
+    subst (λ (xs : List LocatedToken). derived b.steps (initial_state xs) ≡ state [] [] [] scope gs) (sym same) b.leads
+    in
     let one : derived (a.steps + b.steps) (initial_state ls) ≡ state [] [] [] scope fs =
     derived-add a.steps b.steps (initial_state ls) ∙ ap (λ (s : State). derived b.steps s) a.leads
     ∙ stays_final b.steps (state [] [] [] scope fs) refl in
@@ -246,7 +249,8 @@ module _ {began left : Representation} {told : Option (List ℕ)} {at : ScopedCu
       FailsBytes began told (diagnostic line fault_code.FunctionNotDefined)
   lacks_definition line is bytes shows profile h =
       let q : Reads began left told at profile = reads profile h in
-      compiled_as profile bytes (all_of q) (Err (diagnostic line fault_code.FunctionNotDefined)) (q.is.tells bytes shows)
+      compiled_as profile bytes (all_of q) (Err (diagnostic line fault_code.FunctionNotDefined))
+      (q.is.tells bytes shows)
       (undefined profile (all_of q) (scope_of at) q.is.functions line q.is.passes is)
 
   lacks_main : line_of_undefined 0 (scope_of at).lines (scope_of at).begun ≡ None →
@@ -343,7 +347,8 @@ builds_by after profile bytes to_come used s took more stands =
     }
 
 -- a refusal by each profile
-abbrev pub AreRefused : (began left : Representation) (denied : Type 0) (told : Option (List ℕ)) (account : FailureCount)
+abbrev pub AreRefused : (began left : Representation) (denied : Type 0) (told : Option (List ℕ))
+    (account : FailureCount)
     (borrows : ℕ × ℕ) (at : ScopedCursor) → ParseFault → Type 0
 AreRefused began left denied told account borrows at f =
     (profile : Profile) → began profile [] →
@@ -394,7 +399,8 @@ first_fails before told told' d stops bytes shows profile h =
     (d ≡ diagnostic (line_at (tokens bytes)) (unexpected_token_code (next_token (tokens bytes)))) =
     stops.refused.lexical_error (tokens bytes) (ap (option_map tokens) shows) in
     compiled_as profile bytes (tokens bytes) (Err d) refl
-    (fault_verdict profile (tokens bytes) d (rw s.1 (at_fault profile (Part Source ∷ []) (tokens bytes) [] no_names [] s.0)))
+    (fault_verdict profile (tokens bytes) d
+    (rw s.1 (at_fault profile (Part Source ∷ []) (tokens bytes) [] no_names [] s.0)))
 
 pub first_taking : (before : Representation) (told to_come : Option (List ℕ)) (f : ParseFault) →
     StopsAtFirst told to_come f →

@@ -87,8 +87,7 @@ impl<F: Feed, B: Build> Automaton<'_, '_, '_, F, B> {
         if !is_punctuator(&self.tokens.peek().token, Punctuator::OpenCurly) {
             return Err(self.tokens.unexpected_token());
         }
-        self.builder
-            .act(Action::BeginFunction(number, self.tokens.parameter_count()))?;
+        self.builder.act(Action::BeginFunction(number, self.tokens.parameter_count()))?;
         self.tokens.advance()?;
         declarations(&mut self.tokens, Declared::Locals)?;
         self.depth += 1;

@@ -42,8 +42,14 @@ run-read-requires g c =
     } in
     let profile = c.requires.new.0.profile in
     let new = c.requires.new.0.stands in
-    record { at = record { start = (record { origin = from told account c.new-parser.result.borrows profile; builder = c.args.build.now });
-    is = (begins g.B.Build.stands told account _ c.new-frames.ensures refl shows nothing counted took ready profile new) } }
+    record {
+      at = record {
+        start = (record { origin = from told account c.new-parser.result.borrows profile; builder = c.args.build.now });
+        is =
+            (begins g.B.Build.stands told account _ c.new-frames.ensures refl shows nothing counted took ready profile
+            new);
+      };
+    }
 
 pub returns-in_err-read-clause-refused : goal.returns-in_err-read-clause-refused
 returns-in_err-read-clause-refused g c =
@@ -62,13 +68,18 @@ returns-in_err-read-clause-refused g c =
       near = rw c.new-parser.ensures.position c.in_ok-open_cursor.ensures.ready.near;
       count = rw counted c.requires.ready.countable;
     } in
-    let refused = λ (profile : Profile) (new : g.B.Build.stands c.args.build.now profile []). c.in_err-read.ensures.runs (record { origin = from told account c.new-parser.result.borrows profile; builder = c.args.build.now })
+    let refused =
+    λ (profile : Profile) (new : g.B.Build.stands c.args.build.now profile []). c.in_err-read.ensures.runs
+    (record { origin = from told account c.new-parser.result.borrows profile; builder = c.args.build.now })
     (begins g.B.Build.stands told account _ c.new-frames.ensures refl shows nothing counted took ready profile new) in
     let p = err_from_is_err_and c.from_residual-in_err-read.result c.from_residual-in_err-read.ensures.1 in
     rw (p.1, p.2) (refused_left (g.B.Build.stands c.args.build.now) _
     (g.B.Build.stands c.run-read.new.self.builder.now) g.B.Build.denied told _ c.in_err-read.field-0.0
     (λ profile acts h. search (rules, h))
-    (stopped c.in_err-read.field-0.0 c.requires.new.0.profile c.requires.new.0.stands (has_taken c.run-read.new.self.tokens told _ (refused c.requires.new.0.profile c.requires.new.0.stands).ended.took (search rules) c.into_parts-names.ensures.limited) refused))
+    (stopped c.in_err-read.field-0.0 c.requires.new.0.profile c.requires.new.0.stands
+    (has_taken c.run-read.new.self.tokens told _
+    (refused c.requires.new.0.profile c.requires.new.0.stands).ended.took (search rules)
+    c.into_parts-names.ensures.limited) refused))
 
 pub returns-in_err-read-clause-taken : goal.returns-in_err-read-clause-taken
 returns-in_err-read-clause-taken g c =
@@ -87,10 +98,16 @@ returns-in_err-read-clause-taken g c =
       near = rw c.new-parser.ensures.position c.in_ok-open_cursor.ensures.ready.near;
       count = rw counted c.requires.ready.countable;
     } in
-    let refused = λ (profile : Profile) (new : g.B.Build.stands c.args.build.now profile []). c.in_err-read.ensures.runs (record { origin = from told account c.new-parser.result.borrows profile; builder = c.args.build.now })
+    let refused =
+    λ (profile : Profile) (new : g.B.Build.stands c.args.build.now profile []). c.in_err-read.ensures.runs
+    (record { origin = from told account c.new-parser.result.borrows profile; builder = c.args.build.now })
     (begins g.B.Build.stands told account _ c.new-frames.ensures refl shows nothing counted took ready profile new) in
     let p = err_from_is_err_and c.from_residual-in_err-read.result c.from_residual-in_err-read.ensures.1 in
-    rw (p.1, p.2) (stops_taking c.in_err-read.field-0.0 (has_taken c.run-read.new.self.tokens told _ (refused c.requires.new.0.profile c.requires.new.0.stands).ended.took (search rules) c.into_parts-names.ensures.limited) refused)
+    rw (p.1, p.2)
+    (stops_taking c.in_err-read.field-0.0
+    (has_taken c.run-read.new.self.tokens told _
+    (refused c.requires.new.0.profile c.requires.new.0.stands).ended.took (search rules)
+    c.into_parts-names.ensures.limited) refused)
 
 pub returns-in_err-read-clause-counted : goal.returns-in_err-read-clause-counted
 returns-in_err-read-clause-counted g c =
@@ -109,7 +126,9 @@ returns-in_err-read-clause-counted g c =
       near = rw c.new-parser.ensures.position c.in_ok-open_cursor.ensures.ready.near;
       count = rw counted c.requires.ready.countable;
     } in
-    let refused = λ (profile : Profile) (new : g.B.Build.stands c.args.build.now profile []). c.in_err-read.ensures.runs (record { origin = from told account c.new-parser.result.borrows profile; builder = c.args.build.now })
+    let refused =
+    λ (profile : Profile) (new : g.B.Build.stands c.args.build.now profile []). c.in_err-read.ensures.runs
+    (record { origin = from told account c.new-parser.result.borrows profile; builder = c.args.build.now })
     (begins g.B.Build.stands told account _ c.new-frames.ensures refl shows nothing counted took ready profile new) in
     let p = err_from_is_err_and c.from_residual-in_err-read.result c.from_residual-in_err-read.ensures.1 in
     rw (p.1, p.2) (search (rules, (refused c.requires.new.0.profile c.requires.new.0.stands).ended.account))
@@ -131,9 +150,12 @@ returns-in_err-checked-clause-refused g c =
       near = rw c.new-parser.ensures.position c.in_ok-open_cursor.ensures.ready.near;
       count = rw counted c.requires.ready.countable;
     } in
-    let stand = λ (profile : Profile) (new : g.B.Build.stands c.args.build.now profile []). c.in_ok-read.ensures.runs (record { origin = from told account c.new-parser.result.borrows profile; builder = c.args.build.now })
+    let stand =
+    λ (profile : Profile) (new : g.B.Build.stands c.args.build.now profile []). c.in_ok-read.ensures.runs
+    (record { origin = from told account c.new-parser.result.borrows profile; builder = c.args.build.now })
     (begins g.B.Build.stands told account _ c.new-frames.ensures refl shows nothing counted took ready profile new) in
-    let reads = λ (profile : Profile) (new : g.B.Build.stands c.args.build.now profile []). reads_of (stand profile new) in
+    let reads =
+    λ (profile : Profile) (new : g.B.Build.stands c.args.build.now profile []). reads_of (stand profile new) in
     let p = err_from_is_err_and c.from_residual-in_err-checked.result c.from_residual-in_err-checked.ensures.1 in
     rw (p.1, p.2) (refused_left (g.B.Build.stands c.args.build.now) _
     (g.B.Build.stands c.run-read.new.self.builder.now) g.B.Build.denied told _ c.in_err-checked.field-0.0
@@ -157,11 +179,16 @@ returns-in_err-checked-clause-taken g c =
       near = rw c.new-parser.ensures.position c.in_ok-open_cursor.ensures.ready.near;
       count = rw counted c.requires.ready.countable;
     } in
-    let stand = λ (profile : Profile) (new : g.B.Build.stands c.args.build.now profile []). c.in_ok-read.ensures.runs (record { origin = from told account c.new-parser.result.borrows profile; builder = c.args.build.now })
+    let stand =
+    λ (profile : Profile) (new : g.B.Build.stands c.args.build.now profile []). c.in_ok-read.ensures.runs
+    (record { origin = from told account c.new-parser.result.borrows profile; builder = c.args.build.now })
     (begins g.B.Build.stands told account _ c.new-frames.ensures refl shows nothing counted took ready profile new) in
-    let reads = λ (profile : Profile) (new : g.B.Build.stands c.args.build.now profile []). reads_of (stand profile new) in
+    let reads =
+    λ (profile : Profile) (new : g.B.Build.stands c.args.build.now profile []). reads_of (stand profile new) in
     let p = err_from_is_err_and c.from_residual-in_err-checked.result c.from_residual-in_err-checked.ensures.1 in
-    rw (p.1, p.2) (lacks_taking reads (stand c.requires.new.0.profile c.requires.new.0.stands).path.ready (has_taken c.run-read.new.self.tokens told _ (stand c.requires.new.0.profile c.requires.new.0.stands).path.took (search rules) c.into_parts-names.ensures.limited)
+    rw (p.1, p.2) (lacks_taking reads (stand c.requires.new.0.profile c.requires.new.0.stands).path.ready
+    (has_taken c.run-read.new.self.tokens told _ (stand c.requires.new.0.profile c.requires.new.0.stands).path.took
+    (search rules) c.into_parts-names.ensures.limited)
     c.in_err-checked.ensures.lacks)
 
 pub returns-in_err-checked-clause-counted : goal.returns-in_err-checked-clause-counted
@@ -181,11 +208,19 @@ returns-in_err-checked-clause-counted g c =
       near = rw c.new-parser.ensures.position c.in_ok-open_cursor.ensures.ready.near;
       count = rw counted c.requires.ready.countable;
     } in
-    let stand = λ (profile : Profile) (new : g.B.Build.stands c.args.build.now profile []). c.in_ok-read.ensures.runs (record { origin = from told account c.new-parser.result.borrows profile; builder = c.args.build.now })
+    let stand =
+    λ (profile : Profile) (new : g.B.Build.stands c.args.build.now profile []). c.in_ok-read.ensures.runs
+    (record { origin = from told account c.new-parser.result.borrows profile; builder = c.args.build.now })
     (begins g.B.Build.stands told account _ c.new-frames.ensures refl shows nothing counted took ready profile new) in
-    let reads = λ (profile : Profile) (new : g.B.Build.stands c.args.build.now profile []). reads_of (stand profile new) in
+    let reads =
+    λ (profile : Profile) (new : g.B.Build.stands c.args.build.now profile []). reads_of (stand profile new) in
     let p = err_from_is_err_and c.from_residual-in_err-checked.result c.from_residual-in_err-checked.ensures.1 in
-    rw (p.1, p.2) (search (rules, (stand c.requires.new.0.profile c.requires.new.0.stands).path.account, c.in_err-checked.ensures.lacks))
+    rw (p.1, p.2)
+    (search (
+      rules,
+      (stand c.requires.new.0.profile c.requires.new.0.stands).path.account,
+      c.in_err-checked.ensures.lacks,
+    ))
 
 pub returns-clause-file : goal.returns-clause-file
 returns-clause-file g c =
@@ -204,9 +239,12 @@ returns-clause-file g c =
       near = rw c.new-parser.ensures.position c.in_ok-open_cursor.ensures.ready.near;
       count = rw counted c.requires.ready.countable;
     } in
-    let stand = λ (profile : Profile) (new : g.B.Build.stands c.args.build.now profile []). c.in_ok-read.ensures.runs (record { origin = from told account c.new-parser.result.borrows profile; builder = c.args.build.now })
+    let stand =
+    λ (profile : Profile) (new : g.B.Build.stands c.args.build.now profile []). c.in_ok-read.ensures.runs
+    (record { origin = from told account c.new-parser.result.borrows profile; builder = c.args.build.now })
     (begins g.B.Build.stands told account _ c.new-frames.ensures refl shows nothing counted took ready profile new) in
-    let reads = λ (profile : Profile) (new : g.B.Build.stands c.args.build.now profile []). reads_of (stand profile new) in
+    let reads =
+    λ (profile : Profile) (new : g.B.Build.stands c.args.build.now profile []). reads_of (stand profile new) in
     file_left g.B.Build.stands _ _ c.run-read.new.self.builder.now _ _ (search rules)
     (whole_file c.requires.new.0.profile c.requires.new.0.stands reads c.in_ok-checked.ensures.complete (search rules))
 
@@ -227,10 +265,15 @@ returns-clause-taken g c =
       near = rw c.new-parser.ensures.position c.in_ok-open_cursor.ensures.ready.near;
       count = rw counted c.requires.ready.countable;
     } in
-    let stand = λ (profile : Profile) (new : g.B.Build.stands c.args.build.now profile []). c.in_ok-read.ensures.runs (record { origin = from told account c.new-parser.result.borrows profile; builder = c.args.build.now })
+    let stand =
+    λ (profile : Profile) (new : g.B.Build.stands c.args.build.now profile []). c.in_ok-read.ensures.runs
+    (record { origin = from told account c.new-parser.result.borrows profile; builder = c.args.build.now })
     (begins g.B.Build.stands told account _ c.new-frames.ensures refl shows nothing counted took ready profile new) in
-    let reads = λ (profile : Profile) (new : g.B.Build.stands c.args.build.now profile []). reads_of (stand profile new) in
-    whole_takes reads (stand c.requires.new.0.profile c.requires.new.0.stands).path.ready (has_taken c.run-read.new.self.tokens told _ (stand c.requires.new.0.profile c.requires.new.0.stands).path.took (search rules) c.into_parts-names.ensures.limited)
+    let reads =
+    λ (profile : Profile) (new : g.B.Build.stands c.args.build.now profile []). reads_of (stand profile new) in
+    whole_takes reads (stand c.requires.new.0.profile c.requires.new.0.stands).path.ready
+    (has_taken c.run-read.new.self.tokens told _ (stand c.requires.new.0.profile c.requires.new.0.stands).path.took
+    (search rules) c.into_parts-names.ensures.limited)
 
 pub returns-clause-counted : goal.returns-clause-counted
 returns-clause-counted g c =
@@ -249,7 +292,10 @@ returns-clause-counted g c =
       near = rw c.new-parser.ensures.position c.in_ok-open_cursor.ensures.ready.near;
       count = rw counted c.requires.ready.countable;
     } in
-    let stand = λ (profile : Profile) (new : g.B.Build.stands c.args.build.now profile []). c.in_ok-read.ensures.runs (record { origin = from told account c.new-parser.result.borrows profile; builder = c.args.build.now })
+    let stand =
+    λ (profile : Profile) (new : g.B.Build.stands c.args.build.now profile []). c.in_ok-read.ensures.runs
+    (record { origin = from told account c.new-parser.result.borrows profile; builder = c.args.build.now })
     (begins g.B.Build.stands told account _ c.new-frames.ensures refl shows nothing counted took ready profile new) in
-    let reads = λ (profile : Profile) (new : g.B.Build.stands c.args.build.now profile []). reads_of (stand profile new) in
+    let reads =
+    λ (profile : Profile) (new : g.B.Build.stands c.args.build.now profile []). reads_of (stand profile new) in
     search (rules, (stand c.requires.new.0.profile c.requires.new.0.stands).path.account)

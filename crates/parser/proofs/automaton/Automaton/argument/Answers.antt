@@ -17,7 +17,8 @@ returns-then-not-is_punctuator-clause-moves g c =
     λ o h.
     let x = has_expr _ h.values (done_at 0 h.fits h.fits.takes.0).1 in
     let y = has_call c.args.callee _ x.rest x.below in
-    comes_to h (last_argument_path other (made AddArgument tt (valued (on_both x.is y.is) h.path))) h.told (closes c.args.floor _ c.args.self.now.frames h.depth) (omega (arith, h.few))
+    comes_to h (last_argument_path other (made AddArgument tt (valued (on_both x.is y.is) h.path))) h.told
+    (closes c.args.floor _ c.args.self.now.frames h.depth) (omega (arith, h.few))
     (record { least = h.fits.takes.1; most = h.fits.takes.2; takes = h.fits.takes.3; trees = (refl, y.below) })
 
 pub returns-in_err-advance-clause-moves : goal.returns-in_err-advance-clause-moves
@@ -34,7 +35,8 @@ pub push-requires : goal.push-requires
 push-requires g c =
     let h = c.requires.at.is in
     has_room _ c.args.floor h.fits.takes.2 h.fits.takes.3
-    (let few : nested_count (all_tails c.args.floor ++ stack_of c.args.self.now.frames) + 1 ≡ c.args.self.now.depth = h.depth in
+    (let few : nested_count (all_tails c.args.floor ++ stack_of c.args.self.now.frames) + 1 ≡ c.args.self.now.depth =
+    h.depth in
     let most : c.args.self.now.depth ≤ 64 = h.few in
     omega (arith, few, most, nested_tails (11 - c.args.floor) c.args.floor (stack_of c.args.self.now.frames)))
 

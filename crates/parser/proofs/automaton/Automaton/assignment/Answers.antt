@@ -26,13 +26,15 @@ returns-in_err-var-clause-moves g c =
     let s = sign_of _ c.args.op a in
     let p = err_from_is_err_and c.from_residual-in_err-var.result c.from_residual-in_err-var.ensures.1 in
     rw (p.1, p.2) (λ o h.
-    falls (AName Mentioned ∷ []) _ c.in_err-var.field-0.0 (store_path c.args.op a s (rw h.depth c.in_ok-check_nesting.ensures.ok) h.path) h.told c.in_err-var.ensures.kept
+    falls (AName Mentioned ∷ []) _ c.in_err-var.field-0.0
+    (store_path c.args.op a s (rw h.depth c.in_ok-check_nesting.ensures.ok) h.path) h.told c.in_err-var.ensures.kept
     c.in_err-var.ensures.matches)
 
 pub advance-requires : goal.advance-requires
 advance-requires g c =
     record {
-      more = sign_goes_on _ _ c.args.op c.in_ok-var.var (assigned c.args.op c.requires.starts) c.in_ok-var.ensures.matches;
+      more = sign_goes_on _ _ c.args.op c.in_ok-var.var (assigned c.args.op c.requires.starts)
+          c.in_ok-var.ensures.matches;
       ready = c.in_ok-var.ensures.kept.ready;
     }
 
@@ -42,7 +44,8 @@ returns-in_err-advance-clause-moves g c =
     let s = sign_of _ c.args.op a in
     let p = err_from_is_err_and c.from_residual-in_err-advance.result c.from_residual-in_err-advance.ensures.1 in
     rw (p.1, p.2) (λ o h.
-    punctuator_falls s.m (sign_fits _ _ c.args.op c.in_ok-var.var a c.in_ok-var.ensures.matches s) h.told c.in_err-advance.ensures.kept c.in_err-advance.ensures.consumes
+    punctuator_falls s.m (sign_fits _ _ c.args.op c.in_ok-var.var a c.in_ok-var.ensures.matches s) h.told
+    c.in_err-advance.ensures.kept c.in_err-advance.ensures.consumes
     (c.in_ok-var.ensures.passes _ _ _ _
     (store_path c.args.op a s (rw h.depth c.in_ok-check_nesting.ensures.ok) h.path)))
 
@@ -59,4 +62,5 @@ returns-clause-moves g c =
     (punctuator_past s.m (sign_fits _ _ c.args.op c.in_ok-var.var a c.in_ok-var.ensures.matches s)
     c.in_ok-advance.ensures.consumes c.in_ok-advance.ensures.kept (c.in_ok-var.ensures.passes _ _ _ _
     (store_path c.args.op a s (rw h.depth c.in_ok-check_nesting.ensures.ok) h.path))) h.told
-    (ap (λ n. n + 1) h.depth) (omega (arith, c.in_ok-check_nesting.ensures.ok)) (awaits (refl, h.fits.takes) (refl, h.fits.trees)))
+    (ap (λ n. n + 1) h.depth) (omega (arith, c.in_ok-check_nesting.ensures.ok))
+    (awaits (refl, h.fits.takes) (refl, h.fits.trees)))

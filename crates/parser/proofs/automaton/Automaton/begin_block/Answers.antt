@@ -29,7 +29,8 @@ returns-in_err-advance-clause-moves g c =
 
 pub returns-in_err-declarations-clause-moves : goal.returns-in_err-declarations-clause-moves
 returns-in_err-declarations-clause-moves g c =
-    let p = err_from_is_err_and c.from_residual-in_err-declarations.result c.from_residual-in_err-declarations.ensures.1 in
+    let p =
+    err_from_is_err_and c.from_residual-in_err-declarations.result c.from_residual-in_err-declarations.ensures.1 in
     rw (p.1, p.2) (λ o h.
     falls (Part Declarations ∷ []) _ c.in_err-declarations.field-0.0
     (punctuator_past punctuator.OpenCurly c.requires.starts c.in_ok-advance.ensures.consumes

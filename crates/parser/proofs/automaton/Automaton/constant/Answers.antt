@@ -14,7 +14,8 @@ pub returns-in_err-advance-clause-moves : goal.returns-in_err-advance-clause-mov
 returns-in_err-advance-clause-moves g c =
     let p = err_from_is_err_and c.from_residual.result c.from_residual.ensures.1 in
     rw (p.1, p.2) (λ o h.
-    falls (AConstant ∷ []) _ c.in_err-advance.field-0.0 (constant_path c.args.value c.requires.starts.is h.path) h.told c.in_err-advance.ensures.kept
+    falls (AConstant ∷ []) _ c.in_err-advance.field-0.0 (constant_path c.args.value c.requires.starts.is h.path) h.told
+    c.in_err-advance.ensures.kept
     (constant_stops _ _ c.args.value _ c.requires.starts.is c.in_err-advance.ensures.consumes))
 
 pub act-requires : goal.act-requires
@@ -23,8 +24,9 @@ act-requires g c =
     record {
       follows = subst (λ (v : ℤ). MayFollow (g.B.Build.stands c.args.self.now.builder.now) (PushConstant v))
           (sym (to_z_pos w32 c.args.value (let fits = c.requires.starts.fits in omega arith)))
-          (may h.acts h.told h.new (constant_past c.args.value c.requires.starts.is c.in_ok-advance.ensures.consumes c.in_ok-advance.ensures.kept
-    (constant_path c.args.value c.requires.starts.is h.path)));
+          (may h.acts h.told h.new (constant_past c.args.value c.requires.starts.is c.in_ok-advance.ensures.consumes
+          c.in_ok-advance.ensures.kept
+          (constant_path c.args.value c.requires.starts.is h.path)));
     }
 
 pub returns-in_err-act-clause-moves : goal.returns-in_err-act-clause-moves
@@ -42,4 +44,6 @@ returns-clause-moves g c = λ o h.
     (constant_past c.args.value c.requires.starts.is c.in_ok-advance.ensures.consumes c.in_ok-advance.ensures.kept
     (constant_path c.args.value c.requires.starts.is h.path))
     (told_more _ _ (subst (λ (v : ℤ). Appends (g.B.Build.stands c.args.self.now.builder.now)
-    (g.B.Build.stands c.act.new.self) (PushConstant v)) (to_z_pos w32 c.args.value (let fits = c.requires.starts.fits in omega arith)) c.in_ok-act.ensures.ok) h.told) refl refl
+    (g.B.Build.stands c.act.new.self) (PushConstant v))
+    (to_z_pos w32 c.args.value (let fits = c.requires.starts.fits in omega arith)) c.in_ok-act.ensures.ok) h.told)
+    refl refl

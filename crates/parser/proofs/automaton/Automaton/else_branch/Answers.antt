@@ -18,7 +18,9 @@ pub act-requires : goal.act-requires
 act-requires g c =
     let h = c.requires.at.is in
     record {
-      follows = may h.acts h.told h.new (made Empty tt (word_past keyword.Else c.requires.starts c.in_ok-advance.ensures.consumes
+      follows =
+          may h.acts h.told h.new (made Empty tt (word_past keyword.Else c.requires.starts
+          c.in_ok-advance.ensures.consumes
           c.in_ok-advance.ensures.kept (else_path c.requires.starts h.path)));
     }
 

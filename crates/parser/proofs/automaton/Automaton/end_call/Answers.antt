@@ -18,7 +18,10 @@ pub act-requires : goal.act-requires
 act-requires g c =
     let h = c.requires.at.is in
     let y = has_call c.args.callee _ h.values h.fits.trees in
-    record { follows = may h.acts h.told h.new (made Invoke tt (c.in_ok-expect.ensures.passes _ _ _ _ (valued y.is h.path))) }
+    record {
+      follows =
+          may h.acts h.told h.new (made Invoke tt (c.in_ok-expect.ensures.passes _ _ _ _ (valued y.is h.path)));
+    }
 
 pub returns-in_err-act-clause-moves : goal.returns-in_err-act-clause-moves
 returns-in_err-act-clause-moves g c =
@@ -30,5 +33,6 @@ returns-in_err-act-clause-moves g c =
 pub returns-clause-moves : goal.returns-clause-moves
 returns-clause-moves g c = λ o h.
     let y = has_call c.args.callee _ h.values h.fits.trees in
-    operand_stands h c.args.floor (closed (made Invoke tt (c.in_ok-expect.ensures.passes _ _ _ _ (valued y.is h.path)))) (told_more _ _ c.in_ok-act.ensures.ok h.told) h.depth h.few
+    operand_stands h c.args.floor (closed (made Invoke tt (c.in_ok-expect.ensures.passes _ _ _ _ (valued y.is h.path))))
+    (told_more _ _ c.in_ok-act.ensures.ok h.told) h.depth h.few
     (record { least = h.fits.least; most = h.fits.most; takes = h.fits.takes; trees = y.below })

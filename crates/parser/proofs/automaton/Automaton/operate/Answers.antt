@@ -35,7 +35,8 @@ returns-clause-moves g c = λ o h.
     operators_stand h (c.args.level + 1 - c.args.floor) c.args.floor
     (subst (λ (n : ℕ). operator_from n (token_of c.args.self.now.tokens) ≡ None) same d.0)
     (made (Operate c.args.op) tt (valued (on_both x.is y.is) h.path)) (told_more _ _ c.in_ok-act.ensures.ok h.told)
-    (sym (nested_tails (c.args.level + 1 - c.args.floor) c.args.floor (stack_of c.args.self.now.frames)) ∙ h.depth) h.few
+    (sym (nested_tails (c.args.level + 1 - c.args.floor) c.args.floor (stack_of c.args.self.now.frames)) ∙ h.depth)
+    h.few
     (record {
       least = h.fits.takes.1;
       most = omega (arith, h.fits.takes.2, h.fits.takes.3);

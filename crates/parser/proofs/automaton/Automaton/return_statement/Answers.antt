@@ -42,7 +42,8 @@ returns-in_err-act-clause-moves g c =
 pub returns-then-is_punctuator-clause-moves : goal.returns-then-is_punctuator-clause-moves
 returns-then-is_punctuator-clause-moves g c =
     let is : is_punctuator punctuator.Semicolon (token_of c.advance.new.self) ≡ true = cc in
-    let none : operator_from 1 (token_of c.advance.new.self) ≡ None = rw (punctuator_is punctuator.Semicolon (token_of c.advance.new.self) is) refl in
+    let none : operator_from 1 (token_of c.advance.new.self) ≡ None =
+    rw (punctuator_is punctuator.Semicolon (token_of c.advance.new.self) is) refl in
     λ o h.
     rw c.push.ensures (comes_to h
     (made Zero tt (zero_path is (word_past keyword.Return c.requires.starts c.in_ok-advance.ensures.consumes

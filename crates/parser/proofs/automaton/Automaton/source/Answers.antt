@@ -17,15 +17,20 @@ returns-in-End-clause-moves g c =
 
 pub returns-in-Name-clause-moves : goal.returns-in-Name-clause-moves
 returns-in-Name-clause-moves g c = λ o h.
-    comes_to h (definition_path c.in-Name.field-0 (ap (λ (l : LocatedToken). l.token) (sym c.peek-2.ensures.value) ∙ c.in-Name.is) h.path) h.told h.depth h.few h.fits
+    comes_to h
+    (definition_path c.in-Name.field-0
+    (ap (λ (l : LocatedToken). l.token) (sym c.peek-2.ensures.value) ∙ c.in-Name.is) h.path) h.told h.depth h.few
+    h.fits
 
 pub returns-in_default : goal.returns-in_default
 returns-in_default g c =
     let other : is_keyword keyword.Type (token_of c.args.self.now.tokens) ≡ false = cc in
     record {
       moves = λ o h.
-          rw c.unexpected_token.ensures (source_misfits (λ same. c.in_default.not-End (ap (λ (l : LocatedToken). l.token) c.peek-2.ensures.value ∙ same)) other
-          (λ name same. c.in_default.not-Name name (ap (λ (l : LocatedToken). l.token) c.peek-2.ensures.value ∙ same)) h.path);
+          rw c.unexpected_token.ensures (source_misfits
+          (λ same. c.in_default.not-End (ap (λ (l : LocatedToken). l.token) c.peek-2.ensures.value ∙ same)) other
+          (λ name same. c.in_default.not-Name name (ap (λ (l : LocatedToken). l.token) c.peek-2.ensures.value ∙ same))
+          h.path);
       falls = tt;
       builder = refl;
     }

@@ -25,5 +25,6 @@ returns-clause-moves g c = λ o h.
     let d = done_at 0 h.fits h.fits.takes.0 in
     let x = has_expr _ h.values d.1 in
     let y = has_variable c.args.var _ x.rest x.below in
-    comes_to h (closed (made (Store c.args.op) tt (valued (on_both x.is y.is) h.path))) (told_more _ _ c.in_ok-act.ensures.ok h.told) (omega (arith, h.depth)) (omega (arith, h.few))
+    comes_to h (closed (made (Store c.args.op) tt (valued (on_both x.is y.is) h.path)))
+    (told_more _ _ c.in_ok-act.ensures.ok h.told) (omega (arith, h.depth)) (omega (arith, h.few))
     (record { level = 1; takes = h.fits.takes.1; ends = (d.0, y.below) })

@@ -10,13 +10,18 @@ pub returns-in_err-var-clause-moves : goal.returns-in_err-var-clause-moves
 returns-in_err-var-clause-moves g c =
     let p = err_from_is_err_and c.from_residual.result c.from_residual.ensures.1 in
     rw (p.1, p.2) (λ o h.
-    falls (AName Mentioned ∷ []) _ c.in_err-var.field-0.0 (variable_path c.requires.starts h.path) h.told c.in_err-var.ensures.kept
+    falls (AName Mentioned ∷ []) _ c.in_err-var.field-0.0 (variable_path c.requires.starts h.path) h.told
+    c.in_err-var.ensures.kept
     c.in_err-var.ensures.matches)
 
 pub act-requires : goal.act-requires
 act-requires g c =
     let h = c.requires.at.is in
-    record { follows = may h.acts h.told h.new (made Fetch tt (c.in_ok-var.ensures.passes _ _ _ _ (variable_path c.requires.starts h.path))) }
+    record {
+      follows =
+          may h.acts h.told h.new
+          (made Fetch tt (c.in_ok-var.ensures.passes _ _ _ _ (variable_path c.requires.starts h.path)));
+    }
 
 pub returns-in_err-act-clause-moves : goal.returns-in_err-act-clause-moves
 returns-in_err-act-clause-moves g c =
@@ -27,5 +32,6 @@ returns-in_err-act-clause-moves g c =
 
 pub returns-clause-moves : goal.returns-clause-moves
 returns-clause-moves g c = λ o h.
-    operand_done c.args.floor h (made Fetch tt (c.in_ok-var.ensures.passes _ _ _ _ (variable_path c.requires.starts h.path)))
+    operand_done c.args.floor h
+    (made Fetch tt (c.in_ok-var.ensures.passes _ _ _ _ (variable_path c.requires.starts h.path)))
     (told_more _ _ c.in_ok-act.ensures.ok h.told) refl refl

@@ -22,7 +22,8 @@ pub act-requires : goal.act-requires
 act-requires g c =
     let h = c.requires.at.is in
     record {
-      follows = may h.acts h.told h.new (while_path c.requires.starts (rw h.depth c.in_ok-check_nesting.ensures.ok) h.path);
+      follows = may h.acts h.told h.new
+          (while_path c.requires.starts (rw h.depth c.in_ok-check_nesting.ensures.ok) h.path);
     }
 
 pub returns-in_err-act-clause-moves : goal.returns-in_err-act-clause-moves

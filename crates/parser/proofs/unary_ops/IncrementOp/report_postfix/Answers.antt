@@ -7,7 +7,8 @@ use Rattle.parser.proofs.unary_ops.IncrementOp.report_postfix.Goals as goal
 
 pub act-requires : goal.act-requires
 act-requires g c = record {
-  follows = may_first _ (FetchVariable c.args.var) (prefix_actions c.args.self c.args.var ++ Chop ∷ []) c.requires.follow;
+  follows = may_first _ (FetchVariable c.args.var) (prefix_actions c.args.self c.args.var ++ Chop ∷ [])
+      c.requires.follow;
 }
 
 pub report_prefix-requires : goal.report_prefix-requires
@@ -24,7 +25,7 @@ act-requires-2 g c = record {
       next_follows (g.B.Build.stands c.args.build.now) (g.B.Build.stands c.report_prefix.new.build)
       (FetchVariable c.args.var ∷ prefix_actions c.args.self c.args.var) Chop [] c.requires.follow
       (appends_both (g.B.Build.stands c.args.build.now) (g.B.Build.stands c.act.new.self)
-    (g.B.Build.stands c.report_prefix.new.build) (FetchVariable c.args.var ∷ [])
+      (g.B.Build.stands c.report_prefix.new.build) (FetchVariable c.args.var ∷ [])
       (prefix_actions c.args.self c.args.var) c.in_ok-act.ensures.ok c.in_ok-report_prefix.ensures.reported);
 }
 

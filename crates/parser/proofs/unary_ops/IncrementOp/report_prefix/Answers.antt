@@ -21,7 +21,8 @@ act-requires-2 g c = record {
 
 pub returns-clause-reported : goal.returns-clause-reported
 returns-clause-reported g c =
-    appends_both (g.B.Build.stands c.args.build.now) (g.B.Build.stands c.act.new.self) (g.B.Build.stands c.act-2.new.self)
+    appends_both (g.B.Build.stands c.args.build.now) (g.B.Build.stands c.act.new.self)
+    (g.B.Build.stands c.act-2.new.self)
     (PushConstant (pos 1) ∷ [])
     (StoreVariable c.args.var (increment_store_op c.args.self) ∷ []) c.in_ok-act.ensures.ok
     (rw c.store_op.ensures at c.in_ok-act-2.ensures.ok)
