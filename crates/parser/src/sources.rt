@@ -17,7 +17,7 @@ use tokens::{Cursor, Feed};
 ///
 /// The device gives its bytes in pieces of any size. The source ends before the first byte 26, or when the device has
 /// no more bytes; it is too long past 1,048,576 bytes. At most `MOST_NESTED` constructs may be open at once, which
-/// bounds the recursion. No more bytes are taken than decide the answer and a window of 4,096 bytes. A device that has
+/// bounds the stack of frames. No more bytes are taken than decide the answer and a window of 4,096 bytes. A device that has
 /// given no byte has ended, and is not asked again.
 ///
 /// The builder is new: it represents no action yet. On `Ok` it represents those of the whole file, and nothing is left
