@@ -17,7 +17,7 @@ use Rattle.parser.specs.Automata.{all_tails, stack_of}
 use Rattle.parser.specs.ScopedCursors.{token_of}
 use Rattle.parser.specs.UnaryOps.{actions_after_operand, actions_before_operand, increment_punctuator, increment_store_op, postfix_actions, prefix_actions, unary_action, unary_punctuator}
 use Rattle.parser.proofs.AssignmentForms.{sign_fits, sign_goes_on, sign_of, store_chooses, store_is_nested}
-use Rattle.parser.proofs.AutomatonLaws.{awaits, closes, comes_to, has_place, has_room, may_report, nested_tails, nests, operand_done, operand_stands, operators_stand, refuses, shallow, told_all, under_tails}
+use Rattle.parser.proofs.AutomatonLaws.{awaits, closes, comes_to, has_place, has_room, may_report, moves_from, nested_tails, nests, operand_done, operand_stands, operators_stand, refuses, shallow, told_all, under_tails}
 use Rattle.parser.proofs.ExpressionSteps.{assigned, operand_path, operator_path, plain_path, store_path}
 use Rattle.parser.proofs.NameLaws.{is_named, named_found}
 use Rattle.parser.proofs.OperandForms.{NoOperator, NoPrimary, call_chooses, call_enters, constant_stops, open_chooses, open_enters, no_punctuator, only_punctuator, plain_operand, sign_chooses, sign_is_nested}
@@ -339,8 +339,17 @@ write('operate',[
     }})"""),
 ])
 write('expression',[
- ('returns-in-None-clause-moves',"""returns-in-None-clause-moves g c = λ o h.
-    comes_to h (plain_path c.in-None.ensures.none h.path) h.told h.depth h.few h.fits"""),
+ ('operand-requires',"""operand-requires g c =
+    let h = c.requires.at.is in
+    record {
+      at = record {
+        start = c.requires.at.start;
+        is = comes_to h (plain_path c.in-None.ensures.none h.path) h.told h.depth h.few h.fits;
+      };
+    }"""),
+ ('returns-in-None-clause-moves',"""returns-in-None-clause-moves g c =
+    moves_from _ _ _ _ _ _ _ c.operand.result
+    (λ o h. comes_to h (plain_path c.in-None.ensures.none h.path) h.told h.depth h.few h.fits) c.operand.ensures.moves"""),
 ])
 AS=lets(('a',f'assigned c.args.op {ST}'),('s','sign_of _ c.args.op a'))
 SF="(rw h.depth c.in_ok-check_nesting.ensures.ok)"

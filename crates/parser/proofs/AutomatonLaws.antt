@@ -1,6 +1,6 @@
 -- What the steps of an automaton share: where it is before and after, and how they are refused.
 use Rattle.std.proofs.Common.{◌≡◌, ℕ, zero, suc, ◌+◌, ◌-◌, ◌*◌, ◌<◌, ◌≤◌, List, [], ◌∷◌, ◌++◌, refl, sym, ◌∙◌, subst, length, append-nil, arith}
-use Rattle.std.specs.Prelude.{None, Result, Err}
+use Rattle.std.specs.Prelude.{None, Result, Ok, Err}
 use Rattle.grammar.specs.declared.actions.Action.{Action}
 use Rattle.grammar.specs.declared.build.BuildFault.{BuildFault}
 use Rattle.grammar.specs.declared.build.BuildFault.TheVariants as build_fault
@@ -40,6 +40,14 @@ pub comes_to : {F B : Type 0} {o : Start B} {stands : B → Representation} {old
     new.depth ≤ MOST_NESTED → Fits next new.frames (token_of new.tokens) values → Stands o stands next new
 comes_to h path told depth few fits =
     record { values = _; acts = _; path = path; new = h.new; told = told; depth = depth; few = few; fits = fits }
+
+-- a step that goes on with another
+pub moves_from : {F B : Type 0} (denied : Type 0) (stands : B → Representation) (next between : Front)
+    (old mid new : Automaton F B) (r : Result Front ParseFault) →
+    ((o : Start B) → Stands o stands next old → Stands o stands between mid) → Moves r denied stands between mid new →
+    Moves r denied stands next old new
+moves_from denied stands next between old mid new (Ok later) on moves = λ o h. moves o (on o h)
+moves_from denied stands next between old mid new (Err fault) on moves = λ o h. moves o (on o h)
 
 pub has_more : (at : Front) → (at ≡ front.End → ⊥) → HasMore at
 has_more front.End other = other refl

@@ -27,7 +27,7 @@ impl<F: Feed, B: Build> Automaton<'_, '_, '_, F, B> {
     {
         match assignment_operator(&self.tokens) {
             Some(op) => self.assignment(op),
-            None => Ok(Front::Operand(1)),
+            None => self.operand(1),
         }
     }
 

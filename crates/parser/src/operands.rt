@@ -32,8 +32,9 @@ impl<F: Feed, B: Build> Automaton<'_, '_, '_, F, B> {
         }
     }
 
-    /// `level11 → • operator level11`, `• operator name` and `• ( expr )`
-    #[inline(always)]
+    /// `level11 → • operator level11`, `• operator name` and `• ( expr )`: apart from the names and constants that most
+    /// operands are, so that the loop of all steps keeps its registers
+    #[inline(never)]
     fn operand_from_punctuator(&mut self, floor: u8) -> Result<Front, ParseFault>
         requires at { IsAt B.stands (Front.Operand floor) self.old }
         requires starts { StartsPunctuator self.old.tokens }
@@ -134,8 +135,8 @@ impl<F: Feed, B: Build> Automaton<'_, '_, '_, F, B> {
         }
     }
 
-    /// `primary → • name ( args )`
-    #[inline(always)]
+    /// `primary → • name ( args )`, which is not the commonest operand
+    #[inline(never)]
     fn call(&mut self, floor: u8) -> Result<Front, ParseFault>
         requires at { IsAt B.stands (Front.Operand floor) self.old }
         requires starts { StartsCall self.old.tokens }
@@ -185,8 +186,8 @@ impl<F: Feed, B: Build> Automaton<'_, '_, '_, F, B> {
         Ok(Front::Operators(floor))
     }
 
-    /// `primary → • name operator`
-    #[inline(always)]
+    /// `primary → • name operator`, which is rare
+    #[inline(never)]
     fn postfix_increment(&mut self, increment: IncrementOp, floor: u8) -> Result<Front, ParseFault>
         requires at { IsAt B.stands (Front.Operand floor) self.old }
         requires starts { StartsPostfix increment self.old.tokens }
