@@ -120,7 +120,7 @@ static OF_C: [Construct; 46] = [
         "char",
         ")",
         "C",
-        "all values are whole numbers: leave the type and its brackets out",
+        "there are no casts, as all values are whole numbers: leave the type and its brackets out",
         Line::None,
     ),
     (
@@ -134,7 +134,7 @@ static OF_C: [Construct; 46] = [
         "float",
         ")",
         "C",
-        "all values are whole numbers: leave the type and its brackets out",
+        "there are no casts, as all values are whole numbers: leave the type and its brackets out",
         Line::None,
     ),
     (
@@ -148,7 +148,7 @@ static OF_C: [Construct; 46] = [
         "double",
         ")",
         "C",
-        "all values are whole numbers: leave the type and its brackets out",
+        "there are no casts, as all values are whole numbers: leave the type and its brackets out",
         Line::None,
     ),
     (
@@ -190,7 +190,7 @@ static OF_C: [Construct; 46] = [
         "unsigned",
         ")",
         "C",
-        "all values are whole numbers: leave the type and its brackets out",
+        "there are no casts, as all values are whole numbers: leave the type and its brackets out",
         Line::None,
     ),
     (

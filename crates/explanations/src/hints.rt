@@ -327,7 +327,7 @@ fn on_declarations(scene: &Scene<'_>) -> Option<Hint> {
     }
     if scene.kinds.statement {
         let words =
-            "declarations come first in their block: move it up, or leave it out, as a variable needs none";
+            "declarations stand at the beginning of their block, before its statements: move it up, or leave it out, as a variable needs none";
         return Some(by_layout(scene.so_far(), true, "", Hint::Text(words)));
     }
     if scene.follows_mark(Punctuator::Comma) && !scene.kinds.expression {
@@ -445,7 +445,7 @@ fn on_values(scene: &Scene<'_>) -> Option<Hint> {
         && !scene.is_outside()
     {
         return Some(Hint::Text(
-            "all values are whole numbers: leave the type and its brackets out",
+            "there are no casts, as all values are whole numbers: leave the type and its brackets out",
         ));
     }
     None
@@ -605,7 +605,9 @@ fn on_conditions(scene: &Scene<'_>) -> Option<Hint> {
     let follows_word = scene.follows(&Token::Keyword(Keyword::If))
         || scene.follows(&Token::Keyword(Keyword::While));
     if follows_word {
-        return Some(Hint::Text("the condition of an `if` or a `while` stands in brackets"));
+        return Some(Hint::Text(
+            "the condition of an `if` or a `while` stands in brackets, as in `if (a > 1)`",
+        ));
     }
     let is_tested = scene.token(scene.chosen_at().saturating_sub(1))
         == Token::Keyword(Keyword::Else);
@@ -702,7 +704,7 @@ fn on_brackets(scene: &Scene<'_>) -> Option<Hint> {
         return Some(Hint::Text("a `)` may be missing before it"));
     }
     if scene.is_mark(Punctuator::CloseRound) && scene.kinds.operator {
-        return Some(Hint::Text("this `)` has no `(`"));
+        return Some(Hint::Text("this `)` has no `(`: perhaps it is one too many"));
     }
     None
 }

@@ -12,7 +12,7 @@ pub fn on_character(found: &Found<'_>, scene: &Scene<'_>) -> Option<&'static str
     let (source, met) = (found.source, &found.met);
     match source.get(met.start()).copied().unwrap_or(0) {
         b'"' | b'\'' if scene.kinds.statement || scene.is_outside() => Some(
-            "there is no text: a comment stands between `/*` and `*/`",
+            "there is no text and no string: a comment stands between `/*` and `*/`",
         ),
         b'"' | b'\'' | b'`' => Some(
             "there is no text and there are no characters: all values are whole numbers",
@@ -20,7 +20,7 @@ pub fn on_character(found: &Found<'_>, scene: &Scene<'_>) -> Option<&'static str
         b'[' if follows_test(found) => Some(
             "the condition of an `if` or a `while` stands in brackets: write `(` and `)`",
         ),
-        b'[' | b']' => Some("there are no arrays: use several variables"),
+        b'[' | b']' => Some("there are no arrays and no lists: use several variables"),
         b'?' => Some("there is no `?:`: write `if (..) a = ..; else a = ..;`"),
         b':' if names_argument(scene) => Some(
             "an argument has no name: it goes by its place, as in `drive(degree, speed)`",

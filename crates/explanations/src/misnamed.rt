@@ -154,7 +154,7 @@ fn add_reason(note: &mut Note, found: &Found<'_>, defined: &[usize], name: &Name
     match found.code {
         Code::FunctionDefinedTwice => add_first(note, found.tokens, defined, name),
         Code::IntrinsicRedefined => {
-            note.add("the robot has a function of this name already: give yours another one");
+            note.add("every robot has a function of this name built in: give yours another name");
         }
         Code::BadParameterDeclaration => note.add(on_parameter(found)),
         Code::FunctionNotDefined => add_meant(note, found, defined, name),
@@ -296,7 +296,9 @@ fn add_unknown(note: &mut Note, found: &Found<'_>, name: &Name) {
     } else if name.has_bytes(b"turn") {
         note.add("a robot turns as it drives: the call is `drive(degree, speed)`");
     } else {
-        note.add("neither the file nor the robot has a function of this name");
+        note.add(
+            "neither the file nor the robot has a function of this name: write one, or call another",
+        );
     }
 }
 

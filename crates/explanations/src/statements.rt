@@ -39,7 +39,7 @@ pub fn warn_of_statement(out: &mut Warnings, subject: &Subject<'_>, index: usize
     {
         out.tell(
             node.token,
-            "this `drive` replaces the one before it at once: nothing stands between them",
+            "this `drive` replaces the one before it at once: wait between them in a loop",
         );
     }
 }

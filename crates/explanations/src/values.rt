@@ -59,7 +59,7 @@ fn on_sides(op: Op, left: &Node, right: &Node) -> Option<&'static str> {
             Some("this compares the answer of `!`, 0 or 1: write `!(a < b)`")
         }
         (Op::BitXor, _, NodeKind::Constant(2..=9)) => {
-            Some("`^` is no power: it is the exclusive or of bits; multiply instead")
+            Some("`^` is no power: it is the exclusive or of bits; multiply instead, as `a * a`")
         }
         (Op::Or, NodeKind::Binary(Op::Equal), NodeKind::Constant(1..)) => {
             Some("the right side is always true: write `a == 5 || a == 10`")
@@ -75,10 +75,10 @@ fn on_values(op: Op, left: Option<i32>, right: Option<i32>) -> Option<&'static s
     let (left, right) = (i64::from(left?), i64::from(right?));
     let whole = match op {
         Op::Divide if left != 0 && left.unsigned_abs() < right.unsigned_abs() => {
-            return Some("both are whole numbers, and so is the quotient: it is 0");
+            return Some("both are whole numbers, and so is the quotient: it is 0; multiply before you divide");
         }
         Op::Remainder if 0 < left && left < right => {
-            return Some("this remainder is the number before it: write `(a + b) % c`");
+            return Some("`%` comes before `+`, so this remainder is the number before it: write `(a + b) % c`");
         }
         Op::Add => left.saturating_add(right),
         Op::Subtract => left.saturating_sub(right),

@@ -30,7 +30,7 @@ pub fn warn_of_variables(out: &mut Warnings, subject: &Subject<'_>) {
     for token in subject.declarations.hiding() {
         out.warn(
             *token,
-            Said::Named(" is a variable of the function alone: it hides that of the file"),
+            Said::Named(" is a variable of the function alone: it hides that of the file, so leave its `int` out here"),
         );
     }
 }
@@ -60,7 +60,7 @@ fn warn_of_body(out: &mut Warnings, subject: &Subject<'_>, body: &Body) {
             (Some(read), Some(set)) if !is_parameter && is_early(subject.tree, read, set) => {
                 out.warn(
                     token_of(subject.tree, read),
-                    Said::Named(" is still 0 here: it is set further down only"),
+                    Said::Named(" is still 0 here: it is set further down only, so set it above"),
                 );
             }
             _ => {}
@@ -203,7 +203,7 @@ fn is_elsewhere(subject: &Subject<'_>, token: usize, name: &Name) -> bool {
 }
 
 /// Reports whether a name is a truth value of other languages.
-fn is_truth(name: &Name) -> bool {
+pub fn is_truth(name: &Name) -> bool {
     let bytes = name.as_bytes();
     is_same_but_for_case(bytes, b"true") || is_same_but_for_case(bytes, b"false")
 }

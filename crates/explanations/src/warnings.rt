@@ -14,7 +14,7 @@ use crate::searches::fault_token;
 use crate::statements::warn_of_statement;
 use crate::told::text_of;
 use crate::values::{warn_of_operator, warn_of_store};
-use crate::variables::warn_of_variables;
+use crate::variables::{is_truth, warn_of_variables};
 use arrayvec::ArrayVec;
 use derivations::{Located, Node, NodeKind, SourceTree};
 use grammar::{Diagnostic, Profile};
@@ -62,6 +62,8 @@ pub enum Said {
     Arguments(usize, usize),
     /// That the comment that begins on this line goes further than was meant.
     Swallowing(u32),
+    /// That the variable of this name's token never changes in a loop.
+    Unchanged(usize),
 }
 
 /// What may be meant by the name of a variable.
@@ -103,7 +105,7 @@ impl Warning {
             note.position(located.line, located.column);
         }
         note.add("warning: ");
-        if !matches!(self.said, Said::Words(_) | Said::Swallowing(_)) {
+        if matches!(self.said, Said::Named(_) | Said::Variable(..) | Said::Arguments(..)) {
             add_name(&mut note, tokens, self.token);
         }
         match self.said {
@@ -114,6 +116,7 @@ impl Warning {
             }
             Said::Arguments(wanted, given) => add_arguments(&mut note, wanted, given),
             Said::Swallowing(line) => add_swallowing(&mut note, line),
+            Said::Unchanged(name) => add_unchanged(&mut note, tokens, name),
         }
         note.push('\n');
         note
@@ -144,6 +147,20 @@ impl Warning {
 fn add_name(note: &mut Note, tokens: &[Located], token: usize) {
     if let Some(name) = name_at(tokens, token) {
         note.quote(text_of(&name));
+    }
+}
+
+/// Adds that the variable of a name's token never changes in a loop.
+fn add_unchanged(note: &mut Note, tokens: &[Located], token: usize) {
+    note.add("the condition of this loop can't change, and it never ends if it begins: ");
+    add_name(note, tokens, token);
+    note.add(" never changes in it");
+    if let Some(name) = name_at(tokens, token)
+        && !is_truth(&name)
+    {
+        note.add("; write `");
+        note.add(text_of(&name));
+        note.add(" += 1` there");
     }
 }
 
@@ -208,7 +225,7 @@ impl Warnings {
             if located.token == Token::Keyword(Keyword::Else) && is_ended {
                 self.tell(
                     next,
-                    "the `else` ends with this `;`: what follows it is always done",
+                    "the `else` ends with this `;`, and what follows is always done: leave the `;` out",
                 );
             }
         }
