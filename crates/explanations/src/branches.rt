@@ -3,6 +3,7 @@
 use crate::heads::behind_brackets;
 use crate::indices::token_at;
 use crate::meanings::Meaning;
+use crate::rows::warn_of_loop;
 use crate::values::{holds, is_turned};
 use crate::variables::set_by;
 use crate::warnings::{Said, Subject, Warnings};
@@ -37,6 +38,7 @@ pub fn warn_of_branch(out: &mut Warnings, subject: &Subject<'_>, index: usize, n
     }
     if node.kind == NodeKind::While {
         warn_of_waiting(out, subject, index, node, condition);
+        warn_of_loop(out, subject, index, node, condition);
     }
 }
 

@@ -27,6 +27,7 @@ mod meanings;
 mod misnamed;
 mod notes;
 mod reach;
+mod rows;
 mod scenes;
 mod searches;
 mod sizes;

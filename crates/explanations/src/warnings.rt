@@ -10,6 +10,7 @@ use crate::indices::{name_at, token_at};
 use crate::meanings::Meanings;
 use crate::notes::Note;
 use crate::reach::Reach;
+use crate::rows::warn_of_row;
 use crate::searches::fault_token;
 use crate::statements::warn_of_statement;
 use crate::told::text_of;
@@ -239,7 +240,10 @@ impl Warnings {
             }
             NodeKind::Binary(op) => warn_of_operator(self, subject, index, node, op),
             NodeKind::Store(var, op) => warn_of_store(self, subject, index, node, var, op),
-            NodeKind::Evaluate => warn_of_statement(self, subject, index, node),
+            NodeKind::Evaluate => {
+                warn_of_statement(self, subject, index, node);
+                warn_of_row(self, subject, index, node);
+            }
             _ => {}
         }
         if subject.reach.is_unreached(index) {
