@@ -170,8 +170,18 @@ fn warn_of_pair(
         && second > most
     {
         out.tell(node.token, beyond);
+    } else if matches!(second, Some(..0)) {
+        out.tell(node.token, on_negative(intrinsic));
     } else {
         warn_of_meanings(out, subject, index, node, intrinsic);
+    }
+}
+
+/// Returns what is said of a second argument below 0.
+fn on_negative(intrinsic: Intrinsic) -> &'static str {
+    match intrinsic {
+        Intrinsic::Drive => "a speed is at least 0: to drive back turn the degree by 180",
+        _ => "this argument is at least 0",
     }
 }
 
@@ -282,6 +292,12 @@ fn warn_of_look(
         out.tell(
             node.token,
             "`atan` takes 100,000ths: write `atan(100000 * y / x)`",
+        );
+    }
+    if intrinsic == Intrinsic::Rand && matches!(constants.get(last), Some(..=1)) {
+        out.tell(
+            node.token,
+            "this is always 0: `rand(n)` is one of 0 to n - 1",
         );
     }
     if matches!(intrinsic, Intrinsic::Sin | Intrinsic::Cos | Intrinsic::Tan)

@@ -1,71 +1,44 @@
-//! Constructs of other languages: what each looks like, which language has it, and what a robot writes instead.
+//! Constructs of other languages in a source: where one begins, and what a robot writes instead.
 
 use crate::assigning::add_declaration;
-use crate::constructs_of_c::of_c;
-use crate::constructs_of_others::of_others;
-use crate::constructs_of_relatives::of_relatives;
+use crate::constructs::LANGUAGES;
 use crate::heads::add_head;
 use crate::notes::Note;
 use crate::scenes::Scene;
+use crate::spelling::is_same_but_for_case;
+use crate::texts::{MOST_PARTS, parted};
 use crate::told::spelling_of;
 use derivations::{Item, Located};
 use grammar::store_operator;
 use tokens::{Name, Punctuator, Token};
 
-/// The line to copy that a hint ends with.
-#[derive(Clone, Copy)]
-pub enum Line {
-    /// None, or one that the words have.
-    None,
-    /// The head of the function that follows.
-    Head,
-    /// The declaration of the name that follows.
-    Declaration,
-}
-
-/// A construct: the word or mark that it begins with; what stands behind that on its line, where `@` is any name or word,
-/// and nothing stands for all; its language; what a robot writes instead; and the line to copy. Words of C are those that
-/// this language refuses, and others.
-pub type Construct = (&'static str, &'static str, &'static str, &'static str, Line);
-
-/// How many tables there are.
-const TABLES: usize = 3;
-
-/// Returns a table. There are several, each behind a function of its own, since the prover takes no longer ones.
-fn table(number: usize) -> &'static [Construct] {
-    match number {
-        0 => of_c(),
-        1 => of_relatives(),
-        _ => of_others(),
-    }
-}
-
-/// A construct that a source has, by its table, its row, and the index of its token.
+/// A construct that a source has: how it begins, its language, what is said of it, and the index of its token.
 #[derive(Clone, Copy)]
 pub struct Foreign {
-    table: usize,
-    row: usize,
+    looks: &'static str,
+    language: &'static str,
+    says: &'static str,
     index: usize,
 }
 
 impl Foreign {
     /// Adds in words what it is, if it is another language's than C, and what a robot writes.
     pub fn add(self, note: &mut Note, source: &[u8], tokens: &[Located]) {
-        let Some((looks, _, language, says, line)) = table(self.table).get(self.row) else {
-            return;
-        };
-        if *language != "C" {
-            note.quote(looks);
+        if self.language != "C" {
+            note.quote(self.looks);
             note.add(" is ");
-            note.add(language);
+            note.add(self.language);
             note.add(": ");
         }
-        note.add(says);
         let behind = self.index.saturating_add(1);
-        match line {
-            Line::None => {}
-            Line::Head => add_head(note, source, tokens, behind),
-            Line::Declaration => add_declaration(note, source, tokens, behind),
+        if let Some(words) = self.says.strip_prefix('^') {
+            note.add(words);
+            add_head(note, source, tokens, behind);
+        } else if let Some(words) = self.says.strip_prefix(';') {
+            note.add(words);
+            add_declaration(note, source, tokens, behind);
+        } else {
+            note.add(self.says);
         }
     }
 }
@@ -100,17 +73,21 @@ fn on_objects(scene: &Scene<'_>) -> Option<Foreign> {
     }
 }
 
-/// Returns the construct that begins with the token of an index: a variable that the file sets begins none.
+/// Returns the construct that begins with the token of an index: a variable that the file sets begins none. One that is
+/// spelled so comes before one that is but for capital letters.
 pub fn foreign_name(source: &[u8], tokens: &[Located], index: usize) -> Option<Foreign> {
     let located = tokens.get(index)?;
     if is_set(tokens, located) {
         return None;
     }
-    for number in 0..TABLES {
-        if let Some(row) = row_in(table(number), source, located) {
+    let begin = spelling_of(source, located).as_bytes();
+    let rest = source.get(located.end()..).unwrap_or(&[]);
+    for is_exact in [true, false] {
+        if let Some((language, looks, says)) = construct_of(begin, rest, is_exact) {
             return Some(Foreign {
-                table: number,
-                row,
+                looks,
+                language,
+                says,
                 index,
             });
         }
@@ -118,34 +95,73 @@ pub fn foreign_name(source: &[u8], tokens: &[Located], index: usize) -> Option<F
     None
 }
 
+/// Returns the language of the first construct that begins so, how it looks, and what is said of it.
+fn construct_of(
+    begin: &[u8],
+    rest: &[u8],
+    is_exact: bool,
+) -> Option<(&'static str, &'static str, &'static str)> {
+    for (language, table) in &LANGUAGES {
+        if let Some((looks, says)) = row_in(*table, begin, Some(rest), is_exact) {
+            return Some((*language, looks, says));
+        }
+    }
+    None
+}
+
 /// Reports whether a construct begins with this name.
 pub fn is_foreign(name: &Name) -> bool {
-    for number in 0..TABLES {
-        if has_name(table(number), name) {
+    for (_, table) in &LANGUAGES {
+        if row_in(*table, name.as_bytes(), None, false).is_some() {
             return true;
         }
     }
     false
 }
 
-/// Reports whether some construct of a table begins with this name.
-fn has_name(constructs: &[Construct], name: &Name) -> bool {
-    for (looks, _, _, _, _) in constructs {
-        if name.has_bytes(looks.as_bytes()) {
-            return true;
+/// Returns how the first construct of a table begins that begins so, and what is said of it. What follows is as its row says,
+/// or anything if it isn't known.
+fn row_in(
+    table: &'static str,
+    begin: &[u8],
+    rest: Option<&[u8]>,
+    is_exact: bool,
+) -> Option<(&'static str, &'static str)> {
+    let mut text = table;
+    for _ in 0..MOST_PARTS {
+        let (row, below) = parted(text, '\n');
+        let (constructs, says) = parted(row, '\t');
+        if let Some(looks) = construct_in(constructs, begin, rest, is_exact) {
+            return Some((looks, says));
         }
+        text = below;
     }
-    false
+    None
 }
 
-/// Returns the row of a table with the construct that begins with a token.
-fn row_in(constructs: &[Construct], source: &[u8], located: &Located) -> Option<usize> {
-    let spelling = spelling_of(source, located);
-    let rest = source.get(located.end()..).unwrap_or(&[]);
-    for (row, (looks, behind, _, _, _)) in constructs.iter().enumerate() {
-        if *looks == spelling && may_follow(rest, behind.as_bytes()) {
-            return Some(row);
+/// Returns how the first of some constructs begins that begins so, and has behind it what follows.
+fn construct_in(
+    constructs: &'static str,
+    begin: &[u8],
+    rest: Option<&[u8]>,
+    is_exact: bool,
+) -> Option<&'static str> {
+    let mut text = constructs;
+    for _ in 0..MOST_PARTS {
+        let (construct, further) = parted(text, ' ');
+        let (looks, behind) = parted(construct, '\'');
+        if looks.is_empty() {
+            return None;
         }
+        let is_meant = if is_exact {
+            begin == looks.as_bytes()
+        } else {
+            is_same_but_for_case(begin, looks.as_bytes())
+        };
+        if is_meant && may_follow(rest, behind.as_bytes()) {
+            return Some(looks);
+        }
+        text = further;
     }
     None
 }
@@ -162,13 +178,23 @@ pub fn is_set(tokens: &[Located], wanted: &Located) -> bool {
     false
 }
 
-/// Reports whether what stands behind a construct's word is what its row says.
-fn may_follow(rest: &[u8], wanted: &[u8]) -> bool {
-    let next = behind_blanks(rest);
-    match (wanted, next) {
-        ([], _) => true,
-        ([b'@'], [first, ..]) => first.is_ascii_alphabetic() || *first == b'_',
-        _ => next.starts_with(wanted),
+/// Reports whether what follows the beginning of a construct is what its row says.
+fn may_follow(rest: Option<&[u8]>, wanted: &[u8]) -> bool {
+    match (rest, wanted) {
+        (None, _) | (_, []) => true,
+        (Some([b' ' | b'\t', ..]), [b'&', ..]) => true,
+        (Some(rest), _) => begins_so(behind_blanks(rest), wanted),
+    }
+}
+
+/// Reports whether a text begins as a row says.
+fn begins_so(text: &[u8], wanted: &[u8]) -> bool {
+    match (text, wanted) {
+        (_, []) => true,
+        ([first, ..], [b'@', ..]) => first.is_ascii_alphabetic() || *first == b'_',
+        ([b' ' | b'\t', rest @ ..], [b'&', more @ ..]) => begins_so(rest, more),
+        ([first, rest @ ..], [other, more @ ..]) => first == other && begins_so(rest, more),
+        _ => false,
     }
 }
 

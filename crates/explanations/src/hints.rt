@@ -186,6 +186,7 @@ pub fn hint_on(scene: &Scene<'_>) -> Option<Hint> {
         .or(on_the_outside(scene))
         .or(on_conditions(scene))
         .or(on_commas(scene))
+        .or(on_lacking_values(scene))
         .or(on_operands(scene))
         .or(on_brackets(scene))
         .or(on_ends(scene))
@@ -222,7 +223,11 @@ fn on_comments(scene: &Scene<'_>) -> Option<Hint> {
 
 /// Returns the hint on a declaration of a function, which has no block.
 pub fn on_prototypes(scene: &Scene<'_>) -> Option<Hint> {
-    if !scene.is_outside() || !matches!(scene.met(), Token::Keyword(_)) {
+    let is_type = matches!(
+        scene.met(),
+        Token::Keyword(Keyword::Type | Keyword::Refused)
+    );
+    if !scene.is_outside() || !is_type {
         return None;
     }
     let name = scene.head()?;
@@ -589,7 +594,8 @@ fn on_own_types(scene: &Scene<'_>) -> Option<Hint> {
 /// Returns the hint on an intrinsic function that is called without brackets.
 fn on_calls(scene: &Scene<'_>) -> Option<Hint> {
     let name = scene.name(scene.index.checked_sub(1)?)?;
-    if begins_value(&scene.met()) && intrinsic_named(&name).is_some() {
+    let is_argument = begins_value(&scene.met()) || scene.is_mark(Punctuator::OpenCurly);
+    if is_argument && intrinsic_named(&name).is_some() {
         return Some(Hint::Text("the arguments of a call stand in brackets"));
     }
     None
@@ -655,6 +661,38 @@ fn ends_block(scene: &Scene<'_>) -> bool {
     scene.follows_mark(Punctuator::Semicolon) && before == Token::Punctuator(Punctuator::CloseCurly)
 }
 
+/// Returns the hint on what stands where a value lacks.
+fn on_lacking_values(scene: &Scene<'_>) -> Option<Hint> {
+    if !scene.kinds.expression {
+        return None;
+    }
+    let before = scene.before()?.token;
+    let says = match (scene.met(), before) {
+        (Token::Punctuator(Punctuator::CloseRound), Token::Punctuator(Punctuator::OpenRound)) => {
+            "a condition stands in these brackets: that of `while (1)` is always true"
+        }
+        (
+            Token::Punctuator(Punctuator::CloseRound | Punctuator::Comma),
+            Token::Punctuator(Punctuator::Comma),
+        )
+        | (Token::Punctuator(Punctuator::Comma), _) => {
+            "an argument is missing beside this `,`, or the `,` is one too many"
+        }
+        (Token::Punctuator(Punctuator::Plus), _) => "a value has no `+` before it: leave it out",
+        (Token::Punctuator(Punctuator::Or), _) => {
+            "there is no `|a|`: write a function of the file that answers it"
+        }
+        (Token::Punctuator(Punctuator::OpenCurly), _) => {
+            "there are no arrays and no lists: use several variables"
+        }
+        (Token::Keyword(Keyword::Type), _) => {
+            "there are no casts, as all values are whole numbers: leave the type and its brackets out"
+        }
+        _ => return None,
+    };
+    Some(Hint::Text(says))
+}
+
 /// Returns the hint on an operator without a right side.
 fn on_operands(scene: &Scene<'_>) -> Option<Hint> {
     let before = scene.before()?.token;
@@ -694,6 +732,13 @@ fn compares(token: &Token) -> bool {
 /// Returns the hint on brackets that aren't closed or not opened, and on arguments without a `,` between them.
 fn on_brackets(scene: &Scene<'_>) -> Option<Hint> {
     let may_close = scene.fits_mark(Punctuator::CloseRound);
+    let follows_number = matches!(scene.before()?.token, Token::Constant(_));
+    if follows_number && scene.is_mark(Punctuator::OpenRound) {
+        return Some(Hint::Text("a product is written with `*`: `2 * (a + b)`"));
+    }
+    if may_close && follows_number && matches!(scene.met(), Token::Name(_)) {
+        return Some(Hint::Text("a number has no unit behind it; or a `,` or a `)` may be missing"));
+    }
     if may_close && parts_arguments(scene) {
         return Some(Hint::Text("a `,` parts the arguments of a call, not a `;`"));
     }
@@ -703,7 +748,7 @@ fn on_brackets(scene: &Scene<'_>) -> Option<Hint> {
     if may_close && !scene.kinds.expression {
         return Some(Hint::Text("a `)` may be missing before it"));
     }
-    if scene.is_mark(Punctuator::CloseRound) && scene.kinds.operator {
+    if scene.is_mark(Punctuator::CloseRound) && (scene.kinds.operator || scene.kinds.statement) {
         return Some(Hint::Text("this `)` has no `(`: perhaps it is one too many"));
     }
     None
@@ -739,6 +784,11 @@ fn on_ends(scene: &Scene<'_>) -> Option<Hint> {
     if scene.fits_mark(Punctuator::Semicolon) && !scene.kinds.statement {
         if before.line < scene.line(scene.index) {
             return Some(Hint::LacksSemicolon(before.line));
+        }
+        if scene.is_word(Keyword::If) {
+            return Some(Hint::Text(
+                "an `if` stands before what it decides: `if (..) a = ..; else a = ..;`",
+            ));
         }
         return Some(Hint::Text("a `;` may be missing before it"));
     }

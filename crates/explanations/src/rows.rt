@@ -88,9 +88,7 @@ fn driven(subject: &Subject<'_>, index: usize) -> Option<(i32, i32)> {
         return None;
     }
     let first = subject.tree.first_of(call);
-    let degree = subject
-        .constants
-        .get(subject.tree.outermost(first, call))?;
+    let degree = subject.constants.get(subject.tree.outermost(first, call))?;
     Some((degree, subject.constants.get(call.saturating_sub(1))?))
 }
 
@@ -129,7 +127,9 @@ pub fn warn_of_loop(
     } else if is_never_begun(subject, index, node, condition, var) {
         out.warn(
             token,
-            Said::Named(" is 0 before this loop, which alone sets it, so the loop never runs: turn the condition round"),
+            Said::Named(
+                " is 0 before this loop, which alone sets it, so the loop never runs: turn the condition round",
+            ),
         );
     }
 }

@@ -1,9 +1,10 @@
 //! Warnings about operators and assignments that probably aren't meant as they are written.
 
-use crate::indices::{token_at, touches};
+use crate::chances::{on_both, on_chance};
+use crate::indices::{is_name, token_at, touches};
 use crate::meanings::Meaning;
 use crate::steps::is_degree;
-use crate::warnings::{Said, Subject, Warnings};
+use crate::warnings::{Meant, Said, Subject, Warnings};
 use derivations::{Located, Node, NodeKind};
 use grammar::{Callee, Intrinsic, Op, StoreOp, Var};
 use tokens::{Punctuator, Token};
@@ -36,7 +37,9 @@ pub fn warn_of_operator(
             left_value,
         ))
         .or(on_quotient(op, subject.meanings.get(left_index), right_value))
-        .or(on_circle(subject, op, node, right_value));
+        .or(on_circle(subject, op, node, right_value))
+        .or(on_chance(subject, op, left_index, right_value))
+        .or(on_both(subject, op, left_index, index.saturating_sub(1)));
     if let Some(words) = words {
         out.tell(node.token, words);
     }
@@ -75,10 +78,14 @@ fn on_values(op: Op, left: Option<i32>, right: Option<i32>) -> Option<&'static s
     let (left, right) = (i64::from(left?), i64::from(right?));
     let whole = match op {
         Op::Divide if left != 0 && left.unsigned_abs() < right.unsigned_abs() => {
-            return Some("both are whole numbers, and so is the quotient: it is 0; multiply before you divide");
+            return Some(
+                "both are whole numbers, and so is the quotient: it is 0; multiply before you divide",
+            );
         }
         Op::Remainder if 0 < left && left < right => {
-            return Some("`%` comes before `+`, so this remainder is the number before it: write `(a + b) % c`");
+            return Some(
+                "`%` comes before `+`, so this remainder is the number before it: write `(a + b) % c`",
+            );
         }
         Op::Add => left.saturating_add(right),
         Op::Subtract => left.saturating_sub(right),
@@ -298,6 +305,15 @@ pub fn warn_of_store(
     {
         out.tell(node.token, on_old_value(step));
     }
+    if op == StoreOp::Set
+        && let Some(value) = subject.constants.get(index.saturating_sub(1))
+        && is_off_course(subject.tokens, node.token, value)
+    {
+        out.warn(
+            node.token,
+            Said::Variable(" is another degree", Meant::Used),
+        );
+    }
     let equals = node.token.saturating_add(1);
     if is_turned(subject.tokens, equals, Punctuator::Minus) {
         out.tell(equals, "`=-` sets the negative; perhaps `-=` is meant");
@@ -305,6 +321,19 @@ pub fn warn_of_store(
     if is_turned(subject.tokens, equals, Punctuator::Not) {
         out.tell(equals, "`=!` sets 1 or 0; perhaps `!=` is meant");
     }
+}
+
+/// The directions, and their degrees.
+static COURSES: [(&str, i32); 4] = [("east", 0), ("north", 90), ("west", 180), ("south", 270)];
+
+/// Reports whether the name of a token is a direction, and a value the degree of another one.
+fn is_off_course(tokens: &[Located], token: usize, value: i32) -> bool {
+    for (course, degree) in &COURSES {
+        if is_name(tokens, token, course.as_bytes()) {
+            return value % 90 == 0 && value % 360 != *degree;
+        }
+    }
+    false
 }
 
 /// Reports whether a `=` is at an index and this punctuator right behind it, with a blank behind both.

@@ -8,6 +8,7 @@ use crate::declarations::Declarations;
 use crate::flow::{warn_of_main, warn_of_recursion, warn_of_uncalled};
 use crate::indices::{name_at, token_at};
 use crate::meanings::Meanings;
+use crate::misnamed::on_used;
 use crate::notes::Note;
 use crate::reach::Reach;
 use crate::rows::warn_of_row;
@@ -76,6 +77,8 @@ pub enum Meant {
     Name(usize),
     /// A call of the robot's own function of this name.
     Call,
+    /// What is said of the name itself, if beginners use it.
+    Used,
     /// What these words say.
     Words(&'static str),
 }
@@ -106,7 +109,10 @@ impl Warning {
             note.position(located.line, located.column);
         }
         note.add("warning: ");
-        if matches!(self.said, Said::Named(_) | Said::Variable(..) | Said::Arguments(..)) {
+        if matches!(
+            self.said,
+            Said::Named(_) | Said::Variable(..) | Said::Arguments(..)
+        ) {
             add_name(&mut note, tokens, self.token);
         }
         match self.said {
@@ -139,8 +145,19 @@ impl Warning {
                 }
                 note.add("()` is meant");
             }
+            Meant::Used => add_used(note, tokens, self.token),
             Meant::Words(words) => note.add(words),
         }
+    }
+}
+
+/// Adds what is said of the name of a token, if beginners use it.
+fn add_used(note: &mut Note, tokens: &[Located], token: usize) {
+    if let Some(name) = name_at(tokens, token)
+        && let Some(words) = on_used(&name)
+    {
+        note.add("; ");
+        note.add(words);
     }
 }
 
