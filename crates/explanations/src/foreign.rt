@@ -10,27 +10,31 @@ use crate::texts::{MOST_PARTS, parted};
 use crate::told::spelling_of;
 use derivations::{Item, Located};
 use grammar::store_operator;
+use std::str;
 use tokens::{Name, Punctuator, Token};
 
-/// A construct that a source has: how it begins, its language, what is said of it, and the index of its token.
+/// A construct that a source has: what is said of it, the number of its language, and the index of its token.
 #[derive(Clone, Copy)]
 pub struct Foreign {
-    looks: &'static str,
-    language: &'static str,
     says: &'static str,
-    index: usize,
+    language: u8,
+    index: u32,
 }
 
 impl Foreign {
     /// Adds in words what it is, if it is another language's than C, and what a robot writes.
     pub fn add(self, note: &mut Note, source: &[u8], tokens: &[Located]) {
-        if self.language != "C" {
-            note.quote(self.looks);
+        let index = self.index as usize;
+        if let Some((language, _)) = LANGUAGES.get(usize::from(self.language))
+            && let Some(located) = tokens.get(index)
+            && *language != "C"
+        {
+            note.quote(spelling_of(source, located));
             note.add(" is ");
-            note.add(self.language);
+            note.add(language);
             note.add(": ");
         }
-        let behind = self.index.saturating_add(1);
+        let behind = index.saturating_add(1);
         if let Some(words) = self.says.strip_prefix('^') {
             note.add(words);
             add_head(note, source, tokens, behind);
@@ -82,88 +86,78 @@ pub fn foreign_name(source: &[u8], tokens: &[Located], index: usize) -> Option<F
     }
     let begin = spelling_of(source, located).as_bytes();
     let rest = source.get(located.end()..).unwrap_or(&[]);
-    for is_exact in [true, false] {
-        if let Some((language, looks, says)) = construct_of(begin, rest, is_exact) {
-            return Some(Foreign {
-                looks,
-                language,
-                says,
-                index,
-            });
-        }
-    }
-    None
-}
-
-/// Returns the language of the first construct that begins so, how it looks, and what is said of it.
-fn construct_of(
-    begin: &[u8],
-    rest: &[u8],
-    is_exact: bool,
-) -> Option<(&'static str, &'static str, &'static str)> {
-    for (language, table) in &LANGUAGES {
-        if let Some((looks, says)) = row_in(*table, begin, Some(rest), is_exact) {
-            return Some((*language, looks, says));
-        }
-    }
-    None
+    let exact = construct_of(begin, Some(rest), true);
+    let (language, says) = exact.or(construct_of(begin, Some(rest), false))?;
+    Some(Foreign {
+        says: str::from_utf8(says).ok()?,
+        language,
+        index: u32::try_from(index).ok()?,
+    })
 }
 
 /// Reports whether a construct begins with this name.
 pub fn is_foreign(name: &Name) -> bool {
-    for (_, table) in &LANGUAGES {
-        if row_in(*table, name.as_bytes(), None, false).is_some() {
-            return true;
-        }
-    }
-    false
+    construct_of(name.as_bytes(), None, false).is_some()
 }
 
-/// Returns how the first construct of a table begins that begins so, and what is said of it. What follows is as its row says,
-/// or anything if it isn't known.
+/// Returns the number of the language of the first construct that begins so, and what is said of it. What follows is as its
+/// row says, or anything if it isn't known.
+#[inline(never)]
+fn construct_of(begin: &[u8], rest: Option<&[u8]>, is_exact: bool) -> Option<(u8, &'static [u8])> {
+    let mut number = 0u8;
+    for (_, table) in &LANGUAGES {
+        if let Some(says) = row_in(table.as_bytes(), begin, rest, is_exact) {
+            return Some((number, says));
+        }
+        number = number.saturating_add(1);
+    }
+    None
+}
+
+/// Returns what a table says of its first construct that begins so, and has behind it what follows.
 fn row_in(
-    table: &'static str,
+    table: &'static [u8],
     begin: &[u8],
     rest: Option<&[u8]>,
     is_exact: bool,
-) -> Option<(&'static str, &'static str)> {
+) -> Option<&'static [u8]> {
     let mut text = table;
     for _ in 0..MOST_PARTS {
-        let (row, below) = parted(text, '\n');
-        let (constructs, says) = parted(row, '\t');
-        if let Some(looks) = construct_in(constructs, begin, rest, is_exact) {
-            return Some((looks, says));
+        let (row, below) = parted(text, b'\n');
+        let (constructs, says) = parted(row, b'\t');
+        if have_construct(constructs, begin, rest, is_exact) {
+            return Some(says);
         }
         text = below;
     }
     None
 }
 
-/// Returns how the first of some constructs begins that begins so, and has behind it what follows.
-fn construct_in(
-    constructs: &'static str,
+/// Reports whether one of some constructs begins so, and has behind it what follows.
+fn have_construct(
+    constructs: &'static [u8],
     begin: &[u8],
     rest: Option<&[u8]>,
     is_exact: bool,
-) -> Option<&'static str> {
+) -> bool {
     let mut text = constructs;
     for _ in 0..MOST_PARTS {
-        let (construct, further) = parted(text, ' ');
-        let (looks, behind) = parted(construct, '\'');
+        let (construct, further) = parted(text, b' ');
+        let (looks, behind) = parted(construct, b'\'');
         if looks.is_empty() {
-            return None;
+            return false;
         }
         let is_meant = if is_exact {
-            begin == looks.as_bytes()
+            begin == looks
         } else {
-            is_same_but_for_case(begin, looks.as_bytes())
+            is_same_but_for_case(begin, looks)
         };
-        if is_meant && may_follow(rest, behind.as_bytes()) {
-            return Some(looks);
+        if is_meant && may_follow(rest, behind) {
+            return true;
         }
         text = further;
     }
-    None
+    false
 }
 
 /// Reports whether some assignment sets the name that a token is.
