@@ -426,6 +426,10 @@ fn on_operators(scene: &Scene<'_>) -> Option<Hint> {
     None
 }
 
+/// What is said of a cast.
+const CAST: &str =
+    "there are no casts, as all values are whole numbers: leave the type and its brackets out";
+
 /// Returns the hint on pointers, addresses and types of values.
 fn on_values(scene: &Scene<'_>) -> Option<Hint> {
     let follows_type = scene.follows(&Token::Keyword(Keyword::Type));
@@ -449,9 +453,7 @@ fn on_values(scene: &Scene<'_>) -> Option<Hint> {
         && scene.follows_mark(Punctuator::OpenRound)
         && !scene.is_outside()
     {
-        return Some(Hint::Text(
-            "there are no casts, as all values are whole numbers: leave the type and its brackets out",
-        ));
+        return Some(Hint::Text(CAST));
     }
     None
 }
@@ -661,36 +663,53 @@ fn ends_block(scene: &Scene<'_>) -> bool {
     scene.follows_mark(Punctuator::Semicolon) && before == Token::Punctuator(Punctuator::CloseCurly)
 }
 
-/// Returns the hint on what stands where a value lacks.
+/// What is said of a `,` without an argument on one of its sides.
+const LONE_COMMA: &str = "an argument is missing beside this `,`, or the `,` is one too many";
+
+/// What stands where a value lacks: a punctuator, the one that is met behind it, and what is said.
+static LACKING: [(Punctuator, Punctuator, &str); 4] = [
+    (
+        Punctuator::OpenRound,
+        Punctuator::CloseRound,
+        "a condition stands in these brackets: that of `while (1)` is always true",
+    ),
+    (Punctuator::OpenRound, Punctuator::Comma, LONE_COMMA),
+    (Punctuator::Comma, Punctuator::Comma, LONE_COMMA),
+    (Punctuator::Comma, Punctuator::CloseRound, LONE_COMMA),
+];
+
+/// Punctuators that begin a value in another language, and what is said of each.
+static BEGINNING: [(Punctuator, &str); 3] = [
+    (
+        Punctuator::Plus,
+        "a value has no `+` before it: leave it out",
+    ),
+    (
+        Punctuator::Or,
+        "there is no `|a|`: write a function of the file that answers it",
+    ),
+    (
+        Punctuator::OpenCurly,
+        "there are no arrays and no lists: use several variables",
+    ),
+];
+
+/// Returns the hint on what stands where a value lacks, or begins one in another language.
 fn on_lacking_values(scene: &Scene<'_>) -> Option<Hint> {
     if !scene.kinds.expression {
         return None;
     }
-    let before = scene.before()?.token;
-    let says = match (scene.met(), before) {
-        (Token::Punctuator(Punctuator::CloseRound), Token::Punctuator(Punctuator::OpenRound)) => {
-            "a condition stands in these brackets: that of `while (1)` is always true"
+    for (before, met, says) in &LACKING {
+        if scene.follows_mark(*before) && scene.is_mark(*met) {
+            return Some(Hint::Text(*says));
         }
-        (
-            Token::Punctuator(Punctuator::CloseRound | Punctuator::Comma),
-            Token::Punctuator(Punctuator::Comma),
-        )
-        | (Token::Punctuator(Punctuator::Comma), _) => {
-            "an argument is missing beside this `,`, or the `,` is one too many"
+    }
+    for (met, says) in &BEGINNING {
+        if scene.is_mark(*met) {
+            return Some(Hint::Text(*says));
         }
-        (Token::Punctuator(Punctuator::Plus), _) => "a value has no `+` before it: leave it out",
-        (Token::Punctuator(Punctuator::Or), _) => {
-            "there is no `|a|`: write a function of the file that answers it"
-        }
-        (Token::Punctuator(Punctuator::OpenCurly), _) => {
-            "there are no arrays and no lists: use several variables"
-        }
-        (Token::Keyword(Keyword::Type), _) => {
-            "there are no casts, as all values are whole numbers: leave the type and its brackets out"
-        }
-        _ => return None,
-    };
-    Some(Hint::Text(says))
+    }
+    scene.is_word(Keyword::Type).then_some(Hint::Text(CAST))
 }
 
 /// Returns the hint on an operator without a right side.

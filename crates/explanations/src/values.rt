@@ -190,7 +190,9 @@ fn turned(op: Op) -> Op {
     }
 }
 
-/// Reports whether a comparison holds of two numbers, if the operator is one.
+/// Reports whether a comparison holds of two numbers, if the operator is one. It isn't inlined, since the page's module is to
+/// be small.
+#[inline(never)]
 pub fn holds(op: Op, left: i32, right: i32) -> Option<bool> {
     match op {
         Op::Less => Some(left < right),
@@ -330,7 +332,7 @@ static COURSES: [(&str, i32); 4] = [("east", 0), ("north", 90), ("west", 180), (
 fn is_off_course(tokens: &[Located], token: usize, value: i32) -> bool {
     for (course, degree) in &COURSES {
         if is_name(tokens, token, course.as_bytes()) {
-            return value % 90 == 0 && value % 360 != *degree;
+            return value % 90 == 0 && value.saturating_sub(*degree) % 360 != 0;
         }
     }
     false
