@@ -219,19 +219,24 @@ fn is_variable(tokens: &[Located], name: &Name) -> bool {
 /// Adds which function may be meant as `main`, or that it is in a comment.
 fn add_main(note: &mut Note, found: &Found<'_>, defined: &[usize]) {
     note.add("a robot begins in its function `main`");
-    if let Some(function) = near_function(found.tokens, defined, b"main").or(only_of(
-        found, defined,
-    )) {
-        note.add(": perhaps ");
-        note.quote(text_of(&function));
-        note.add(" is to be it");
+    if let Some(function) = near_function(found.tokens, defined, b"main") {
+        add_as_main(note, &function);
     } else if let Some(line) = swallowed(found.source, b"main") {
         note.count(
             ": a comment that isn't closed on line ",
             u64::from(line),
             " has it",
         );
+    } else if let Some(function) = only_of(found, defined) {
+        add_as_main(note, &function);
     }
+}
+
+/// Adds that a function is perhaps to be `main`.
+fn add_as_main(note: &mut Note, function: &Name) {
+    note.add(": perhaps ");
+    note.quote(text_of(function));
+    note.add(" is to be it");
 }
 
 /// Returns the name of the function that the file has, if it is one alone.
