@@ -58,6 +58,8 @@ pub fn on_both(subject: &Subject<'_>, op: Op, left: usize, right: usize) -> Opti
 }
 
 /// Returns the comparison that the node of an index is: of a variable, or of what a call without arguments answers.
+/// It isn't inlined, since the page's module is to be small.
+#[inline(never)]
 fn compared(subject: &Subject<'_>, index: usize) -> Option<Comparison> {
     let node = subject.tree.get(index)?;
     let first = subject.tree.get(node.first)?;

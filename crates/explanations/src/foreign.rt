@@ -182,6 +182,8 @@ fn may_follow(rest: Option<&[u8]>, wanted: &[u8]) -> bool {
 }
 
 /// Reports whether a text begins as a row says.
+/// It isn't inlined, since the page's module is to be small.
+#[inline(never)]
 fn begins_so(text: &[u8], wanted: &[u8]) -> bool {
     match (text, wanted) {
         (_, []) => true,

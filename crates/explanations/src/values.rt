@@ -140,6 +140,8 @@ fn is_small(op: Op, value: i32) -> bool {
 
 /// Returns what is said of a comparison of what is meant so with a number, if it has always the same answer: of a damage
 /// and a speed only if that is no.
+/// It isn't inlined, since the page's module is to be small.
+#[inline(never)]
 fn on_bounds(op: Op, meaning: Meaning, value: Option<i32>) -> Option<&'static str> {
     let (least, greatest) = meaning.bounds()?;
     let value = value?;
@@ -339,6 +341,8 @@ fn is_off_course(tokens: &[Located], token: usize, value: i32) -> bool {
 }
 
 /// Reports whether a `=` is at an index and this punctuator right behind it, with a blank behind both.
+/// It isn't inlined, since the page's module is to be small.
+#[inline(never)]
 pub fn is_turned(tokens: &[Located], equals: usize, punctuator: Punctuator) -> bool {
     let next = equals.saturating_add(1);
     token_at(tokens, equals) == Token::Punctuator(Punctuator::Equals)

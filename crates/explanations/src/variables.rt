@@ -265,6 +265,8 @@ fn note_use(uses: &mut Uses, index: usize, node: &Node, is_used: bool) {
 }
 
 /// Returns the variable that a node sets, if it sets one itself.
+/// It isn't inlined, since the page's module is to be small.
+#[inline(never)]
 pub fn set_by(node: &Node) -> Option<Var> {
     match node.kind {
         NodeKind::Store(var, _)

@@ -46,6 +46,8 @@ pub struct Subject<'a> {
 
 impl<'a> Subject<'a> {
     /// Returns the node of an index, with its value if that is known.
+    /// It isn't inlined, since the page's module is to be small.
+    #[inline(never)]
     pub fn valued(&self, index: usize) -> Option<(&'a Node, Option<i32>)> {
         Some((self.tree.get(index)?, self.constants.get(index)))
     }
