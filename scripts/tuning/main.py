@@ -102,7 +102,7 @@ def sweep(games: Games) -> None:
 
 
 def limited(games: Games) -> list[str]:
-    """A warning, if most matches were ended by the limit: then they say little."""
+    """A warning, if most matches were ties: then they say little."""
     ties, matches, cycles = games.scores.ties, games.scores.matches, games.given.cycles
     return [f"{ties} of {matches} matches were tied: with a limit above {cycles} cycles (-l) they may say more\n"] if 2 * ties > matches else []
 
