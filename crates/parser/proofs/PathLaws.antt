@@ -1,5 +1,5 @@
 -- One step of the derivation after another, from the file's start on.
-use Rattle.std.proofs.Common.{◌≡◌, ℕ, zero, suc, ◌+◌, ◌<◌, List, [], ◌∷◌, ◌++◌, refl, sym, ap, ◌∙◌, subst, Bool, true, false, append_assoc, append-nil, zero-add, suc-add, length}
+use Rattle.std.proofs.Common.{◌≡◌, ℕ, zero, suc, ◌+◌, ◌<◌, List, [], ◌∷◌, ◌++◌, refl, sym, ap, ap₂, ◌∙◌, subst, Bool, true, false, append_assoc, append-nil, zero-add, suc-add, length}
 use Rattle.std.specs.Prelude.{pos, Some, nat_le}
 use Rattle.tokens.specs.Tokens.{followed_by, is_last}
 use Rattle.tokens.specs.declared.located_tokens.LocatedToken.{LocatedToken}
@@ -17,7 +17,7 @@ use Rattle.grammar.specs.declared.name_limits.TheConstants.{MOST_NESTED}
 use Rattle.grammar.specs.Beginning.{IsBeginning}
 use Rattle.grammar.specs.Building.{AppendsAll, MayFollow, MayFollowAll, Representation}
 use Rattle.grammar.specs.Derivation.{State, PartialTree, Definition, AnExpr, trees_after, scope_after_action, functions_defined, next_token, name_of_token, name_tree, derived, initial_state, stepped}
-use Rattle.grammar.specs.Faults.{Fault, item_faults, faults_at, faults_in, fault, nested_count, only_if}
+use Rattle.grammar.specs.Faults.{item_faults, faults_at, faults_in, fault, nested_count, only_if}
 use Rattle.grammar.specs.Grammar.{External, Parameter, Typed, Local, AConstant, AKeyword, AName, Role, Close, Exactly, Item, Make, Part, SemanticAction, Symbol, Define, choice, is_punctuator, is_keyword, enters}
 use Rattle.grammar.specs.Laws.Naming.{LearnsName}
 use Rattle.grammar.specs.Laws.Parsing.{DerivesWithoutFault as Clean}
@@ -57,9 +57,6 @@ emissions-add (suc m) n s =
     ∙ ap (λ (acts : List Action). emitted s ++ acts) (emissions-add m n (stepped s))
     ∙ sym (append_assoc (emitted s) (emissions m (stepped s)) (emissions n (derived m (stepped s))))
 
-both_empty : (xs ys : List Fault) → xs ≡ [] → ys ≡ [] → xs ++ ys ≡ []
-both_empty xs ys p q = rw (p, q) refl
-
 both_same : (xs ys zs more : List Action) → xs ≡ ys → zs ≡ more → xs ++ (zs ++ []) ≡ and_then ys more
 both_same xs ys zs [] p q = rw (p, q, append-nil ys) refl
 both_same xs ys zs (a ∷ more) p q = rw (p, q, append-nil more) refl
@@ -69,7 +66,7 @@ pub leads_more : (profile : Profile) (n : ℕ) (ls : List LocatedToken) (s t : S
 leads_more profile n ls s t acts more h k = record {
   comes = derived-add n 1 (initial_state ls) ∙ ap (λ (v : State). stepped v) h.comes ∙ k.leads;
   clean = faults_in-add profile n 1 (initial_state ls)
-      ∙ both_empty _ _ h.clean (ap (λ (v : State). faults_in profile 1 v) h.comes ∙ both_empty _ _ k.clean refl);
+      ∙ ap₂ ◌++◌ h.clean (ap (λ (v : State). faults_in profile 1 v) h.comes ∙ ap₂ ◌++◌ k.clean refl);
   emits = emissions-add n 1 (initial_state ls)
       ∙ ap (λ (v : State). emissions n (initial_state ls) ++ emissions 1 v) h.comes
       ∙ both_same _ _ _ _ h.emits k.emits;
