@@ -64,7 +64,7 @@ impl<F: Feed, B: Build> Automaton<'_, '_, '_, F, B> {
 
     /// Goes on behind the dot of the frame on top.
     #[inline(always)]
-    fn enclosing(&mut self) -> Result<Front, ParseFault>
+    pub fn enclosing(&mut self) -> Result<Front, ParseFault>
         requires at { IsAt B.stands Front.Enclosing self.old }
         ensures moves { Moves result B.denied B.stands Front.Enclosing self.old self.new }
         ensures falls { Falls result Front.Enclosing self.old self.new }

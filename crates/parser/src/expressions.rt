@@ -73,7 +73,7 @@ impl<F: Feed, B: Build> Automaton<'_, '_, '_, F, B> {
         ensures builder { KeepsBuilder self.old self.new }
     {
         let Some(binary) = operator_from(&self.tokens.peek().token, floor) else {
-            return Ok(Front::Enclosing);
+            return self.enclosing();
         };
         report_middle(self.builder, binary.op)?;
         self.tokens.advance()?;

@@ -166,7 +166,7 @@ impl<F: Feed, B: Build> Automaton<'_, '_, '_, F, B> {
     {
         if !is_punctuator(&self.tokens.peek().token, Punctuator::Comma) {
             self.depth -= 1;
-            return Ok(Front::CallEnd(callee, floor));
+            return self.end_call(callee, floor);
         }
         self.tokens.advance()?;
         self.frames.push(Frame::Call(callee, floor));
@@ -212,7 +212,7 @@ impl<F: Feed, B: Build> Automaton<'_, '_, '_, F, B> {
     {
         let var = self.tokens.expect_variable()?;
         self.builder.act(Action::FetchVariable(var))?;
-        Ok(Front::Operators(floor))
+        self.operators(floor)
     }
 
     /// `primary → • ( expr )`

@@ -5,21 +5,38 @@ use Rattle.grammar.specs.Grammar.{AddArgument, is_punctuator}
 use Rattle.grammar.specs.Faults.{nested_count}
 use Rattle.parser.specs.Automata.{all_tails, stack_of}
 use Rattle.parser.specs.ScopedCursors.{token_of}
-use Rattle.parser.proofs.AutomatonLaws.{awaits, closes, comes_to, has_room, nested_tails}
+use Rattle.parser.proofs.AutomatonLaws.{awaits, closes, comes_to, has_room, moves_from, nested_tails}
 use Rattle.parser.proofs.OperandSteps.{last_argument_path, next_argument_path}
 use Rattle.parser.proofs.PathLaws.{made, punctuator_falls, punctuator_past}
 use Rattle.parser.proofs.TreeLaws.{done_at, has_call, has_expr, on_both, valued}
 use Rattle.parser.proofs.automaton.Automaton.argument.Goals as goal
 
+pub end_call-requires : goal.end_call-requires
+end_call-requires g c =
+    let other : is_punctuator punctuator.Comma (token_of c.args.self.now.tokens) ≡ false = cc in
+    let h = c.requires.at.is in
+    let x = has_expr _ h.values (done_at 0 h.fits h.fits.takes.0).1 in
+    let y = has_call c.args.callee _ x.rest x.below in
+    record {
+      at = record {
+        start = c.requires.at.start;
+        is = comes_to h (last_argument_path other (made AddArgument tt (valued (on_both x.is y.is) h.path))) h.told
+            (closes c.args.floor _ c.args.self.now.frames h.depth) (omega (arith, h.few))
+            (record { least = h.fits.takes.1; most = h.fits.takes.2; takes = h.fits.takes.3; trees = (refl, y.below) });
+      };
+    }
+
 pub returns-then-not-is_punctuator-clause-moves : goal.returns-then-not-is_punctuator-clause-moves
 returns-then-not-is_punctuator-clause-moves g c =
     let other : is_punctuator punctuator.Comma (token_of c.args.self.now.tokens) ≡ false = cc in
-    λ o h.
+    moves_from _ _ _ _ _ _ _ c.end_call.result
+    (λ o h.
     let x = has_expr _ h.values (done_at 0 h.fits h.fits.takes.0).1 in
     let y = has_call c.args.callee _ x.rest x.below in
     comes_to h (last_argument_path other (made AddArgument tt (valued (on_both x.is y.is) h.path))) h.told
     (closes c.args.floor _ c.args.self.now.frames h.depth) (omega (arith, h.few))
-    (record { least = h.fits.takes.1; most = h.fits.takes.2; takes = h.fits.takes.3; trees = (refl, y.below) })
+    (record { least = h.fits.takes.1; most = h.fits.takes.2; takes = h.fits.takes.3; trees = (refl, y.below) }))
+    c.end_call.ensures.moves
 
 pub returns-in_err-advance-clause-moves : goal.returns-in_err-advance-clause-moves
 returns-in_err-advance-clause-moves g c =

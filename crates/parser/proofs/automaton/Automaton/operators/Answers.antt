@@ -5,23 +5,40 @@ use Rattle.grammar.specs.Actions.{middle}
 use Rattle.grammar.specs.Laws.Climbing.{operator_from}
 use Rattle.parser.specs.Automata.{stack_of}
 use Rattle.parser.specs.ScopedCursors.{token_of}
-use Rattle.parser.proofs.AutomatonLaws.{comes_to, has_place, may_report, nested_tails, refuses, told_all}
+use Rattle.parser.proofs.AutomatonLaws.{comes_to, has_place, may_report, moves_from, nested_tails, refuses, told_all}
 use Rattle.parser.proofs.ExpressionSteps.{operand_path, operator_path}
 use Rattle.parser.proofs.Operators.{at_its_own, found, spells, ten_levels}
 use Rattle.parser.proofs.PathLaws.{out_of_memory, punctuator_falls, punctuator_past}
 use Rattle.parser.proofs.TreeLaws.{ends_at}
 use Rattle.parser.proofs.automaton.Automaton.operators.Goals as goal
 
+pub enclosing-requires : goal.enclosing-requires
+enclosing-requires g c =
+    let none : operator_from c.args.floor (token_of c.args.self.now.tokens) ≡ None = cc in
+    let h = c.requires.at.is in
+    record {
+      at = record {
+        start = c.requires.at.start;
+        is = comes_to h (rw none at h.path) h.told h.depth h.few
+            (record {
+              level = c.args.floor;
+              takes = h.fits.takes;
+              ends = ends_at _ _ _ c.args.floor h.fits.least none h.fits.trees;
+            });
+      };
+    }
+
 pub returns-in_default-clause-moves : goal.returns-in_default-clause-moves
 returns-in_default-clause-moves g c =
     let none : operator_from c.args.floor (token_of c.args.self.now.tokens) ≡ None = cc in
-    λ o h.
-    comes_to h (rw none at h.path) h.told h.depth h.few
+    moves_from _ _ _ _ _ _ _ c.enclosing.result
+    (λ o h. comes_to h (rw none at h.path) h.told h.depth h.few
     (record {
       level = c.args.floor;
       takes = h.fits.takes;
       ends = ends_at _ _ _ c.args.floor h.fits.least none h.fits.trees;
-    })
+    }))
+    c.enclosing.ensures.moves
 
 pub report_middle-requires : goal.report_middle-requires
 report_middle-requires g c =

@@ -1,7 +1,7 @@
 use Rattle.std.proofs.Common.{[], ◌∷◌, refl}
 use Rattle.std.proofs.lemmas.Result.{err_from_is_err_and}
 use Rattle.grammar.specs.Grammar.{AName, Fetch, Mentioned}
-use Rattle.parser.proofs.AutomatonLaws.{operand_done, refuses}
+use Rattle.parser.proofs.AutomatonLaws.{moves_from, operand_done, refuses}
 use Rattle.parser.proofs.OperandSteps.{variable_path}
 use Rattle.parser.proofs.PathLaws.{falls, made, may, told_more, out_of_memory}
 use Rattle.parser.proofs.automaton.Automaton.variable.Goals as goal
@@ -30,8 +30,22 @@ returns-in_err-act-clause-moves g c =
     out_of_memory (c.in_ok-var.ensures.passes _ _ _ _ (variable_path c.requires.starts h.path))
     (refuses c.in_err-act.field-0.0 _ c.in_err-act.ensures.judged))
 
+pub operators-requires : goal.operators-requires
+operators-requires g c =
+    let h = c.requires.at.is in
+    record {
+      at = record {
+        start = c.requires.at.start;
+        is = operand_done c.args.floor h
+            (made Fetch tt (c.in_ok-var.ensures.passes _ _ _ _ (variable_path c.requires.starts h.path)))
+            (told_more _ _ c.in_ok-act.ensures.ok h.told) refl refl;
+      };
+    }
+
 pub returns-clause-moves : goal.returns-clause-moves
-returns-clause-moves g c = λ o h.
-    operand_done c.args.floor h
+returns-clause-moves g c =
+    moves_from _ _ _ _ _ _ _ c.operators.result
+    (λ o h. operand_done c.args.floor h
     (made Fetch tt (c.in_ok-var.ensures.passes _ _ _ _ (variable_path c.requires.starts h.path)))
-    (told_more _ _ c.in_ok-act.ensures.ok h.told) refl refl
+    (told_more _ _ c.in_ok-act.ensures.ok h.told) refl refl)
+    c.operators.ensures.moves
