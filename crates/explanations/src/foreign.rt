@@ -185,13 +185,18 @@ fn may_follow(rest: Option<&[u8]>, wanted: &[u8]) -> bool {
 /// It isn't inlined, since the page's module is to be small.
 #[inline(never)]
 fn begins_so(text: &[u8], wanted: &[u8]) -> bool {
-    match (text, wanted) {
-        (_, []) => true,
-        ([first, ..], [b'@', ..]) => first.is_ascii_alphabetic() || *first == b'_',
-        ([b' ' | b'\t', rest @ ..], [b'&', more @ ..]) => begins_so(rest, more),
-        ([first, rest @ ..], [other, more @ ..]) => first == other && begins_so(rest, more),
-        _ => false,
+    for (number, mark) in wanted.iter().enumerate() {
+        let Some(byte) = text.get(number) else {
+            return false;
+        };
+        match mark {
+            b'@' => return byte.is_ascii_alphabetic() || *byte == b'_',
+            b'&' if matches!(byte, b' ' | b'\t') => {}
+            _ if byte == mark => {}
+            _ => return false,
+        }
     }
+    true
 }
 
 /// Returns a text without the spaces and tabulators that it begins with.

@@ -40,6 +40,9 @@ impl<F: Feed, B: Build> Automaton<'_, '_, '_, F, B> {
     }
 
     /// Goes on by what is in front.
+    ///
+    /// What is called at one place has no hint of inlining: it is inlined anyway, and the compiler takes no notice of the hint
+    /// at a function that would grow very large.
     #[inline(always)]
     fn step(&mut self, front: Front) -> Result<Front, ParseFault>
         requires at { IsAt B.stands front self.old }

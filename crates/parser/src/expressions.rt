@@ -32,7 +32,6 @@ impl<F: Feed, B: Build> Automaton<'_, '_, '_, F, B> {
     }
 
     /// `expr → • name asg expr`
-    #[inline(always)]
     fn assignment(&mut self, op: StoreOp) -> Result<Front, ParseFault>
         requires at { IsAt B.stands Front.Expression self.old }
         requires starts { StartsAssignment op self.old.tokens }
@@ -49,7 +48,6 @@ impl<F: Feed, B: Build> Automaton<'_, '_, '_, F, B> {
     }
 
     /// `expr → name asg expr •`
-    #[inline(always)]
     pub fn store(&mut self, var: Var, op: StoreOp) -> Result<Front, ParseFault>
         requires at { IsAt B.stands Front.Enclosing (with_frame (Frame.Store var op) self.old) }
         ensures moves { Moves result B.denied B.stands Front.Enclosing (with_frame (Frame.Store var op) self.old) self.new }
@@ -83,7 +81,6 @@ impl<F: Feed, B: Build> Automaton<'_, '_, '_, F, B> {
     }
 
     /// `tailN → operator level(N+1) • tailN`
-    #[inline(always)]
     pub fn operate(&mut self, op: Op, level: u8, floor: u8) -> Result<Front, ParseFault>
         requires at { IsAt B.stands Front.Enclosing (with_frame (Frame.Operate op level floor) self.old) }
         ensures moves { Moves result B.denied B.stands Front.Enclosing (with_frame (Frame.Operate op level floor) self.old) self.new }

@@ -20,7 +20,6 @@ impl<F: Feed, B: Build> Automaton<'_, '_, '_, F, B> {
     // source → end, type types head source, and name ( params ) pdecls block source
 
     /// `source → • end`, `• type types head source` and `• name ( params ) pdecls block source`
-    #[inline(always)]
     pub fn source(&mut self) -> Result<Front, ParseFault>
         requires at { IsAt B.stands Front.Source self.old }
         ensures moves { Moves result B.denied B.stands Front.Source self.old self.new }
@@ -38,7 +37,6 @@ impl<F: Feed, B: Build> Automaton<'_, '_, '_, F, B> {
     }
 
     /// `source → • type types head source`
-    #[inline(always)]
     fn typed_part(&mut self) -> Result<Front, ParseFault>
         requires at { IsAt B.stands Front.Source self.old }
         requires starts { IsNextKeyword keyword.Type self.old.tokens }
@@ -54,7 +52,6 @@ impl<F: Feed, B: Build> Automaton<'_, '_, '_, F, B> {
     // head → name ( params ) pdecls block, and name more ;
 
     /// `head → • name ( params ) pdecls block` and `head → • name more ;`
-    #[inline(always)]
     pub fn head(&mut self) -> Result<Front, ParseFault>
         requires at { IsAt B.stands Front.Head self.old }
         ensures moves { Moves result B.denied B.stands Front.Head self.old self.new }
@@ -96,7 +93,6 @@ impl<F: Feed, B: Build> Automaton<'_, '_, '_, F, B> {
     }
 
     /// `block → { decls • stmts }`, of a function
-    #[inline(always)]
     pub fn function(&mut self) -> Result<Front, ParseFault>
         requires at { IsAt B.stands Front.Enclosing (with_frame Frame.Function self.old) }
         ensures moves { Moves result B.denied B.stands Front.Enclosing (with_frame Frame.Function self.old) self.new }

@@ -72,7 +72,6 @@ impl<F: Feed, B: Build> Automaton<'_, '_, '_, F, B> {
     }
 
     /// `level11 → operator level11 •`
-    #[inline(always)]
     pub fn end_sign(&mut self, sign: UnaryOp, floor: u8) -> Result<Front, ParseFault>
         requires at { IsAt B.stands Front.Enclosing (with_frame (Frame.Sign sign floor) self.old) }
         ensures moves { Moves result B.denied B.stands Front.Enclosing (with_frame (Frame.Sign sign floor) self.old) self.new }
@@ -104,7 +103,6 @@ impl<F: Feed, B: Build> Automaton<'_, '_, '_, F, B> {
     // moreargs → , expr moreargs, and empty if no comma is next
 
     /// `primary → • constant`
-    #[inline(always)]
     fn constant(&mut self, value: u32, floor: u8) -> Result<Front, ParseFault>
         requires at { IsAt B.stands (Front.Operand floor) self.old }
         requires starts { StartsConstant value self.old.tokens }
@@ -157,7 +155,6 @@ impl<F: Feed, B: Build> Automaton<'_, '_, '_, F, B> {
     }
 
     /// `primary → name ( expr • moreargs )`
-    #[inline(always)]
     pub fn argument(&mut self, callee: Callee, floor: u8) -> Result<Front, ParseFault>
         requires at { IsAt B.stands Front.Enclosing (with_frame (Frame.Call callee floor) self.old) }
         ensures moves { Moves result B.denied B.stands Front.Enclosing (with_frame (Frame.Call callee floor) self.old) self.new }
@@ -232,7 +229,6 @@ impl<F: Feed, B: Build> Automaton<'_, '_, '_, F, B> {
     }
 
     /// `primary → ( expr • )`
-    #[inline(always)]
     pub fn end_bracket(&mut self, floor: u8) -> Result<Front, ParseFault>
         requires at { IsAt B.stands Front.Enclosing (with_frame (Frame.Bracket floor) self.old) }
         ensures moves { Moves result B.denied B.stands Front.Enclosing (with_frame (Frame.Bracket floor) self.old) self.new }

@@ -16,7 +16,6 @@ use tokens::{Feed, Keyword, Punctuator, Token};
 
 impl<F: Feed, B: Build> Automaton<'_, '_, '_, F, B> {
     /// `stmt → • ;`, `• block`, `• if ( expr ) stmt elsepart`, `• while ( expr ) stmt`, `• return back ;` and `• expr ;`
-    #[inline(always)]
     pub fn statement(&mut self) -> Result<Front, ParseFault>
         requires at { IsAt B.stands Front.Statement self.old }
         ensures moves { Moves result B.denied B.stands Front.Statement self.old self.new }
@@ -36,7 +35,6 @@ impl<F: Feed, B: Build> Automaton<'_, '_, '_, F, B> {
     // stmt → ;
 
     /// `stmt → • ;`
-    #[inline(always)]
     fn empty_statement(&mut self) -> Result<Front, ParseFault>
         requires at { IsAt B.stands Front.Statement self.old }
         requires starts { IsNextPunctuator punctuator.Semicolon self.old.tokens }
@@ -52,7 +50,6 @@ impl<F: Feed, B: Build> Automaton<'_, '_, '_, F, B> {
     // elsepart → else stmt, and empty if no `else` is next
 
     /// `stmt → • if ( expr ) stmt elsepart`
-    #[inline(always)]
     fn if_statement(&mut self) -> Result<Front, ParseFault>
         requires at { IsAt B.stands Front.Statement self.old }
         requires starts { IsNextKeyword keyword.If self.old.tokens }
@@ -69,7 +66,6 @@ impl<F: Feed, B: Build> Automaton<'_, '_, '_, F, B> {
     }
 
     /// `stmt → if ( expr • ) stmt elsepart`
-    #[inline(always)]
     pub fn if_test(&mut self) -> Result<Front, ParseFault>
         requires at { IsAt B.stands Front.Enclosing (with_frame Frame.If self.old) }
         ensures moves { Moves result B.denied B.stands Front.Enclosing (with_frame Frame.If self.old) self.new }
@@ -83,7 +79,6 @@ impl<F: Feed, B: Build> Automaton<'_, '_, '_, F, B> {
     }
 
     /// `stmt → if ( expr ) stmt • elsepart`
-    #[inline(always)]
     pub fn else_part(&mut self) -> Result<Front, ParseFault>
         requires at { IsAt B.stands Front.Enclosing (with_frame Frame.Then self.old) }
         ensures moves { Moves result B.denied B.stands Front.Enclosing (with_frame Frame.Then self.old) self.new }
@@ -99,7 +94,6 @@ impl<F: Feed, B: Build> Automaton<'_, '_, '_, F, B> {
     }
 
     /// `elsepart → • else stmt`
-    #[inline(always)]
     fn else_branch(&mut self) -> Result<Front, ParseFault>
         requires at { IsAt B.stands Front.Enclosing (with_frame Frame.Then self.old) }
         requires starts { IsNextKeyword keyword.Else self.old.tokens }
@@ -114,7 +108,6 @@ impl<F: Feed, B: Build> Automaton<'_, '_, '_, F, B> {
     }
 
     /// `elsepart → else stmt •`
-    #[inline(always)]
     pub fn end_if(&mut self) -> Result<Front, ParseFault>
         requires at { IsAt B.stands Front.Enclosing (with_frame Frame.Else self.old) }
         ensures moves { Moves result B.denied B.stands Front.Enclosing (with_frame Frame.Else self.old) self.new }
@@ -129,7 +122,6 @@ impl<F: Feed, B: Build> Automaton<'_, '_, '_, F, B> {
     // stmt → while ( expr ) stmt
 
     /// `stmt → • while ( expr ) stmt`
-    #[inline(always)]
     fn while_statement(&mut self) -> Result<Front, ParseFault>
         requires at { IsAt B.stands Front.Statement self.old }
         requires starts { IsNextKeyword keyword.While self.old.tokens }
@@ -147,7 +139,6 @@ impl<F: Feed, B: Build> Automaton<'_, '_, '_, F, B> {
     }
 
     /// `stmt → while ( expr • ) stmt`
-    #[inline(always)]
     pub fn while_test(&mut self) -> Result<Front, ParseFault>
         requires at { IsAt B.stands Front.Enclosing (with_frame Frame.While self.old) }
         ensures moves { Moves result B.denied B.stands Front.Enclosing (with_frame Frame.While self.old) self.new }
@@ -161,7 +152,6 @@ impl<F: Feed, B: Build> Automaton<'_, '_, '_, F, B> {
     }
 
     /// `stmt → while ( expr ) stmt •`
-    #[inline(always)]
     pub fn end_while(&mut self) -> Result<Front, ParseFault>
         requires at { IsAt B.stands Front.Enclosing (with_frame Frame.Loop self.old) }
         ensures moves { Moves result B.denied B.stands Front.Enclosing (with_frame Frame.Loop self.old) self.new }
@@ -177,7 +167,6 @@ impl<F: Feed, B: Build> Automaton<'_, '_, '_, F, B> {
     // back → expr, and empty at the semicolon
 
     /// `stmt → • return back ;`
-    #[inline(always)]
     fn return_statement(&mut self) -> Result<Front, ParseFault>
         requires at { IsAt B.stands Front.Statement self.old }
         requires starts { IsNextKeyword keyword.Return self.old.tokens }
@@ -195,7 +184,6 @@ impl<F: Feed, B: Build> Automaton<'_, '_, '_, F, B> {
     }
 
     /// `stmt → return back • ;`
-    #[inline(always)]
     pub fn end_return(&mut self) -> Result<Front, ParseFault>
         requires at { IsAt B.stands Front.Enclosing (with_frame Frame.Return self.old) }
         ensures moves { Moves result B.denied B.stands Front.Enclosing (with_frame Frame.Return self.old) self.new }
@@ -210,7 +198,6 @@ impl<F: Feed, B: Build> Automaton<'_, '_, '_, F, B> {
     // stmt → expr ;
 
     /// `stmt → • expr ;`
-    #[inline(always)]
     fn evaluation(&mut self) -> Result<Front, ParseFault>
         requires at { IsAt B.stands Front.Statement self.old }
         requires starts { StartsEvaluation self.old.tokens }
@@ -223,7 +210,6 @@ impl<F: Feed, B: Build> Automaton<'_, '_, '_, F, B> {
     }
 
     /// `stmt → expr • ;`
-    #[inline(always)]
     pub fn end_evaluation(&mut self) -> Result<Front, ParseFault>
         requires at { IsAt B.stands Front.Enclosing (with_frame Frame.Evaluate self.old) }
         ensures moves { Moves result B.denied B.stands Front.Enclosing (with_frame Frame.Evaluate self.old) self.new }
@@ -239,7 +225,6 @@ impl<F: Feed, B: Build> Automaton<'_, '_, '_, F, B> {
     // stmts → stmt stmts, and empty at the closing brace
 
     /// `block → • { decls stmts }`
-    #[inline(always)]
     fn begin_block(&mut self) -> Result<Front, ParseFault>
         requires at { IsAt B.stands Front.Statement self.old }
         requires starts { IsNextPunctuator punctuator.OpenCurly self.old.tokens }
@@ -256,7 +241,6 @@ impl<F: Feed, B: Build> Automaton<'_, '_, '_, F, B> {
     }
 
     /// `block → { decls • stmts }`
-    #[inline(always)]
     pub fn block(&mut self) -> Result<Front, ParseFault>
         requires at { IsAt B.stands Front.Enclosing (with_frame Frame.Block self.old) }
         ensures moves { Moves result B.denied B.stands Front.Enclosing (with_frame Frame.Block self.old) self.new }
