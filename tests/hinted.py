@@ -18,8 +18,6 @@ PLACES = [
     ("drive(9, @);", "speed", {"coordinate"}),
     ("look = scan(9, @); cannon(9, look);", "resolution", {"range", "speed", "damage", "coordinate"}),
 ]
-# How a row of the table of languages begins in the code, and its parts.
-A_ROW = re.compile(r'\(\s*"((?:[^"\\]|\\.)*)",\s*"((?:[^"\\]|\\.)*)",\s*"([^"]*)",\s*"((?:[^"\\]|\\.)*)",\s*Line::(\w+),?\s*\)')
 
 
 @dataclass
@@ -33,13 +31,13 @@ class Row:
 
     def shown(self) -> str:
         """How a page shows it."""
-        behind = "" if self.behind == "@" else self.behind
+        behind = self.behind.rstrip("@").strip("&")
         between = " " if self.looks[-1].isalnum() and re.match(r'[\w"<]', behind) else ""
         return f"`{self.looks}{between}{behind}`"
 
     def source(self) -> str:
         """A source that has it, in a statement."""
-        behind = "thing" if self.behind == "@" else self.behind
+        behind = self.behind.replace("@", "thing").replace("&", " ")
         between = " " if self.looks[-1].isalnum() else ""
         return f"main() {{\n  while (1) {{\n    drive(0, 50);\n    {self.looks}{between}{behind}\n  }}\n}}\n"
 
@@ -49,8 +47,21 @@ class Row:
 
 
 def rows_of(code: str) -> list[Row]:
-    """The rows of the table of languages in the code."""
-    return [Row(*(part.replace('\\"', '"') for part in found[:4])) for found in A_ROW.findall(code)]
+    """The rows of the table of languages in the code: a text of each language, a line each."""
+    names = [line.strip().strip("(),").split(", ") for line in code.partition("= [\n")[2].partition("];")[0].splitlines()]
+    texts = dict(part.partition(": &str =")[::2] for part in code.split("\nconst ")[1:])
+    return [row for language, name in names for line in plain_text(texts[name]).split("\n") for row in rows_in(line, language.strip('"'))]
+
+
+def plain_text(text: str) -> str:
+    """A text of the code between its quotes, with the characters that its escapes stand for."""
+    return text.partition('"')[2].partition('";')[0].replace('\\"', '"').replace("\\t", "\t")
+
+
+def rows_in(line: str, language: str) -> list[Row]:
+    """The rows of a line: it has constructs, and what is said of each."""
+    constructs, _, says = line.partition("\t")
+    return [Row(looks, behind, language, says.lstrip("^;")) for looks, _, behind in (construct.partition("'") for construct in constructs.split(" "))]
 
 
 def block(random_: random.Random, margin: str, unit: str, is_own_line: bool, depth: int) -> list[str]:

@@ -10,6 +10,7 @@ import contextlib
 import os
 import signal
 import subprocess
+import sys
 import threading
 import time
 import traceback
@@ -37,9 +38,18 @@ def kill(*leaders: int) -> None:
             os.killpg(leader, signal.SIGKILL)
 
 
+def stop(number: int, _frame: object) -> None:
+    """Ends this process when it is asked to, and with it the groups that run in it."""
+    kill(*LEADERS)
+    sys.exit(128 + number)
+
+
 @contextlib.contextmanager
 def group(words: Sequence[str], **how: Any) -> Iterator[subprocess.Popen[Any]]:
-    """A program in a group of processes of its own; none of them is left at the end. Nobody else waits for the program."""
+    """A program in a group of processes of its own; none of them is left at the end, nor if this process is asked to end. Nobody else
+    waits for the program."""
+    if threading.current_thread() is threading.main_thread():
+        signal.signal(signal.SIGTERM, stop)
     given: dict[str, Any] = {"stdin": subprocess.DEVNULL, "stdout": subprocess.DEVNULL, "stderr": subprocess.DEVNULL} | how
     with subprocess.Popen(words, start_new_session=True, **given) as child:
         LEADERS.add(child.pid)

@@ -4,6 +4,7 @@ from __future__ import annotations
 
 import os
 import re
+import signal
 import subprocess
 from dataclasses import dataclass, field
 from typing import Any, Callable, Iterable
@@ -170,6 +171,8 @@ class Adapter:
         return None
 
     def disconnected(self, _: Fields) -> Answer:
+        # who ends this process now, as Kate does, isn't told that it crashed
+        signal.signal(signal.SIGTERM, signal.SIG_IGN)
         self._loop.is_over = True
         return None
 

@@ -7,8 +7,9 @@ sections and by instructions. The lowered one may differ from the wide one in th
 - the place of a piece of data is a constant of 32 bits, and the same number
 - sections for tools are gone
 - each function has three more locals after its own, which nothing but the accesses uses
-- each access to the memory is the same, with its address wrapped, and its count if it is a copy or a fill; if the instruction
-  before a store only puts its value on the stack, the wrap stands before that one, where the address is on top as well
+- each access to the memory is the same, with its address wrapped, and its count if it is a copy or a fill; if instructions
+  in a row before a store make its value, and take nothing else from the stack, the wrap stands before them, where the
+  address is on top as well
 - an exported function begins with a test of each 64-bit argument: one that isn't below the memory's size ends the call
 - numbers in code may be written shorter
 
@@ -41,8 +42,11 @@ PLAIN = {UNREACHABLE, 0x01, 0x05, END, 0x0F, 0x1A, 0x1B, WRAP, 0xAC, EXTEND}
 PLAIN.update(range(0x45, 0x5B), range(0x67, 0x8B), range(0xC0, 0xC5))
 LOADS = {0x28, 0x29, 0x2C, 0x2D, 0x2E, 0x2F, 0x30, 0x31, 0x32, 0x33, 0x34, 0x35}
 STORES_32, STORES_64 = {0x36, 0x3A, 0x3B}, {0x37, 0x3C, 0x3D, 0x3E}
-# these put one value on the stack, and take none
-VALUES = (GET, GLOBAL, CONST_32, CONST_64)
+# these put one value on the stack, and take as many
+TAKEN = dict.fromkeys((GET, GLOBAL, CONST_32, CONST_64), 0)
+TAKEN.update(dict.fromkeys((TEE, 0x45, 0x50, 0x67, 0x68, 0x69, 0x79, 0x7A, 0x7B, WRAP, 0xAC, EXTEND, *range(0xC0, 0xC5), *LOADS), 1))
+TAKEN.update({code: 2 for code in range(0x46, 0x8B) if code not in TAKEN and (code < 0x5B or code > 0x66)})
+TAKEN[0x1B] = 3
 
 
 class Refused(Exception):
@@ -62,10 +66,6 @@ class Walk:
     @property
     def is_over(self) -> bool:
         return self.at == self.end
-
-    @property
-    def is_before_store(self) -> bool:
-        return not self.is_over and self.data[self.at] in STORES_32 | STORES_64
 
     @property
     def rest(self) -> bytes:
@@ -184,6 +184,23 @@ def local_groups(walk: Walk) -> list[tuple[int, int]]:
     return [(walk.unsigned(), walk.byte()) for _ in range(walk.unsigned())]
 
 
+def begins_of_values(originals: list[Instruction]) -> dict[int, int]:
+    """The stores whose value instructions in a row make, that take nothing else from the stack; and where these begin. What is on
+    the stack is known by where its making began, back to the last instruction that does anything else."""
+    known: list[int | None] = []
+    found: dict[int, int] = {}
+    for at, (code, *_) in enumerate(originals):
+        takes = TAKEN.get(code)
+        if takes is None:
+            begin = known[-1] if known and (code in STORES_32 or code in STORES_64) else None
+            found.update({} if begin is None else {at: begin})
+            known = []
+        else:
+            begin = at if not takes else known[-takes] if takes <= len(known) else None
+            known = [*known[:max(len(known) - takes, 0)], begin]
+    return found
+
+
 def check_function(wide: Walk, low: Walk, parameters: bytes, is_exported: bool) -> None:
     groups = local_groups(wide)
     require(local_groups(low) == [*groups, (2, I32), (1, I64)], "other locals")
@@ -191,11 +208,15 @@ def check_function(wide: Walk, low: Walk, parameters: bytes, is_exported: bool) 
     for argument, kind in enumerate(parameters):
         if is_exported and kind == I64:
             expect(low, test(argument))
+    originals = []
     while not wide.is_over:
-        original = instruction(wide, True)
-        require(original[0] not in LOCALS or original[1] < count, "a local that isn't the function's own")
-        is_value = original[0] in VALUES and wide.is_before_store
-        expect(low, [(WRAP,), original, instruction(wide, True)] if is_value else lowered(original, count, count + 1, count + 2))
+        originals.append(instruction(wide, True))
+        require(originals[-1][0] not in LOCALS or originals[-1][1] < count, "a local that isn't the function's own")
+    begins = begins_of_values(originals)
+    wrapped = {*begins.values()}
+    for at, original in enumerate(originals):
+        expect(low, [(WRAP,)] if at in wrapped else [])
+        expect(low, [original] if at in begins else lowered(original, count, count + 1, count + 2))
     require(low.is_over, "code after the end")
 
 

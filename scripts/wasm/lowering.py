@@ -1,8 +1,9 @@
 """Lowers a WebAssembly module: its 64-bit memory becomes a 32-bit one, which every browser has.
 
 The code goes on computing addresses with 64 bits. Right before a load, a store, a copy or a fill its address is wrapped
-to 32 bits. If one instruction puts the value of a store on the stack, the address is wrapped before that one. Else what
-stands above the address on the stack waits in a local meanwhile, so each function gets three more. An exported function begins with tests: the call ends if an argument of 64 bits isn't below the memory's size, since as an
+to 32 bits. If instructions in a row make the value of a store, and take nothing else from the stack, the address is wrapped
+before them. Else what stands above the address on the stack waits in a local meanwhile, so each function gets three more.
+An exported function begins with tests: the call ends if an argument of 64 bits isn't below the memory's size, since as an
 address it could wrap to one inside.
 
 The linker leaves room in many numbers. All are written anew, as short as they can be. Sections for tools alone, such as
@@ -17,9 +18,7 @@ CUSTOM, TYPE, FUNCTION, MEMORY, GLOBAL, EXPORT, CODE, DATA, DATA_COUNT = 0, 1, 3
 WIDE, HAS_MOST = 4, 1
 FUNCTION_TYPE, I32, I64 = 0x60, 0x7F, 0x7E
 
-END, LOCAL_GET, LOCAL_SET, GLOBAL_GET, I32_CONST, I64_CONST = 0x0B, 0x20, 0x21, 0x23, 0x41, 0x42
-# what puts a value on the stack and takes none from it
-VALUES = (LOCAL_GET, GLOBAL_GET, I32_CONST, I64_CONST)
+END, SELECT, LOCAL_GET, LOCAL_SET, LOCAL_TEE, GLOBAL_GET, I32_CONST, I64_CONST = 0x0B, 0x1B, 0x20, 0x21, 0x22, 0x23, 0x41, 0x42
 WRAP = b"\xa7"
 # memory.size, i64.extend_i32_u, i64.const 16, i64.shl, i64.ge_u, if, unreachable, end
 END_IF_OUTSIDE = b"\x3f\0\xad\x42\x10\x86\x5a\x04\x40\0\x0b"
@@ -30,6 +29,15 @@ LOADS = (0x28, 0x29, *range(0x2C, 0x36))
 STORES_OF_I32, STORES_OF_I64 = (0x36, 0x3A, 0x3B), (0x37, 0x3C, 0x3D, 0x3E)
 STORES = (*STORES_OF_I32, *STORES_OF_I64)
 ACCESSES = (*LOADS, *STORES, COPY, FILL)
+# how many values an instruction takes from the stack, of those that put one value there and do nothing else that counts
+TAKES = {
+    **dict.fromkeys((LOCAL_GET, GLOBAL_GET, I32_CONST, I64_CONST), 0),
+    # tests for 0, counts of bits, conversions
+    **dict.fromkeys((LOCAL_TEE, *LOADS, 0x45, 0x50, *range(0x67, 0x6A), *range(0x79, 0x7C), 0xA7, 0xAC, 0xAD, *range(0xC0, 0xC5)), 1),
+    # comparisons and arithmetic
+    **dict.fromkeys((*range(0x46, 0x50), *range(0x51, 0x5B), *range(0x6A, 0x79), *range(0x7C, 0x8B)), 2),
+    SELECT: 3,
+}
 # what follows an opcode: an unsigned number (u), a signed one (s), a count with as many numbers (v)
 IMMEDIATES = {
     # unreachable, nop, else, end, return, drop, select; comparisons, arithmetic and conversions of integers
@@ -166,15 +174,28 @@ def lowered_instruction(instruction: Instruction, spare: Spare) -> bytes:
     return b"".join([*away, WRAP, *back, instruction.written()])
 
 
+def value_begin(instructions: list[Instruction], at: int) -> int | None:
+    """Where those instructions before a place begin that make the value on top of the stack there, if others aren't among them."""
+    lacking = 1
+    while lacking and at:
+        at -= 1
+        takes = TAKES.get(instructions[at].opcode)
+        if takes is None:
+            return None
+        lacking += takes - 1
+    return None if lacking else at
+
+
 def lowered_instructions(reader: Reader, spare: Spare) -> Iterator[bytes]:
     """A function's instructions, with addresses wrapped."""
-    instruction, is_wrapped = Instruction.read(reader), False
+    instructions = []
     while not reader.is_at_end():
-        after = Instruction.read(reader)
-        is_value = instruction.opcode in VALUES and after.opcode in STORES
-        yield WRAP + instruction.written() if is_value else instruction.written() if is_wrapped else lowered_instruction(instruction, spare)
-        instruction, is_wrapped = after, is_value
-    yield instruction.written()
+        instructions.append(Instruction.read(reader))
+    begins = {at: value_begin(instructions, at) for at, instruction in enumerate(instructions) if instruction.opcode in STORES}
+    wrapped = set(begins.values())
+    for at, instruction in enumerate(instructions):
+        is_wrapped = begins.get(at) is not None
+        yield (WRAP if at in wrapped else b"") + (instruction.written() if is_wrapped else lowered_instruction(instruction, spare))
 
 
 def lowered_function(body: bytes, parameters: bytes, is_exported: bool) -> bytes:

@@ -3,9 +3,10 @@
 use crate::heads::behind_brackets;
 use crate::indices::token_at;
 use crate::meanings::Meaning;
+use crate::rows::warn_of_loop;
 use crate::values::{holds, is_turned};
 use crate::variables::set_by;
-use crate::warnings::{Subject, Warnings};
+use crate::warnings::{Said, Subject, Warnings};
 use derivations::{Located, Node, NodeKind, SourceTree};
 use grammar::{Callee, Intrinsic, Op, StoreOp, Var};
 use tokens::{Keyword, Punctuator, Token};
@@ -31,12 +32,13 @@ pub fn warn_of_branch(out: &mut Warnings, subject: &Subject<'_>, index: usize, n
         );
     }
     if node.kind == NodeKind::While
-        && let Some(words) = on_condition(subject.tree, index, node, value)
+        && let Some(said) = on_condition(subject.tree, index, node, value)
     {
-        out.tell(node.token, words);
+        out.warn(node.token, said);
     }
     if node.kind == NodeKind::While {
         warn_of_waiting(out, subject, index, node, condition);
+        warn_of_loop(out, subject, index, node, condition);
     }
 }
 
@@ -51,7 +53,7 @@ fn warn_of_waiting(
     if is_missed(subject, node.second.saturating_sub(1), condition) {
         out.tell(
             condition.token,
-            "perhaps this is never met exactly: write `<` or `>`",
+            "perhaps the robot passes this value, and never has it exactly: write `<` or `>`",
         );
     } else if is_stuck(subject, index, node, condition) {
         out.tell(
@@ -112,13 +114,13 @@ fn warn_of_body(out: &mut Warnings, tokens: &[Located], node: &Node, body: usize
         if behind == Token::Punctuator(Punctuator::OpenCurly) {
             out.tell(
                 body,
-                "the `while` ends with this `;`: the block behind it is no part of it",
+                "the `while` ends with this `;`, and the block behind it is no part of it: leave the `;` out",
             );
         }
     } else if behind != Token::Keyword(Keyword::Else) {
         out.tell(
             body,
-            "the `if` ends with this `;`: what follows it is always done",
+            "the `if` ends with this `;`, and what follows is always done: leave the `;` out",
         );
     }
 }
@@ -188,22 +190,17 @@ fn is_in_brackets(tokens: &[Located], token: usize) -> bool {
 
 /// Returns what is said of the condition of the loop of a node's index, if that can't change: constants that say that
 /// the loop is to go on forever are meant.
-fn on_condition(
-    tree: &SourceTree,
-    index: usize,
-    node: &Node,
-    value: Option<i32>,
-) -> Option<&'static str> {
+fn on_condition(tree: &SourceTree, index: usize, node: &Node, value: Option<i32>) -> Option<Said> {
     let condition = tree.within(node.first, node.second);
     let whole = tree.within(node.first, index);
     match value {
-        Some(0) => Some("the condition of this loop is always 0: its body never runs"),
-        Some(_) if asks(condition) => {
-            Some("the condition of this loop is never 0, whatever it asks")
-        }
-        None if is_fixed(condition, whole) => Some(
-            "the condition of this loop can't change: nothing in it sets its variables",
-        ),
+        Some(0) => Some(Said::Words(
+            "the condition of this loop is always 0 (false): its body never runs",
+        )),
+        Some(_) if asks(condition) => Some(Said::Words(
+            "the condition of this loop is never 0: it is always true, and the loop never ends",
+        )),
+        None => Some(Said::Unchanged(unchanged(condition, whole)?)),
         _ => None,
     }
 }
@@ -218,21 +215,21 @@ fn asks(condition: &[Node]) -> bool {
     false
 }
 
-/// Reports whether the condition of a loop reads variables, calls nothing, and sets none, and the whole loop sets none
-/// of those that it reads.
-fn is_fixed(condition: &[Node], whole: &[Node]) -> bool {
-    let mut is_read = false;
+/// Returns the token of the first variable that the condition of a loop reads, if it calls nothing, and sets none, and the
+/// whole loop sets none of those that it reads.
+fn unchanged(condition: &[Node], whole: &[Node]) -> Option<usize> {
+    let mut read = None;
     for node in condition {
         match node.kind {
-            NodeKind::Fetch(var) if may_set(whole, var) => return false,
-            NodeKind::Fetch(_) => is_read = true,
-            NodeKind::Call(..) => return false,
-            _ if set_by(node).is_some() => return false,
+            NodeKind::Fetch(var) if may_set(whole, var) => return None,
+            NodeKind::Fetch(_) => read = read.or(Some(node.token)),
+            NodeKind::Call(..) => return None,
+            _ if set_by(node).is_some() => return None,
             // no other node reads or sets a variable
             _ => {}
         }
     }
-    is_read
+    read
 }
 
 /// Reports whether one of these nodes may set a variable.

@@ -2,7 +2,7 @@
 
 use crate::indices::{is_name, token_at};
 use crate::meanings::Meaning;
-use crate::steps::{leaves_gaps, only_value};
+use crate::steps::{is_degree, leaves_gaps, only_value};
 use crate::warnings::{Said, Subject, Warnings};
 use derivations::{Body, Located, Node, NodeKind, SourceTree};
 use grammar::{Callee, Intrinsic, Op};
@@ -84,7 +84,7 @@ fn body_of(tree: &SourceTree, number: u8) -> Option<&Body> {
 /// Returns what is said of a function of this number whose value is used, if it has no `return`, or one without a value.
 fn on_returns(subject: &Subject<'_>, number: u8) -> Option<&'static str> {
     let body = body_of(subject.tree, number)?;
-    let mut found = Some(" has no `return`: its value is always 0");
+    let mut found = Some(" has no `return`, so its value is always 0: end it by `return a;`");
     for node in subject.tree.within(body.first, body.end) {
         if node.kind == NodeKind::Return {
             let semicolon = Token::Punctuator(Punctuator::Semicolon);
@@ -120,17 +120,17 @@ fn on_right_side(tree: &SourceTree, index: usize) -> Option<&'static str> {
 fn pair_of(intrinsic: Intrinsic) -> Option<(&'static str, i32, &'static str)> {
     match intrinsic {
         Intrinsic::Cannon => Some((
-            "the degree comes first: `cannon(degree, range)`",
+            "the order is wrong: the degree comes first, as in `cannon(degree, range)`",
             MOST_RANGE,
             "a shot flies at most 700 metres",
         )),
         Intrinsic::Drive => Some((
-            "the degree comes first: `drive(degree, speed)`",
+            "the order is wrong: the degree comes first, as in `drive(degree, speed)`",
             MOST_SPEED,
             "a speed is at most 100",
         )),
         Intrinsic::Scan => Some((
-            "the degree comes first: `scan(degree, resolution)`",
+            "the order is wrong: the degree comes first, as in `scan(degree, resolution)`",
             MOST_RESOLUTION,
             "a resolution is at most 10 degrees",
         )),
@@ -160,6 +160,9 @@ fn warn_of_pair(
     // their names say that they are in the wrong order, or their values
     let is_swapped = is_named(subject.tokens, left, &OTHERS)
         && is_named(subject.tokens, right, &DEGREES)
+        || on_degree(subject.meanings.get(before)).is_some()
+            && left.kind != right.kind
+            && is_looked_at(subject, index, right)
         || may_be_swapped(most, first, second);
     if is_swapped {
         out.tell(node.token, order);
@@ -167,8 +170,26 @@ fn warn_of_pair(
         && second > most
     {
         out.tell(node.token, beyond);
+    } else if matches!(second, Some(..0)) {
+        out.tell(node.token, on_negative(intrinsic));
     } else {
         warn_of_meanings(out, subject, index, node, intrinsic);
+    }
+}
+
+/// Returns what is said of a second argument below 0.
+fn on_negative(intrinsic: Intrinsic) -> &'static str {
+    match intrinsic {
+        Intrinsic::Drive => "a speed is at least 0: to drive back turn the degree by 180",
+        _ => "this argument is at least 0",
+    }
+}
+
+/// Reports whether an argument of a call of an index is a variable that is a degree elsewhere in its function.
+fn is_looked_at(subject: &Subject<'_>, index: usize, argument: &Node) -> bool {
+    match argument.kind {
+        NodeKind::Fetch(var) => is_degree(subject.tree, index, var),
+        _ => false,
     }
 }
 
@@ -212,7 +233,9 @@ fn on_same(intrinsic: Intrinsic) -> &'static str {
 /// Returns what is said of a value that is no degree where one is wanted.
 fn on_degree(meaning: Meaning) -> Option<&'static str> {
     match meaning {
-        Meaning::Range => Some("this is a range, as `scan` answers it, and no degree"),
+        Meaning::Range => Some(
+            "this is a range, as `scan` answers it, and no degree: give the degree of that look",
+        ),
         Meaning::Farther => Some("this comes from a range, and is no degree"),
         Meaning::Parts => Some("this is in 100,000ths, and no degree"),
         Meaning::Speed => Some("this is a speed, and no degree"),
@@ -259,7 +282,7 @@ fn warn_of_look(
     if intrinsic == Intrinsic::Scan && leaves_gaps(tree, constants, index, node, MOST_RESOLUTION) {
         out.tell(
             node.token,
-            "there are gaps between these looks: the degree goes on by more than twice the resolution",
+            "there are gaps between these looks: the degree goes on by more than twice the resolution, so take smaller steps",
         );
     }
     let last = index.saturating_sub(1);
@@ -269,6 +292,12 @@ fn warn_of_look(
         out.tell(
             node.token,
             "`atan` takes 100,000ths: write `atan(100000 * y / x)`",
+        );
+    }
+    if intrinsic == Intrinsic::Rand && matches!(constants.get(last), Some(..=1)) {
+        out.tell(
+            node.token,
+            "this is always 0: `rand(n)` is one of 0 to n - 1",
         );
     }
     if matches!(intrinsic, Intrinsic::Sin | Intrinsic::Cos | Intrinsic::Tan)

@@ -25,6 +25,8 @@ impl Constants {
     }
 
     /// Returns the value of the node of an index, if it is known.
+    /// It isn't inlined, since the page's module is to be small.
+    #[inline(never)]
     pub fn get(&self, index: usize) -> Option<i32> {
         *self.values.as_slice().get(index)?
     }

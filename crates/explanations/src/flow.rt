@@ -13,7 +13,7 @@ pub fn warn_of_main(out: &mut Warnings, subject: &Subject<'_>) {
         {
             out.tell(
                 token,
-                "`main` can return here: the robot then begins anew, with all variables 0",
+                "`main` can return here, and the robot then begins again with all variables 0: put what it repeats into `while (1) { .. }`",
             );
         }
     }
@@ -43,7 +43,7 @@ pub fn warn_of_recursion(out: &mut Warnings, subject: &Subject<'_>) {
         if called_by(&called, body.number) & bit(body.number) != 0 {
             out.tell(
                 body.token,
-                "this function may call itself: each call that is open takes a part of the small stack",
+                "this function may call itself, and each open call takes a part of the small stack: write a `while`",
             );
         }
     }
@@ -56,7 +56,7 @@ pub fn warn_of_uncalled(out: &mut Warnings, subject: &Subject<'_>) {
         if called & bit(body.number) == 0 && !is_name(subject.tokens, body.token, b"main") {
             out.warn(
                 body.token,
-                Said::Named(" is never called: `main` alone begins by itself"),
+                Said::Named(" is never called: `main` alone begins by itself, so call it there"),
             );
         }
     }

@@ -1,71 +1,48 @@
-//! Constructs of other languages: what each looks like, which language has it, and what a robot writes instead.
+//! Constructs of other languages in a source: where one begins, and what a robot writes instead.
 
 use crate::assigning::add_declaration;
-use crate::constructs_of_c::of_c;
-use crate::constructs_of_others::of_others;
-use crate::constructs_of_relatives::of_relatives;
+use crate::constructs::LANGUAGES;
 use crate::heads::add_head;
 use crate::notes::Note;
 use crate::scenes::Scene;
+use crate::spelling::is_same_but_for_case;
+use crate::texts::{MOST_PARTS, parted};
 use crate::told::spelling_of;
 use derivations::{Item, Located};
 use grammar::store_operator;
+use std::str;
 use tokens::{Name, Punctuator, Token};
 
-/// The line to copy that a hint ends with.
-#[derive(Clone, Copy)]
-pub enum Line {
-    /// None, or one that the words have.
-    None,
-    /// The head of the function that follows.
-    Head,
-    /// The declaration of the name that follows.
-    Declaration,
-}
-
-/// A construct: the word or mark that it begins with; what stands behind that on its line, where `@` is any name or word,
-/// and nothing stands for all; its language; what a robot writes instead; and the line to copy. Words of C are those that
-/// this language refuses, and others.
-pub type Construct = (&'static str, &'static str, &'static str, &'static str, Line);
-
-/// How many tables there are.
-const TABLES: usize = 3;
-
-/// Returns a table. There are several, each behind a function of its own, since the prover takes no longer ones.
-fn table(number: usize) -> &'static [Construct] {
-    match number {
-        0 => of_c(),
-        1 => of_relatives(),
-        _ => of_others(),
-    }
-}
-
-/// A construct that a source has, by its table, its row, and the index of its token.
+/// A construct that a source has: what is said of it, the number of its language, and the index of its token.
 #[derive(Clone, Copy)]
 pub struct Foreign {
-    table: usize,
-    row: usize,
-    index: usize,
+    says: &'static str,
+    language: u8,
+    index: u32,
 }
 
 impl Foreign {
     /// Adds in words what it is, if it is another language's than C, and what a robot writes.
     pub fn add(self, note: &mut Note, source: &[u8], tokens: &[Located]) {
-        let Some((looks, _, language, says, line)) = table(self.table).get(self.row) else {
-            return;
-        };
-        if *language != "C" {
-            note.quote(looks);
+        let index = self.index as usize;
+        if let Some((language, _)) = LANGUAGES.get(usize::from(self.language))
+            && let Some(located) = tokens.get(index)
+            && *language != "C"
+        {
+            note.quote(spelling_of(source, located));
             note.add(" is ");
             note.add(language);
             note.add(": ");
         }
-        note.add(says);
-        let behind = self.index.saturating_add(1);
-        match line {
-            Line::None => {}
-            Line::Head => add_head(note, source, tokens, behind),
-            Line::Declaration => add_declaration(note, source, tokens, behind),
+        let behind = index.saturating_add(1);
+        if let Some(words) = self.says.strip_prefix('^') {
+            note.add(words);
+            add_head(note, source, tokens, behind);
+        } else if let Some(words) = self.says.strip_prefix(';') {
+            note.add(words);
+            add_declaration(note, source, tokens, behind);
+        } else {
+            note.add(self.says);
         }
     }
 }
@@ -100,54 +77,87 @@ fn on_objects(scene: &Scene<'_>) -> Option<Foreign> {
     }
 }
 
-/// Returns the construct that begins with the token of an index: a variable that the file sets begins none.
+/// Returns the construct that begins with the token of an index: a variable that the file sets begins none. One that is
+/// spelled so comes before one that is but for capital letters.
 pub fn foreign_name(source: &[u8], tokens: &[Located], index: usize) -> Option<Foreign> {
     let located = tokens.get(index)?;
     if is_set(tokens, located) {
         return None;
     }
-    for number in 0..TABLES {
-        if let Some(row) = row_in(table(number), source, located) {
-            return Some(Foreign {
-                table: number,
-                row,
-                index,
-            });
-        }
-    }
-    None
+    let begin = spelling_of(source, located).as_bytes();
+    let rest = source.get(located.end()..).unwrap_or(&[]);
+    let exact = construct_of(begin, Some(rest), true);
+    let (language, says) = exact.or(construct_of(begin, Some(rest), false))?;
+    Some(Foreign {
+        says: str::from_utf8(says).ok()?,
+        language,
+        index: u32::try_from(index).ok()?,
+    })
 }
 
 /// Reports whether a construct begins with this name.
 pub fn is_foreign(name: &Name) -> bool {
-    for number in 0..TABLES {
-        if has_name(table(number), name) {
-            return true;
-        }
-    }
-    false
+    construct_of(name.as_bytes(), None, false).is_some()
 }
 
-/// Reports whether some construct of a table begins with this name.
-fn has_name(constructs: &[Construct], name: &Name) -> bool {
-    for (looks, _, _, _, _) in constructs {
-        if name.has_bytes(looks.as_bytes()) {
-            return true;
+/// Returns the number of the language of the first construct that begins so, and what is said of it. What follows is as its
+/// row says, or anything if it isn't known.
+#[inline(never)]
+fn construct_of(begin: &[u8], rest: Option<&[u8]>, is_exact: bool) -> Option<(u8, &'static [u8])> {
+    let mut number = 0u8;
+    for (_, table) in &LANGUAGES {
+        if let Some(says) = row_in(table.as_bytes(), begin, rest, is_exact) {
+            return Some((number, says));
         }
-    }
-    false
-}
-
-/// Returns the row of a table with the construct that begins with a token.
-fn row_in(constructs: &[Construct], source: &[u8], located: &Located) -> Option<usize> {
-    let spelling = spelling_of(source, located);
-    let rest = source.get(located.end()..).unwrap_or(&[]);
-    for (row, (looks, behind, _, _, _)) in constructs.iter().enumerate() {
-        if *looks == spelling && may_follow(rest, behind.as_bytes()) {
-            return Some(row);
-        }
+        number = number.saturating_add(1);
     }
     None
+}
+
+/// Returns what a table says of its first construct that begins so, and has behind it what follows.
+fn row_in(
+    table: &'static [u8],
+    begin: &[u8],
+    rest: Option<&[u8]>,
+    is_exact: bool,
+) -> Option<&'static [u8]> {
+    let mut text = table;
+    for _ in 0..MOST_PARTS {
+        let (row, below) = parted(text, b'\n');
+        let (constructs, says) = parted(row, b'\t');
+        if have_construct(constructs, begin, rest, is_exact) {
+            return Some(says);
+        }
+        text = below;
+    }
+    None
+}
+
+/// Reports whether one of some constructs begins so, and has behind it what follows.
+fn have_construct(
+    constructs: &'static [u8],
+    begin: &[u8],
+    rest: Option<&[u8]>,
+    is_exact: bool,
+) -> bool {
+    let mut text = constructs;
+    for _ in 0..MOST_PARTS {
+        let (construct, further) = parted(text, b' ');
+        let (looks, behind) = parted(construct, b'\'');
+        if looks.is_empty() {
+            return false;
+        }
+        let is_meant = if is_exact {
+            begin == looks
+        } else {
+            is_same_but_for_case(begin, looks)
+        };
+        if is_meant && may_follow(rest, behind) {
+            return true;
+        }
+        text = further;
+    }
+    false
 }
 
 /// Reports whether some assignment sets the name that a token is.
@@ -162,14 +172,31 @@ pub fn is_set(tokens: &[Located], wanted: &Located) -> bool {
     false
 }
 
-/// Reports whether what stands behind a construct's word is what its row says.
-fn may_follow(rest: &[u8], wanted: &[u8]) -> bool {
-    let next = behind_blanks(rest);
-    match (wanted, next) {
-        ([], _) => true,
-        ([b'@'], [first, ..]) => first.is_ascii_alphabetic() || *first == b'_',
-        _ => next.starts_with(wanted),
+/// Reports whether what follows the beginning of a construct is what its row says.
+fn may_follow(rest: Option<&[u8]>, wanted: &[u8]) -> bool {
+    match (rest, wanted) {
+        (None, _) | (_, []) => true,
+        (Some([b' ' | b'\t', ..]), [b'&', ..]) => true,
+        (Some(rest), _) => begins_so(behind_blanks(rest), wanted),
     }
+}
+
+/// Reports whether a text begins as a row says.
+/// It isn't inlined, since the page's module is to be small.
+#[inline(never)]
+fn begins_so(text: &[u8], wanted: &[u8]) -> bool {
+    for (number, mark) in wanted.iter().enumerate() {
+        let Some(byte) = text.get(number) else {
+            return false;
+        };
+        match mark {
+            b'@' => return byte.is_ascii_alphabetic() || *byte == b'_',
+            b'&' if matches!(byte, b' ' | b'\t') => {}
+            _ if byte == mark => {}
+            _ => return false,
+        }
+    }
+    true
 }
 
 /// Returns a text without the spaces and tabulators that it begins with.

@@ -67,7 +67,21 @@ pub fn on_heads(scene: &Scene<'_>) -> Option<Hint> {
             "no `;` stands behind the head of a function; one that is defined further down needs no declaration",
         ));
     }
+    if scene.is_behind_head() && is_sign(&scene.met()) {
+        return Some(Hint::Head(
+            "nothing stands between the head of a function and its `{`",
+            scene.head()?,
+        ));
+    }
     None
+}
+
+/// Reports whether a token is the sign by which another language gives a function its block or its type.
+fn is_sign(token: &Token) -> bool {
+    matches!(
+        token,
+        Token::Punctuator(Punctuator::Equals | Punctuator::Minus | Punctuator::Greater)
+    )
 }
 
 /// Returns the hint on what is outside functions.

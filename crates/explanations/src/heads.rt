@@ -240,6 +240,8 @@ static TYPES: [&str; 10] = [
 ];
 
 /// Returns the tokens of a line from an index on.
+/// It isn't inlined, since the page's module is to be small.
+#[inline(never)]
 pub fn line_from(tokens: &[Located], index: usize) -> &[Located] {
     let rest = from(tokens, index);
     let Some(first) = rest.first() else {

@@ -186,6 +186,7 @@ pub fn hint_on(scene: &Scene<'_>) -> Option<Hint> {
         .or(on_the_outside(scene))
         .or(on_conditions(scene))
         .or(on_commas(scene))
+        .or(on_lacking_values(scene))
         .or(on_operands(scene))
         .or(on_brackets(scene))
         .or(on_ends(scene))
@@ -222,7 +223,11 @@ fn on_comments(scene: &Scene<'_>) -> Option<Hint> {
 
 /// Returns the hint on a declaration of a function, which has no block.
 pub fn on_prototypes(scene: &Scene<'_>) -> Option<Hint> {
-    if !scene.is_outside() || !matches!(scene.met(), Token::Keyword(_)) {
+    let is_type = matches!(
+        scene.met(),
+        Token::Keyword(Keyword::Type | Keyword::Refused)
+    );
+    if !scene.is_outside() || !is_type {
         return None;
     }
     let name = scene.head()?;
@@ -327,7 +332,7 @@ fn on_declarations(scene: &Scene<'_>) -> Option<Hint> {
     }
     if scene.kinds.statement {
         let words =
-            "declarations come first in their block: move it up, or leave it out, as a variable needs none";
+            "declarations stand at the beginning of their block, before its statements: move it up, or leave it out, as a variable needs none";
         return Some(by_layout(scene.so_far(), true, "", Hint::Text(words)));
     }
     if scene.follows_mark(Punctuator::Comma) && !scene.kinds.expression {
@@ -421,6 +426,10 @@ fn on_operators(scene: &Scene<'_>) -> Option<Hint> {
     None
 }
 
+/// What is said of a cast.
+const CAST: &str =
+    "there are no casts, as all values are whole numbers: leave the type and its brackets out";
+
 /// Returns the hint on pointers, addresses and types of values.
 fn on_values(scene: &Scene<'_>) -> Option<Hint> {
     let follows_type = scene.follows(&Token::Keyword(Keyword::Type));
@@ -444,9 +453,7 @@ fn on_values(scene: &Scene<'_>) -> Option<Hint> {
         && scene.follows_mark(Punctuator::OpenRound)
         && !scene.is_outside()
     {
-        return Some(Hint::Text(
-            "all values are whole numbers: leave the type and its brackets out",
-        ));
+        return Some(Hint::Text(CAST));
     }
     None
 }
@@ -589,7 +596,8 @@ fn on_own_types(scene: &Scene<'_>) -> Option<Hint> {
 /// Returns the hint on an intrinsic function that is called without brackets.
 fn on_calls(scene: &Scene<'_>) -> Option<Hint> {
     let name = scene.name(scene.index.checked_sub(1)?)?;
-    if begins_value(&scene.met()) && intrinsic_named(&name).is_some() {
+    let is_argument = begins_value(&scene.met()) || scene.is_mark(Punctuator::OpenCurly);
+    if is_argument && intrinsic_named(&name).is_some() {
         return Some(Hint::Text("the arguments of a call stand in brackets"));
     }
     None
@@ -605,7 +613,9 @@ fn on_conditions(scene: &Scene<'_>) -> Option<Hint> {
     let follows_word = scene.follows(&Token::Keyword(Keyword::If))
         || scene.follows(&Token::Keyword(Keyword::While));
     if follows_word {
-        return Some(Hint::Text("the condition of an `if` or a `while` stands in brackets"));
+        return Some(Hint::Text(
+            "the condition of an `if` or a `while` stands in brackets, as in `if (a > 1)`",
+        ));
     }
     let is_tested = scene.token(scene.chosen_at().saturating_sub(1))
         == Token::Keyword(Keyword::Else);
@@ -653,6 +663,55 @@ fn ends_block(scene: &Scene<'_>) -> bool {
     scene.follows_mark(Punctuator::Semicolon) && before == Token::Punctuator(Punctuator::CloseCurly)
 }
 
+/// What is said of a `,` without an argument on one of its sides.
+const LONE_COMMA: &str = "an argument is missing beside this `,`, or the `,` is one too many";
+
+/// What stands where a value lacks: a punctuator, the one that is met behind it, and what is said.
+static LACKING: [(Punctuator, Punctuator, &str); 4] = [
+    (
+        Punctuator::OpenRound,
+        Punctuator::CloseRound,
+        "a condition stands in these brackets: that of `while (1)` is always true",
+    ),
+    (Punctuator::OpenRound, Punctuator::Comma, LONE_COMMA),
+    (Punctuator::Comma, Punctuator::Comma, LONE_COMMA),
+    (Punctuator::Comma, Punctuator::CloseRound, LONE_COMMA),
+];
+
+/// Punctuators that begin a value in another language, and what is said of each.
+static BEGINNING: [(Punctuator, &str); 3] = [
+    (
+        Punctuator::Plus,
+        "a value has no `+` before it: leave it out",
+    ),
+    (
+        Punctuator::Or,
+        "there is no `|a|`: write a function of the file that answers it",
+    ),
+    (
+        Punctuator::OpenCurly,
+        "there are no arrays and no lists: use several variables",
+    ),
+];
+
+/// Returns the hint on what stands where a value lacks, or begins one in another language.
+fn on_lacking_values(scene: &Scene<'_>) -> Option<Hint> {
+    if !scene.kinds.expression {
+        return None;
+    }
+    for (before, met, says) in &LACKING {
+        if scene.follows_mark(*before) && scene.is_mark(*met) {
+            return Some(Hint::Text(*says));
+        }
+    }
+    for (met, says) in &BEGINNING {
+        if scene.is_mark(*met) {
+            return Some(Hint::Text(*says));
+        }
+    }
+    scene.is_word(Keyword::Type).then_some(Hint::Text(CAST))
+}
+
 /// Returns the hint on an operator without a right side.
 fn on_operands(scene: &Scene<'_>) -> Option<Hint> {
     let before = scene.before()?.token;
@@ -692,6 +751,13 @@ fn compares(token: &Token) -> bool {
 /// Returns the hint on brackets that aren't closed or not opened, and on arguments without a `,` between them.
 fn on_brackets(scene: &Scene<'_>) -> Option<Hint> {
     let may_close = scene.fits_mark(Punctuator::CloseRound);
+    let follows_number = matches!(scene.before()?.token, Token::Constant(_));
+    if follows_number && scene.is_mark(Punctuator::OpenRound) {
+        return Some(Hint::Text("a product is written with `*`: `2 * (a + b)`"));
+    }
+    if may_close && follows_number && matches!(scene.met(), Token::Name(_)) {
+        return Some(Hint::Text("a number has no unit behind it; or a `,` or a `)` may be missing"));
+    }
     if may_close && parts_arguments(scene) {
         return Some(Hint::Text("a `,` parts the arguments of a call, not a `;`"));
     }
@@ -701,8 +767,8 @@ fn on_brackets(scene: &Scene<'_>) -> Option<Hint> {
     if may_close && !scene.kinds.expression {
         return Some(Hint::Text("a `)` may be missing before it"));
     }
-    if scene.is_mark(Punctuator::CloseRound) && scene.kinds.operator {
-        return Some(Hint::Text("this `)` has no `(`"));
+    if scene.is_mark(Punctuator::CloseRound) && (scene.kinds.operator || scene.kinds.statement) {
+        return Some(Hint::Text("this `)` has no `(`: perhaps it is one too many"));
     }
     None
 }
@@ -737,6 +803,11 @@ fn on_ends(scene: &Scene<'_>) -> Option<Hint> {
     if scene.fits_mark(Punctuator::Semicolon) && !scene.kinds.statement {
         if before.line < scene.line(scene.index) {
             return Some(Hint::LacksSemicolon(before.line));
+        }
+        if scene.is_word(Keyword::If) {
+            return Some(Hint::Text(
+                "an `if` stands before what it decides: `if (..) a = ..; else a = ..;`",
+            ));
         }
         return Some(Hint::Text("a `;` may be missing before it"));
     }

@@ -22,6 +22,8 @@ static WORDS: [(&str, &str); 9] = [
 ];
 
 /// Returns what is said after 'perhaps' of the word that a name may misspell.
+/// It isn't inlined, since the page's module is to be small.
+#[inline(never)]
 pub fn meant_by(name: &[u8]) -> Option<&'static str> {
     for (word, shown) in &WORDS {
         if resembles(name, word.as_bytes()) {

@@ -5,6 +5,7 @@ use crate::indices::before;
 use crate::letters::meant_by_sign;
 use crate::scenes::Scene;
 use crate::told::character_at;
+use grammar::intrinsic_named;
 use tokens::{Keyword, Punctuator, Token};
 
 /// Returns the hint on a byte that begins no token, by those around it.
@@ -12,7 +13,7 @@ pub fn on_character(found: &Found<'_>, scene: &Scene<'_>) -> Option<&'static str
     let (source, met) = (found.source, &found.met);
     match source.get(met.start()).copied().unwrap_or(0) {
         b'"' | b'\'' if scene.kinds.statement || scene.is_outside() => Some(
-            "there is no text: a comment stands between `/*` and `*/`",
+            "there is no text and no string: a comment stands between `/*` and `*/`",
         ),
         b'"' | b'\'' | b'`' => Some(
             "there is no text and there are no characters: all values are whole numbers",
@@ -20,7 +21,10 @@ pub fn on_character(found: &Found<'_>, scene: &Scene<'_>) -> Option<&'static str
         b'[' if follows_test(found) => Some(
             "the condition of an `if` or a `while` stands in brackets: write `(` and `)`",
         ),
-        b'[' | b']' => Some("there are no arrays: use several variables"),
+        b'[' if follows_intrinsic(scene) => Some(
+            "the arguments of a call stand in brackets: write `(` and `)`",
+        ),
+        b'[' | b']' => Some("there are no arrays and no lists: use several variables"),
         b'?' => Some("there is no `?:`: write `if (..) a = ..; else a = ..;`"),
         b':' if names_argument(scene) => Some(
             "an argument has no name: it goes by its place, as in `drive(degree, speed)`",
@@ -38,7 +42,16 @@ pub fn on_character(found: &Found<'_>, scene: &Scene<'_>) -> Option<&'static str
         b'.' => Some("there are no structures and no methods: a name stands alone"),
         b'\\' => Some("a line needs no sign to go on in the next one"),
         0 | 128.. => Some(on_foreign_byte(source, met.start())),
-        _ => None,
+        b'$' => Some("a name has letters, digits and `_` alone: leave the `$` out"),
+        _ => Some("this sign says nothing here: leave it out"),
+    }
+}
+
+/// Reports whether the name of an intrinsic function is right before the token that doesn't fit.
+fn follows_intrinsic(scene: &Scene<'_>) -> bool {
+    match scene.name(scene.index.saturating_sub(1)) {
+        Some(name) => intrinsic_named(&name).is_some(),
+        None => false,
     }
 }
 

@@ -120,6 +120,8 @@ impl Meanings {
     }
 
     /// Returns what the node of an index means.
+    /// It isn't inlined, since the page's module is to be small.
+    #[inline(never)]
     pub fn get(&self, index: usize) -> Meaning {
         self.nodes.get(index).copied().unwrap_or(Meaning::Mixed)
     }

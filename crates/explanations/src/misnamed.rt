@@ -9,133 +9,39 @@ use crate::hints::Hint;
 use crate::indices::{is_name, name_at};
 use crate::lookalikes::meant_by;
 use crate::notes::Note;
-use crate::spelling::{has_letters, is_near, is_same_but_for_case};
+use crate::spelling::{is_near, is_same_but_for_case};
+use crate::texts::said_of;
 use crate::told::text_of;
 use derivations::Located;
 use grammar::{Code, Intrinsic};
 use tokens::{Name, Punctuator, Token};
 
-/// Names that beginners call, in small letters and without `_`, with a hint on each.
-static CALLED: [(&str, &str); 79] = [
-    ("fire", "the call is `cannon(degree, range)`"),
-    ("shoot", "the call is `cannon(degree, range)`"),
-    ("shot", "the call is `cannon(degree, range)`"),
-    ("attack", "the call is `cannon(degree, range)`"),
-    ("launch", "the call is `cannon(degree, range)`"),
-    ("firecannon", "the call is `cannon(degree, range)`"),
-    ("shootcannon", "the call is `cannon(degree, range)`"),
-    ("radar", "the call is `scan(degree, resolution)`"),
-    ("scanner", "the call is `scan(degree, resolution)`"),
-    ("sonar", "the call is `scan(degree, resolution)`"),
-    ("look", "the call is `scan(degree, resolution)`"),
-    ("detect", "the call is `scan(degree, resolution)`"),
-    ("search", "the call is `scan(degree, resolution)`"),
-    ("sense", "the call is `scan(degree, resolution)`"),
-    ("scanfor", "the call is `scan(degree, resolution)`"),
-    ("findenemy", "the call is `scan(degree, resolution)`"),
-    ("getrange", "the call is `scan(degree, resolution)`"),
-    ("move", "the call is `drive(degree, speed)`"),
-    ("go", "the call is `drive(degree, speed)`"),
-    ("ahead", "the call is `drive(degree, speed)`"),
-    ("accelerate", "the call is `drive(degree, speed)`"),
-    ("setspeed", "the call is `drive(degree, speed)`"),
-    ("moveto", "the call is `drive(degree, speed)`"),
-    ("setheading", "the call is `drive(degree, speed)`"),
-    ("stop", "the call is `drive(degree, 0)`"),
-    ("brake", "the call is `drive(degree, 0)`"),
-    ("halt", "the call is `drive(degree, 0)`"),
-    (
-        "rotate",
-        "a robot turns as it drives: the call is `drive(degree, speed)`",
-    ),
-    (
-        "forward",
-        "a robot turns as it drives: the call is `drive(degree, speed)`",
-    ),
-    (
-        "turnleft",
-        "a robot turns as it drives: the call is `drive(degree, speed)`",
-    ),
-    (
-        "turnright",
-        "a robot turns as it drives: the call is `drive(degree, speed)`",
-    ),
-    (
-        "turnto",
-        "a robot turns as it drives: the call is `drive(degree, speed)`",
-    ),
-    (
-        "backward",
-        "a robot turns as it drives: the call is `drive(degree, speed)`",
-    ),
-    ("x", "the call is `loc_x()`"),
-    ("getx", "the call is `loc_x()`"),
-    ("posx", "the call is `loc_x()`"),
-    ("xpos", "the call is `loc_x()`"),
-    ("positionx", "the call is `loc_x()`"),
-    ("locationx", "the call is `loc_x()`"),
-    ("y", "the call is `loc_y()`"),
-    ("gety", "the call is `loc_y()`"),
-    ("posy", "the call is `loc_y()`"),
-    ("ypos", "the call is `loc_y()`"),
-    ("positiony", "the call is `loc_y()`"),
-    ("locationy", "the call is `loc_y()`"),
-    ("health", "the call is `damage()`"),
-    ("getdamage", "the call is `damage()`"),
-    ("life", "the call is `damage()`"),
-    ("lives", "the call is `damage()`"),
-    ("hitpoints", "the call is `damage()`"),
-    ("energy", "the call is `damage()`"),
-    ("gethealth", "the call is `damage()`"),
-    ("getspeed", "the call is `speed()`"),
-    ("velocity", "the call is `speed()`"),
-    ("getvelocity", "the call is `speed()`"),
-    ("random", "the call is `rand(limit)`"),
-    ("rnd", "the call is `rand(limit)`"),
-    ("randint", "the call is `rand(limit)`"),
-    ("randrange", "the call is `rand(limit)`"),
-    ("getrandom", "the call is `rand(limit)`"),
-    ("print", "a robot writes nothing"),
-    ("printf", "a robot writes nothing"),
-    ("println", "a robot writes nothing"),
-    ("echo", "a robot writes nothing"),
-    (
-        "wait",
-        "nothing waits by itself: a loop does, such as `while (speed() > 0) ;`",
-    ),
-    (
-        "sleep",
-        "nothing waits by itself: a loop does, such as `while (speed() > 0) ;`",
-    ),
-    (
-        "delay",
-        "nothing waits by itself: a loop does, such as `while (speed() > 0) ;`",
-    ),
-    (
-        "pause",
-        "nothing waits by itself: a loop does, such as `while (speed() > 0) ;`",
-    ),
-    ("abs", "it isn't there: write it as a function of the file"),
-    ("fabs", "it isn't there: write it as a function of the file"),
-    ("pow", "it isn't there: write it as a function of the file"),
-    ("min", "it isn't there: write it as a function of the file"),
-    ("max", "it isn't there: write it as a function of the file"),
-    ("sign", "it isn't there: write it as a function of the file"),
-    (
-        "round",
-        "it isn't there: write it as a function of the file",
-    ),
-    (
-        "floor",
-        "it isn't there: write it as a function of the file",
-    ),
-    ("ceil", "it isn't there: write it as a function of the file"),
-    ("exp", "it isn't there: write it as a function of the file"),
-    (
-        "atan2",
-        "it isn't there: write it as a function of the file",
-    ),
-];
+/// Names that beginners use, in small letters and without `_`, with a hint on those of each line.
+const USED: &str =
+    "fire shoot shot attack launch firecannon shootcannon missile bullet firebullet setfire gun firegun shootat fireat blast\tthe call is `cannon(degree, range)`
+radar scanner sonar look detect search sense scanfor findenemy getrange scanarc see getenemy scanenemy ping\tthe call is `scan(degree, resolution)`
+move go ahead accelerate setspeed moveto setheading setahead walk run swim driveto gotoxy steer\tthe call is `drive(degree, speed)`
+stop brake halt stopmoving\tthe call is `drive(degree, 0)`
+rotate forward turnleft turnright turnto backward back left right setturnright setturnleft setback turngun turngunright turngunleft turnradar turnradarright turnradarleft reverse\ta robot turns as it drives: the call is `drive(degree, speed)`
+x getx posx xpos positionx locationx xcoord\tthe call is `loc_x()`
+y gety posy ypos positiony locationy ycoord\tthe call is `loc_y()`
+health getdamage life lives hitpoints energy gethealth getenergy armor armour hp\tthe call is `damage()`
+getspeed velocity getvelocity\tthe call is `speed()`
+random rnd randint randrange getrandom\tthe call is `rand(limit)`
+print printf println echo log debug say write writeln display draw cout cin endl puts\ta robot writes nothing
+wait sleep delay pause yield donothing\tnothing waits by itself: a loop does, such as `while (speed() > 0) ;`
+abs fabs pow min max sign round floor ceil exp atan2 hypot normalize\tit isn't there: write it as a function of the file
+heading getheading gunheading getgunheading getdirection getangle bearing getbearing facing\ta robot isn't told where it heads: keep the degree in a variable
+distance dist getdistance distanceto\t`scan(degree, resolution)` answers how far a robot is; else write it as a function of the file
+time clock gettime gettick ticks millis now\tnothing tells the time: count the turns of a loop
+len length size append push\tthere are no arrays and no lists: use several variables
+str string tostring\tthere is no text: all values are whole numbers
+exit quit die\ta robot ends with the match: leave it out
+hit ishit washit hitbywall gothit\tcompare `damage()` with what it was before
+wall atwall hitwall nearwall border\tcompare `loc_x()` and `loc_y()` with 0 and 999
+null none nil nullptr undefined\twrite 0
+north south east west\t0 is east, 90 north, 180 west and 270 south
+pi\thalf of a circle is 180 degrees";
 
 /// Adds the name of a fault, and a hint on it. The functions that are defined are known by the indices of their names.
 pub fn add_misnamed(note: &mut Note, found: &Found<'_>, defined: &[usize]) {
@@ -154,7 +60,7 @@ fn add_reason(note: &mut Note, found: &Found<'_>, defined: &[usize], name: &Name
     match found.code {
         Code::FunctionDefinedTwice => add_first(note, found.tokens, defined, name),
         Code::IntrinsicRedefined => {
-            note.add("the robot has a function of this name already: give yours another one");
+            note.add("every robot has a function of this name built in: give yours another name");
         }
         Code::BadParameterDeclaration => note.add(on_parameter(found)),
         Code::FunctionNotDefined => add_meant(note, found, defined, name),
@@ -246,7 +152,7 @@ fn add_meant(note: &mut Note, found: &Found<'_>, defined: &[usize], name: &Name)
             u64::from(line),
             " has the function in it",
         );
-    } else if let Some(hint) = on_called(name) {
+    } else if let Some(hint) = on_used(name) {
         note.add(hint);
     } else if let Some(intrinsic) = near_intrinsic(name) {
         add_perhaps(note, intrinsic);
@@ -269,14 +175,9 @@ fn add_perhaps(note: &mut Note, name: &str) {
     note.add(" is meant");
 }
 
-/// Returns the hint on a name that beginners call.
-fn on_called(name: &Name) -> Option<&'static str> {
-    for (called, hint) in &CALLED {
-        if has_letters(name.as_bytes(), called.as_bytes()) {
-            return Some(*hint);
-        }
-    }
-    None
+/// Returns the hint on a name that beginners use.
+pub fn on_used(name: &Name) -> Option<&'static str> {
+    said_of(USED, name.as_bytes())
 }
 
 /// Returns the name of the first intrinsic function that may be meant by another name.
@@ -296,7 +197,9 @@ fn add_unknown(note: &mut Note, found: &Found<'_>, name: &Name) {
     } else if name.has_bytes(b"turn") {
         note.add("a robot turns as it drives: the call is `drive(degree, speed)`");
     } else {
-        note.add("neither the file nor the robot has a function of this name");
+        note.add(
+            "neither the file nor the robot has a function of this name: write one, or call another",
+        );
     }
 }
 
@@ -317,15 +220,30 @@ fn is_variable(tokens: &[Located], name: &Name) -> bool {
 fn add_main(note: &mut Note, found: &Found<'_>, defined: &[usize]) {
     note.add("a robot begins in its function `main`");
     if let Some(function) = near_function(found.tokens, defined, b"main") {
-        note.add(": perhaps ");
-        note.quote(text_of(&function));
-        note.add(" is to be it");
+        add_as_main(note, &function);
     } else if let Some(line) = swallowed(found.source, b"main") {
         note.count(
             ": a comment that isn't closed on line ",
             u64::from(line),
             " has it",
         );
+    } else if let Some(function) = only_of(found, defined) {
+        add_as_main(note, &function);
+    }
+}
+
+/// Adds that a function is perhaps to be `main`.
+fn add_as_main(note: &mut Note, function: &Name) {
+    note.add(": perhaps ");
+    note.quote(text_of(function));
+    note.add(" is to be it");
+}
+
+/// Returns the name of the function that the file has, if it is one alone.
+fn only_of(found: &Found<'_>, defined: &[usize]) -> Option<Name> {
+    match defined {
+        [index] => name_at(found.tokens, *index),
+        _ => None,
     }
 }
 

@@ -143,6 +143,7 @@ impl<'a> Scene<'a> {
 
     /// Returns the index of the name with a `(` behind it that the token that doesn't fit belongs to, or that comes next in
     /// its line.
+    #[inline(never)]
     pub fn head(&self) -> Option<usize> {
         let line = self.line(self.index);
         for (index, located) in self.tokens.iter().enumerate() {
@@ -162,6 +163,7 @@ impl<'a> Scene<'a> {
     }
 
     /// Reports whether a name occurs at most once.
+    #[inline(never)]
     pub fn is_lone(&self, name: &Name) -> bool {
         let mut count: usize = 0;
         for located in self.tokens {
@@ -173,6 +175,7 @@ impl<'a> Scene<'a> {
     }
 
     /// Returns the line of the token of an index.
+    #[inline(never)]
     pub fn line(&self, index: usize) -> u32 {
         match self.tokens.get(index) {
             Some(located) => located.line,
@@ -181,6 +184,7 @@ impl<'a> Scene<'a> {
     }
 
     /// Returns the index of the token at which the innermost item of a kind was chosen, of those still to match.
+    #[inline(never)]
     pub fn pending_at(&self, item: Item) -> Option<usize> {
         for pending in self.stack.iter().rev() {
             if pending.item == item {

@@ -37,6 +37,8 @@ fn is_swapped(left: &[u8], right: &[u8]) -> bool
 }
 
 /// Reports whether two names are the same but for small and capital letters.
+/// It isn't inlined, since the page's module is to be small.
+#[inline(never)]
 pub fn is_same_but_for_case(left: &[u8], right: &[u8]) -> bool {
     for (a, b) in left.iter().zip(right) {
         if lower(*a) != lower(*b) {

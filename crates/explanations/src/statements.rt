@@ -39,7 +39,7 @@ pub fn warn_of_statement(out: &mut Warnings, subject: &Subject<'_>, index: usize
     {
         out.tell(
             node.token,
-            "this `drive` replaces the one before it at once: nothing stands between them",
+            "this `drive` replaces the one before it at once: wait between them in a loop",
         );
     }
 }
@@ -79,9 +79,12 @@ fn on_no_effect(tree: &SourceTree, index: usize) -> &'static str {
         None => node.kind,
     };
     match (node.kind, left) {
-        (NodeKind::Binary(Op::Equal), NodeKind::Fetch(_)) => {
-            "this only compares, and has no effect: to set a variable write `=`"
-        }
+        (
+            NodeKind::Binary(
+                Op::Equal | Op::Less | Op::LessOrEqual | Op::Greater | Op::GreaterOrEqual,
+            ),
+            NodeKind::Fetch(_),
+        ) => { "this only compares, and has no effect: to set a variable write `=`" }
         (NodeKind::Binary(Op::Add), NodeKind::Fetch(_)) => {
             "this statement has no effect: perhaps `a = a + 20` is meant"
         }

@@ -133,6 +133,8 @@ fn added(
 }
 
 /// Returns the value of the node of an index, if it is known, or is a variable's that its function sets to one number alone.
+/// It isn't inlined, since the page's module is to be small.
+#[inline(never)]
 pub fn only_value(subject: &Subject<'_>, index: usize) -> Option<i32> {
     let (node, value) = subject.valued(index)?;
     let NodeKind::Fetch(var) = node.kind else {

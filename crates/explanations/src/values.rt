@@ -1,9 +1,10 @@
 //! Warnings about operators and assignments that probably aren't meant as they are written.
 
-use crate::indices::{token_at, touches};
+use crate::chances::{on_both, on_chance};
+use crate::indices::{is_name, token_at, touches};
 use crate::meanings::Meaning;
 use crate::steps::is_degree;
-use crate::warnings::{Said, Subject, Warnings};
+use crate::warnings::{Meant, Said, Subject, Warnings};
 use derivations::{Located, Node, NodeKind};
 use grammar::{Callee, Intrinsic, Op, StoreOp, Var};
 use tokens::{Punctuator, Token};
@@ -36,7 +37,9 @@ pub fn warn_of_operator(
             left_value,
         ))
         .or(on_quotient(op, subject.meanings.get(left_index), right_value))
-        .or(on_circle(subject, op, node, right_value));
+        .or(on_circle(subject, op, node, right_value))
+        .or(on_chance(subject, op, left_index, right_value))
+        .or(on_both(subject, op, left_index, index.saturating_sub(1)));
     if let Some(words) = words {
         out.tell(node.token, words);
     }
@@ -59,7 +62,7 @@ fn on_sides(op: Op, left: &Node, right: &Node) -> Option<&'static str> {
             Some("this compares the answer of `!`, 0 or 1: write `!(a < b)`")
         }
         (Op::BitXor, _, NodeKind::Constant(2..=9)) => {
-            Some("`^` is no power: it is the exclusive or of bits; multiply instead")
+            Some("`^` is no power: it is the exclusive or of bits; multiply instead, as `a * a`")
         }
         (Op::Or, NodeKind::Binary(Op::Equal), NodeKind::Constant(1..)) => {
             Some("the right side is always true: write `a == 5 || a == 10`")
@@ -75,10 +78,14 @@ fn on_values(op: Op, left: Option<i32>, right: Option<i32>) -> Option<&'static s
     let (left, right) = (i64::from(left?), i64::from(right?));
     let whole = match op {
         Op::Divide if left != 0 && left.unsigned_abs() < right.unsigned_abs() => {
-            return Some("both are whole numbers, and so is the quotient: it is 0");
+            return Some(
+                "both are whole numbers, and so is the quotient: it is 0; multiply before you divide",
+            );
         }
         Op::Remainder if 0 < left && left < right => {
-            return Some("this remainder is the number before it: write `(a + b) % c`");
+            return Some(
+                "`%` comes before `+`, so this remainder is the number before it: write `(a + b) % c`",
+            );
         }
         Op::Add => left.saturating_add(right),
         Op::Subtract => left.saturating_sub(right),
@@ -133,6 +140,8 @@ fn is_small(op: Op, value: i32) -> bool {
 
 /// Returns what is said of a comparison of what is meant so with a number, if it has always the same answer: of a damage
 /// and a speed only if that is no.
+/// It isn't inlined, since the page's module is to be small.
+#[inline(never)]
 fn on_bounds(op: Op, meaning: Meaning, value: Option<i32>) -> Option<&'static str> {
     let (least, greatest) = meaning.bounds()?;
     let value = value?;
@@ -183,7 +192,9 @@ fn turned(op: Op) -> Op {
     }
 }
 
-/// Reports whether a comparison holds of two numbers, if the operator is one.
+/// Reports whether a comparison holds of two numbers, if the operator is one. It isn't inlined, since the page's module is to
+/// be small.
+#[inline(never)]
 pub fn holds(op: Op, left: i32, right: i32) -> Option<bool> {
     match op {
         Op::Less => Some(left < right),
@@ -298,6 +309,15 @@ pub fn warn_of_store(
     {
         out.tell(node.token, on_old_value(step));
     }
+    if op == StoreOp::Set
+        && let Some(value) = subject.constants.get(index.saturating_sub(1))
+        && is_off_course(subject.tokens, node.token, value)
+    {
+        out.warn(
+            node.token,
+            Said::Variable(" is another degree", Meant::Used),
+        );
+    }
     let equals = node.token.saturating_add(1);
     if is_turned(subject.tokens, equals, Punctuator::Minus) {
         out.tell(equals, "`=-` sets the negative; perhaps `-=` is meant");
@@ -307,7 +327,22 @@ pub fn warn_of_store(
     }
 }
 
+/// The directions, and their degrees.
+static COURSES: [(&str, i32); 4] = [("east", 0), ("north", 90), ("west", 180), ("south", 270)];
+
+/// Reports whether the name of a token is a direction, and a value the degree of another one.
+fn is_off_course(tokens: &[Located], token: usize, value: i32) -> bool {
+    for (course, degree) in &COURSES {
+        if is_name(tokens, token, course.as_bytes()) {
+            return value % 90 == 0 && value.saturating_sub(*degree) % 360 != 0;
+        }
+    }
+    false
+}
+
 /// Reports whether a `=` is at an index and this punctuator right behind it, with a blank behind both.
+/// It isn't inlined, since the page's module is to be small.
+#[inline(never)]
 pub fn is_turned(tokens: &[Located], equals: usize, punctuator: Punctuator) -> bool {
     let next = equals.saturating_add(1);
     token_at(tokens, equals) == Token::Punctuator(Punctuator::Equals)

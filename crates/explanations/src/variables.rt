@@ -2,7 +2,7 @@
 //! that mean another variable.
 
 use crate::indices::{is_name, name_at};
-use crate::misnamed::may_mean;
+use crate::misnamed::{may_mean, on_used};
 use crate::spelling::is_same_but_for_case;
 use crate::warnings::{Meant, Said, Subject, Warnings};
 use derivations::{Body, Located, Node, NodeKind, SourceTree};
@@ -30,7 +30,9 @@ pub fn warn_of_variables(out: &mut Warnings, subject: &Subject<'_>) {
     for token in subject.declarations.hiding() {
         out.warn(
             *token,
-            Said::Named(" is a variable of the function alone: it hides that of the file"),
+            Said::Named(
+                " is a variable of the function alone: it hides that of the file, so leave its `int` out here",
+            ),
         );
     }
 }
@@ -60,7 +62,7 @@ fn warn_of_body(out: &mut Warnings, subject: &Subject<'_>, body: &Body) {
             (Some(read), Some(set)) if !is_parameter && is_early(subject.tree, read, set) => {
                 out.warn(
                     token_of(subject.tree, read),
-                    Said::Named(" is still 0 here: it is set further down only"),
+                    Said::Named(" is still 0 here: it is set further down only, so set it above"),
                 );
             }
             _ => {}
@@ -138,6 +140,7 @@ fn meant_as_read(subject: &Subject<'_>, uses: &Uses, token: usize) -> Meant {
             if name.as_bytes().len() > 2 && is_elsewhere(subject, token, &name) => {
             Meant::Words("; that of another function is another one: declare it outside of both")
         }
+        (Meant::Nothing, Some(_)) => Meant::Used,
         (found, _) => found,
     }
 }
@@ -153,7 +156,6 @@ fn meant(subject: &Subject<'_>, uses: &Uses, token: usize) -> Meant {
     match near_variable(subject, uses, token, &name) {
         Some(other) => Meant::Name(other),
         None if intrinsic_named(&name).is_some() => Meant::Call,
-        None if is_output(&name) => Meant::Words("; a robot writes nothing"),
         None if is_truth(&name) => {
             Meant::Words("; write 1 for what is true, and 0 for what is false")
         }
@@ -181,11 +183,6 @@ fn is_function(subject: &Subject<'_>, name: &Name) -> bool {
     false
 }
 
-/// Reports whether a name is a channel of C++.
-fn is_output(name: &Name) -> bool {
-    name.has_bytes(b"cout") || name.has_bytes(b"endl") || name.has_bytes(b"cin")
-}
-
 /// Reports whether another function sets a variable of the name of a token.
 fn is_elsewhere(subject: &Subject<'_>, token: usize, name: &Name) -> bool {
     for body in subject.tree.bodies() {
@@ -203,7 +200,7 @@ fn is_elsewhere(subject: &Subject<'_>, token: usize, name: &Name) -> bool {
 }
 
 /// Reports whether a name is a truth value of other languages.
-fn is_truth(name: &Name) -> bool {
+pub fn is_truth(name: &Name) -> bool {
     let bytes = name.as_bytes();
     is_same_but_for_case(bytes, b"true") || is_same_but_for_case(bytes, b"false")
 }
@@ -268,6 +265,8 @@ fn note_use(uses: &mut Uses, index: usize, node: &Node, is_used: bool) {
 }
 
 /// Returns the variable that a node sets, if it sets one itself.
+/// It isn't inlined, since the page's module is to be small.
+#[inline(never)]
 pub fn set_by(node: &Node) -> Option<Var> {
     match node.kind {
         NodeKind::Store(var, _)

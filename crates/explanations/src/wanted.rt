@@ -126,6 +126,8 @@ impl Wanted {
 }
 
 /// Reports whether a token is among those that fit.
+/// It isn't inlined, since the page's module is to be small.
+#[inline(never)]
 pub fn has(fitting: &[Located], token: &Token) -> bool {
     for located in fitting {
         if located.token == *token {

@@ -8,13 +8,15 @@ use crate::declarations::Declarations;
 use crate::flow::{warn_of_main, warn_of_recursion, warn_of_uncalled};
 use crate::indices::{name_at, token_at};
 use crate::meanings::Meanings;
+use crate::misnamed::on_used;
 use crate::notes::Note;
 use crate::reach::Reach;
+use crate::rows::warn_of_row;
 use crate::searches::fault_token;
 use crate::statements::warn_of_statement;
 use crate::told::text_of;
 use crate::values::{warn_of_operator, warn_of_store};
-use crate::variables::warn_of_variables;
+use crate::variables::{is_truth, warn_of_variables};
 use arrayvec::ArrayVec;
 use derivations::{Located, Node, NodeKind, SourceTree};
 use grammar::{Diagnostic, Profile};
@@ -44,6 +46,8 @@ pub struct Subject<'a> {
 
 impl<'a> Subject<'a> {
     /// Returns the node of an index, with its value if that is known.
+    /// It isn't inlined, since the page's module is to be small.
+    #[inline(never)]
     pub fn valued(&self, index: usize) -> Option<(&'a Node, Option<i32>)> {
         Some((self.tree.get(index)?, self.constants.get(index)))
     }
@@ -62,6 +66,8 @@ pub enum Said {
     Arguments(usize, usize),
     /// That the comment that begins on this line goes further than was meant.
     Swallowing(u32),
+    /// That the variable of this name's token never changes in a loop.
+    Unchanged(usize),
 }
 
 /// What may be meant by the name of a variable.
@@ -73,6 +79,8 @@ pub enum Meant {
     Name(usize),
     /// A call of the robot's own function of this name.
     Call,
+    /// What is said of the name itself, if beginners use it.
+    Used,
     /// What these words say.
     Words(&'static str),
 }
@@ -103,7 +111,10 @@ impl Warning {
             note.position(located.line, located.column);
         }
         note.add("warning: ");
-        if !matches!(self.said, Said::Words(_) | Said::Swallowing(_)) {
+        if matches!(
+            self.said,
+            Said::Named(_) | Said::Variable(..) | Said::Arguments(..)
+        ) {
             add_name(&mut note, tokens, self.token);
         }
         match self.said {
@@ -114,6 +125,7 @@ impl Warning {
             }
             Said::Arguments(wanted, given) => add_arguments(&mut note, wanted, given),
             Said::Swallowing(line) => add_swallowing(&mut note, line),
+            Said::Unchanged(name) => add_unchanged(&mut note, tokens, name),
         }
         note.push('\n');
         note
@@ -135,8 +147,19 @@ impl Warning {
                 }
                 note.add("()` is meant");
             }
+            Meant::Used => add_used(note, tokens, self.token),
             Meant::Words(words) => note.add(words),
         }
+    }
+}
+
+/// Adds what is said of the name of a token, if beginners use it.
+fn add_used(note: &mut Note, tokens: &[Located], token: usize) {
+    if let Some(name) = name_at(tokens, token)
+        && let Some(words) = on_used(&name)
+    {
+        note.add("; ");
+        note.add(words);
     }
 }
 
@@ -144,6 +167,20 @@ impl Warning {
 fn add_name(note: &mut Note, tokens: &[Located], token: usize) {
     if let Some(name) = name_at(tokens, token) {
         note.quote(text_of(&name));
+    }
+}
+
+/// Adds that the variable of a name's token never changes in a loop.
+fn add_unchanged(note: &mut Note, tokens: &[Located], token: usize) {
+    note.add("the condition of this loop can't change, and it never ends if it begins: ");
+    add_name(note, tokens, token);
+    note.add(" never changes in it");
+    if let Some(name) = name_at(tokens, token)
+        && !is_truth(&name)
+    {
+        note.add("; write `");
+        note.add(text_of(&name));
+        note.add(" += 1` there");
     }
 }
 
@@ -208,7 +245,7 @@ impl Warnings {
             if located.token == Token::Keyword(Keyword::Else) && is_ended {
                 self.tell(
                     next,
-                    "the `else` ends with this `;`: what follows it is always done",
+                    "the `else` ends with this `;`, and what follows is always done: leave the `;` out",
                 );
             }
         }
@@ -222,7 +259,10 @@ impl Warnings {
             }
             NodeKind::Binary(op) => warn_of_operator(self, subject, index, node, op),
             NodeKind::Store(var, op) => warn_of_store(self, subject, index, node, var, op),
-            NodeKind::Evaluate => warn_of_statement(self, subject, index, node),
+            NodeKind::Evaluate => {
+                warn_of_statement(self, subject, index, node);
+                warn_of_row(self, subject, index, node);
+            }
             _ => {}
         }
         if subject.reach.is_unreached(index) {

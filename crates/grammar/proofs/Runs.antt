@@ -1,5 +1,5 @@
 -- Segments of a derivation one after another, and how a first fault goes back along one.
-use Rattle.std.proofs.Common.{◌≡◌, ℕ, zero, suc, ◌+◌, List, [], ◌∷◌, ◌++◌, refl, sym, ap, ◌∙◌, subst, zero-add, suc-add, append_assoc}
+use Rattle.std.proofs.Common.{◌≡◌, ℕ, zero, suc, ◌+◌, List, [], ◌∷◌, ◌++◌, refl, sym, ap, ap₂, ◌∙◌, subst, zero-add, suc-add, append_assoc}
 use Rattle.grammar.specs.declared.diagnostics.Diagnostic.{Diagnostic}
 use Rattle.grammar.specs.Derivation.{State, stepped, derived}
 use Rattle.grammar.specs.Faults.{Fault, faults_at, faults_in}
@@ -29,16 +29,13 @@ faults_in-add profile (suc m) n s =
 pub here : (profile : Profile) (s : State) → DerivesWithoutFault profile s s
 here profile s = record { steps = 0; leads = refl; clean = refl }
 
-both_empty : (xs ys : List Fault) → xs ≡ [] → ys ≡ [] → xs ++ ys ≡ []
-both_empty xs ys p q = rw (p, q) refl
-
 pub then : (profile : Profile) (s t u : State) → DerivesWithoutFault profile s t → DerivesWithoutFault profile t u →
     DerivesWithoutFault profile s u
 then profile s t u a b = record {
   steps = a.steps + b.steps;
   leads = derived-add a.steps b.steps s ∙ ap (λ v. derived b.steps v) a.leads ∙ b.leads;
   clean = faults_in-add profile a.steps b.steps s
-      ∙ both_empty _ _ a.clean (ap (λ v. faults_in profile b.steps v) a.leads ∙ b.clean);
+      ∙ ap₂ ◌++◌ a.clean (ap (λ v. faults_in profile b.steps v) a.leads ∙ b.clean);
 }
 
 -- no faults in a list of two parts, so none in either

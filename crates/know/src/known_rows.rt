@@ -2,14 +2,13 @@
 
 use crate::robots::Robot;
 use crate::rows::{Subject, add_position, add_range, begin_row, text_of};
-use crate::token_rows::kind_of;
 use cycles::{Counted, Runs, Span, all_runs, turns};
 use derivations::locate;
 use facts::add_room;
 use grammar::{Intrinsic, Name};
 use room::{Room, all_needs};
 use std::alloc::{AllocError, Global};
-use tools::{Draft, Fault, Object, Text};
+use tools::{Draft, Fault, Object, Text, kind_of};
 
 /// The words of the language that have a use.
 const WORDS: &str = "if else while return int long auto register";

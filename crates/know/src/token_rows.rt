@@ -3,8 +3,8 @@
 use crate::rows::begin_row;
 use derivations::Located;
 use recovery::past_fault;
-use tokens::{Keyword, Token};
-use tools::{Array, Draft, Text};
+use tokens::Token;
+use tools::{Array, Draft, Text, kind_of};
 
 /// Adds a row with all tokens of a source, those past its lexical errors and these themselves among them.
 pub fn add_tokens(text: &mut Draft, source: &[u8], tokens: &[Located]) {
@@ -35,18 +35,4 @@ fn add_token(text: &mut Draft, source: &[u8], located: &Located) {
 /// Returns how many bytes there are up to the last one of a token: of a lexical error, up to where the reading goes on.
 pub fn end_of(source: &[u8], located: &Located) -> usize {
     past_fault(source, located).unwrap_or(located.end())
-}
-
-/// Returns the word for a token's kind.
-pub fn kind_of(token: &Token) -> &'static str {
-    match token {
-        Token::Name(_) => "name",
-        Token::Keyword(Keyword::Type) => "type",
-        Token::Keyword(Keyword::Refused) => "reserved",
-        Token::Keyword(Keyword::If | Keyword::Else | Keyword::While | Keyword::Return) => "keyword",
-        Token::Constant(_) => "constant",
-        Token::Punctuator(_) => "punctuator",
-        Token::End => "end",
-        Token::Fault(_) => "fault",
-    }
 }

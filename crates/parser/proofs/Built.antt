@@ -17,8 +17,14 @@ use Rattle.grammar.specs.Grammar.{AConstant, AName, AKeyword, AnEnd, Close, Defi
 use Rattle.grammar.specs.Need.{built, built_in, built_of, ends_by, has_ahead, is_behind_brace}
 use Rattle.grammar.specs.Scope.{Scope}
 use Rattle.grammar.proofs.Verdicts.{IsRest, run_rests}
-use Rattle.parser.proofs.Advancing.{definitions_actions-append}
 use Rattle.parser.proofs.StrictEnds.{IsCut, IsCutBehind, cut_behind, tokens_cut}
+
+pub definitions_actions-append : (ds es : List Definition) →
+    definitions_actions (ds ++ es) ≡ definitions_actions ds ++ definitions_actions es
+definitions_actions-append [] es = refl
+definitions_actions-append (d ∷ ds) es =
+    ap (λ (acts : List Action). function_actions d.number d.function ++ acts) (definitions_actions-append ds es)
+    ∙ sym (append_assoc (function_actions d.number d.function) (definitions_actions ds) (definitions_actions es))
 
 -- Where three tokens after a brace end.
 

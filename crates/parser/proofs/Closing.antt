@@ -1,124 +1,71 @@
--- What may be reported of a function to a builder: its beginning, the return at its end, and its end.
-use Rattle.std.proofs.Common.{◌≡◌, ℕ, pos, ◌+◌, ◌<◌, ◌≤◌, List, [], ◌∷◌, ◌++◌, refl, ◌∙◌, subst, true, false, arith, append_assoc}
+-- The actions of whole functions leave nothing open.
+use Rattle.std.proofs.Common.{◌≡◌, ℕ, List, [], ◌∷◌, ◌++◌, refl, sym, ap, ◌∙◌, subst, Bool, true, false, append_assoc, append-nil, length}
+use Rattle.std.specs.Prelude.{Option, Some, None, IsTrue, if◌then◌else◌, is_some}
 use Rattle.grammar.specs.declared.actions.Action.{Action}
-use Rattle.grammar.specs.declared.actions.Action.TheVariants.{BeginFunction, EndFunction, GiveBack, PushConstant}
-use Rattle.grammar.specs.Actions.{body_actions, code_length, last_return}
-use Rattle.grammar.specs.Building.{Representation, Appends, AppendsAll, MayFollow, LeavesOpen}
-use Rattle.grammar.specs.Following.{AValue, InFunction, Number}
-use Rattle.grammar.specs.Nesting.{body_nesting}
-use Rattle.grammar.specs.Profile.{Profile}
-use Rattle.grammar.specs.Resolved.{InBody}
-use Rattle.grammar.specs.Tree.{Body}
-use Rattle.grammar.proofs.FollowingLaws.{KeepsFunction, body_leads, definition_leads, follow_one, function_begins, function_finishes, keeps_function, leads_to}
-use Rattle.grammar.proofs.RepresentationLaws.{may_follow, stands_then}
-use Rattle.parser.specs.Room.{HasStatementRoom, room}
-use Rattle.parser.specs.Progress.{ClosesFunction, MayEnd}
+use Rattle.grammar.specs.declared.actions.Action.TheVariants.{BeginFunction, EndFunction}
+use Rattle.grammar.specs.Actions.{body_actions, function_actions, last_return}
+use Rattle.grammar.specs.Beginning.{IsBeginning, definitions_actions}
+use Rattle.grammar.specs.Derivation.{Definition}
+use Rattle.grammar.specs.Following.{InFunction, Opened, few_open, follow, follow_all, then_follow}
+use Rattle.grammar.proofs.Beginnings.{beginning_follows, finish_makes}
 
--- A function begins.
+-- the end of a function, where it may follow
+finish_leaves : (v : ℕ) (o q : Opened) → follow (EndFunction v) o ≡ Some q → q ≡ []
+finish_leaves v (InFunction k last ∷ []) q e = sym (finish_makes v k last q e).nothing
+finish_leaves v (InFunction k true ∷ x ∷ o) q e = absurd (cc)
+finish_leaves v (InFunction k false ∷ x ∷ o) q e = absurd (cc)
+finish_leaves v o q e = absurd (cc)
 
-pub may_begin : (before : Representation) (number parameters : ℕ) → LeavesOpen before [] → number < 64 →
-    parameters ≤ 64 →
-    MayFollow before (BeginFunction number parameters)
-may_begin before number parameters s below few =
-    may_follow before [] (InFunction parameters false ∷ []) (BeginFunction number parameters) s
-    (function_begins number parameters below few) (omega arith)
+-- one action, and those after it
+first_follows : (more : Opened → Option Opened) (next : Option Opened) (q : Opened) → then_follow more next ≡ Some q →
+    ((p : Opened) → next ≡ Some p → more p ≡ Some q → q ≡ []) → q ≡ []
+first_follows more None q e on = absurd (cc)
+first_follows more (Some p) q e on = by (few_open p) e
+  where
+    by : (few : Bool) → (if few then more p else None) ≡ Some q → q ≡ []
+    by true h = on p refl h
+    by false h = absurd (cc)
 
-pub begun : (before behind : Representation) (number parameters : ℕ) → LeavesOpen before [] → number < 64 →
-    parameters ≤ 64 →
-    Appends before behind (BeginFunction number parameters) → LeavesOpen behind (InFunction parameters false ∷ [])
-begun before behind number parameters s below few reported =
-    stands_then before behind (BeginFunction number parameters ∷ []) [] (InFunction parameters false ∷ []) reported s
-    (follow_one (BeginFunction number parameters) [] (InFunction parameters false ∷ [])
-    (function_begins number parameters below few) (omega arith))
+all_closed : (xs : List Action) (v : ℕ) (o q : Opened) → follow_all (xs ++ EndFunction v ∷ []) o ≡ Some q → q ≡ []
+all_closed [] v o q e =
+    first_follows (follow_all []) (follow (EndFunction v) o) q e
+    (λ p h same. let it : p ≡ q = cc in subst (λ (r : Opened). r ≡ []) it (finish_leaves v o p h))
+all_closed (x ∷ xs) v o q e =
+    first_follows (follow_all (xs ++ EndFunction v ∷ [])) (follow x o) q e (λ p h same. all_closed xs v p q same)
 
-pub has_room_for_statements : (before : Representation) (parameters : ℕ) →
-    LeavesOpen before (InFunction parameters false ∷ []) →
-    HasStatementRoom before (room 1 1)
-has_room_for_statements before parameters s =
-    record { opened = InFunction parameters false ∷ []; position = refl; stands = s; few = omega arith }
+-- these end with the end of a function
+record EndsFunction (acts : List Action) : Type 0 where
+  before : List Action
+  variables : ℕ
+  is : acts ≡ before ++ EndFunction variables ∷ []
 
--- Its statements leave it open.
-pub may_end : (before behind : Representation) (parameters variables : ℕ) (body : Body) →
-    LeavesOpen before (InFunction parameters false ∷ []) → AppendsAll before behind (body_actions body) →
-    InBody 64 64 64 body → body_nesting body ≤ 200 → parameters ≤ variables → variables ≤ 64 → MayEnd behind variables
-may_end before behind parameters variables body s reported numbered narrow within few =
-    let k : KeepsFunction body parameters false = keeps_function body parameters false in
+one_ends : (d : Definition) → EndsFunction (function_actions d.number d.function)
+one_ends d = record {
+  before = BeginFunction d.number d.function.parameters ∷ (body_actions d.function.body ++ last_return);
+  variables = length d.function.variables;
+  is = ap (λ (xs : List Action). BeginFunction d.number d.function.parameters ∷ xs)
+      (sym (append_assoc (body_actions d.function.body) last_return (EndFunction (length d.function.variables) ∷ [])));
+}
+
+all_end : (d : Definition) (ds : List Definition) → EndsFunction (definitions_actions (d ∷ ds))
+all_end d [] = subst EndsFunction (sym (append-nil (function_actions d.number d.function))) (one_ends d)
+all_end d (e ∷ ds) =
+    let h : EndsFunction (definitions_actions (e ∷ ds)) = all_end e ds in
     record {
-      parameters = parameters;
-      returned = k.returned;
-      stands =
-          stands_then before behind (body_actions body) (InFunction parameters false ∷ [])
-          (InFunction parameters k.returned ∷ []) reported s
-          (leads_to (body_actions body) (InFunction parameters false ∷ []) _
-          (InFunction parameters k.returned ∷ []) k.is
-          (body_leads body (InFunction parameters false ∷ []) refl numbered (omega arith))).is;
-      within = within;
-      few = few;
+      before = function_actions d.number d.function ++ h.before;
+      variables = h.variables;
+      is = ap (λ (xs : List Action). function_actions d.number d.function ++ xs) h.is
+          ∙ sym (append_assoc (function_actions d.number d.function) h.before (EndFunction h.variables ∷ []));
     }
 
--- The return at its end.
-
-pub may_push : (before : Representation) (variables : ℕ) → MayEnd before variables →
-    MayFollow before (PushConstant (pos 0))
-may_push before variables m =
-    may_follow before (InFunction m.parameters m.returned ∷ [])
-    (AValue (Number (pos 0)) ∷ InFunction m.parameters m.returned ∷ []) (PushConstant (pos 0)) m.stands refl
-    (omega arith)
-
-pushed : (before behind : Representation) (variables : ℕ) (m : MayEnd before variables) →
-    Appends before behind (PushConstant (pos 0)) →
-    LeavesOpen behind (AValue (Number (pos 0)) ∷ InFunction m.parameters m.returned ∷ [])
-pushed before behind variables m reported =
-    stands_then before behind (PushConstant (pos 0) ∷ []) (InFunction m.parameters m.returned ∷ [])
-    (AValue (Number (pos 0)) ∷ InFunction m.parameters m.returned ∷ []) reported m.stands
-    (follow_one (PushConstant (pos 0)) (InFunction m.parameters m.returned ∷ [])
-    (AValue (Number (pos 0)) ∷ InFunction m.parameters m.returned ∷ []) refl (omega arith))
-
-pub may_give : (before behind : Representation) (variables : ℕ) → MayEnd before variables →
-    Appends before behind (PushConstant (pos 0)) → MayFollow behind GiveBack
-may_give before behind variables m reported =
-    may_follow behind (AValue (Number (pos 0)) ∷ InFunction m.parameters m.returned ∷ [])
-    (InFunction m.parameters true ∷ []) GiveBack (pushed before behind variables m reported) refl (omega arith)
-
-pub may_finish : (before mid behind : Representation) (variables : ℕ) → MayEnd before variables →
-    Appends before mid (PushConstant (pos 0)) → Appends mid behind GiveBack → MayFollow behind (EndFunction variables)
-may_finish before mid behind variables m reported given =
-    let s : LeavesOpen behind (InFunction m.parameters true ∷ []) =
-    stands_then mid behind (GiveBack ∷ []) (AValue (Number (pos 0)) ∷ InFunction m.parameters m.returned ∷ [])
-    (InFunction m.parameters true ∷ []) given (pushed before mid variables m reported)
-    (follow_one GiveBack (AValue (Number (pos 0)) ∷ InFunction m.parameters m.returned ∷ [])
-    (InFunction m.parameters true ∷ []) refl (omega arith)) in
-    may_follow behind (InFunction m.parameters true ∷ []) [] (EndFunction variables) s
-    (function_finishes m.parameters variables m.within m.few) (omega arith)
-
--- what was reported of its end
-pub closes : (before mid between after : Representation) (variables : ℕ) → Appends before mid (PushConstant (pos 0)) →
-    Appends mid between GiveBack → Appends between after (EndFunction variables) →
-    ((profile : Profile) (acts : List Action) → between profile acts →
-    code_length profile acts + 1 ≤ profile.instructions) → ClosesFunction before after variables
-closes before mid between after variables a b c fits = record {
-  added =
-      λ profile acts h. subst (λ (xs : List Action). after profile xs) (rejoin acts)
-      (c profile _ (b profile _ (a profile acts h)));
-  fits =
-      λ profile acts h. subst (λ (xs : List Action). code_length profile xs + 1 ≤ profile.instructions)
-      (append_assoc acts (PushConstant (pos 0) ∷ []) (GiveBack ∷ []))
-      (fits profile _ (b profile _ (a profile acts h)));
-}
+pub nothing_open : (ds : List Definition) → IsBeginning (definitions_actions ds) →
+    follow_all (definitions_actions ds) [] ≡ Some []
+nothing_open [] begins = refl
+nothing_open (d ∷ ds) begins =
+    by (follow_all (definitions_actions (d ∷ ds)) []) refl (beginning_follows (definitions_actions (d ∷ ds)) begins)
   where
-    rejoin : (acts : List Action) →
-        ((acts ++ PushConstant (pos 0) ∷ []) ++ GiveBack ∷ []) ++ EndFunction variables ∷ [] ≡
-        acts ++ (last_return ++ EndFunction variables ∷ [])
-    rejoin acts =
-        append_assoc (acts ++ PushConstant (pos 0) ∷ []) (GiveBack ∷ []) (EndFunction variables ∷ []) ∙
-        append_assoc acts (PushConstant (pos 0) ∷ []) (GiveBack ∷ EndFunction variables ∷ [])
-
--- After it nothing is open.
-pub closed : (before after : Representation) (number parameters variables : ℕ) (body : Body) → LeavesOpen before [] →
-    number < 64 → parameters ≤ variables → variables ≤ 64 → InBody 64 64 64 body → body_nesting body ≤ 200 →
-    AppendsAll before after
-    (BeginFunction number parameters ∷ (body_actions body ++ (last_return ++ EndFunction variables ∷ []))) →
-    LeavesOpen after []
-closed before after number parameters variables body s below within few numbered narrow reported =
-    stands_then before after _ [] [] reported s
-    (definition_leads number parameters variables body below within few numbered narrow).is
+    by : (r : Option Opened) → follow_all (definitions_actions (d ∷ ds)) [] ≡ r → IsTrue (is_some r) → r ≡ Some []
+    by None e h = absurd (cc)
+    by (Some q) e h =
+        let k : EndsFunction (definitions_actions (d ∷ ds)) = all_end d ds in
+        ap Some (all_closed k.before k.variables [] q (subst (λ (xs : List Action). follow_all xs [] ≡ Some q) k.is e))

@@ -10,7 +10,7 @@ use Rattle.grammar.specs.Scope.{Scope}
 use Rattle.grammar_laws.specs.Emission.{on_choice}
 use Rattle.parser.specs.declared.roles.Declared.{Declared}
 use Rattle.parser.specs.declared.roles.Declared.TheVariants as kind
-use Rattle.parser.specs.Declarations.{IsInFunction, declarations_of}
+use Rattle.parser.specs.Declarations.{declarations_of}
 use Rattle.parser.specs.Paths.{Origin, Path}
 use Rattle.parser.specs.ScopedCursors.{ScopedCursor, scope_of, token_of}
 use Rattle.parser.proofs.ListLaws.{Gives}

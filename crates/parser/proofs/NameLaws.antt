@@ -1,17 +1,46 @@
 -- If a name was matched, the token after it is next.
 use Rattle.std.proofs.Common.{◌≡◌, ℕ, zero, suc, List, [], ◌∷◌, ◌++◌, refl, sym, ap, ◌∙◌, Bool, true, false, drop}
-use Rattle.std.specs.Prelude.{Some}
-use Rattle.tokens.specs.Tokens.{followed_by}
+use Rattle.std.specs.Prelude.{Some, is_some}
+use Rattle.tokens.specs.Tokens.{followed_by, is_last}
 use Rattle.tokens.specs.declared.located_tokens.LocatedToken.{LocatedToken}
+use Rattle.tokens.specs.declared.located_tokens.Token.{Token}
+use Rattle.tokens.specs.declared.located_tokens.Token.TheVariants as token
 use Rattle.grammar.specs.Derivation.{State, PartialTree, Definition, name_of_token, next_token, line_at, name_tree, derived, stepped}
 use Rattle.grammar.specs.Laws.StateParts.{state}
 use Rattle.grammar.specs.Grammar.{AName, Role, is_lexical_error}
 use Rattle.grammar.specs.Laws.Parsing.{DerivesWithoutFault}
 use Rattle.grammar.specs.ProfileNumbers.{first_profile}
 use Rattle.grammar.specs.Scope.{Scope, scope_after_name}
-use Rattle.parser.specs.ScopedCursors.{MayContinue, UnreadPosition, next_at, scope_at}
+use Rattle.parser.specs.ScopedCursors.{MayContinue, UnreadPosition, after_at, next_at, scope_at}
 use Rattle.parser.specs.Segment.{Derives, DerivesItem}
-use Rattle.parser.proofs.OperandLaws.{IsNamed, named_found, named_goes_on, named_sound}
+
+-- Names.
+
+pub record IsNamed (t : Token) : Type 0 where
+  pub name : List ℕ
+  pub is : t ≡ token.Name name
+
+pub is_named : (t : Token) → is_some (name_of_token t) ≡ true → IsNamed t
+is_named (token.Name name) h = record { name = name; is = refl }
+is_named (token.Punctuator m) h = absurd (cc)
+is_named (token.Keyword word) h = absurd (cc)
+is_named (token.Constant value) h = absurd (cc)
+is_named token.End h = absurd (cc)
+is_named (token.Fault lexical_error) h = absurd (cc)
+
+pub named_goes_on : (t : Token) → IsNamed t → is_last t ≡ false
+named_goes_on t n = rw n.is refl
+
+pub named_sound : (t : Token) → IsNamed t → is_lexical_error t ≡ false
+named_sound t n = rw n.is refl
+
+pub named_found : (t : Token) (n : IsNamed t) → name_of_token t ≡ Some n.name
+named_found t n = rw n.is refl
+
+-- the token after a name
+pub after_name : (at : UnreadPosition) (after : Token) → IsNamed (next_at at).token →
+    (is_last (next_at at).token ≡ false → after ≡ after_at at) → after ≡ after_at at
+after_name at after n more = more (named_goes_on (next_at at).token n)
 
 done : (b : Bool) (rest : List LocatedToken) (values : List PartialTree) (scope : Scope) (functions : List Definition) →
     is_lexical_error (next_token rest) ≡ b →

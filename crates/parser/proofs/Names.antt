@@ -236,13 +236,3 @@ stays_at_then kind.Externals a b c h i = stays_body_then a b c h i
 stays_at_then kind.Parameters a b c h i = stays_then a b c h i
 stays_at_then kind.TypedParameters a b c h i = stays_body_then a b c h i
 stays_at_then kind.Locals a b c h i = stays_body_then a b c h i
-
--- a definition that began goes on
-pub begins_then : (number : ℕ) (a b c : Lookahead) → BeginsDefinition number a b → StaysIn b.scope c.scope →
-    BeginsDefinition number a c
-begins_then number a b c h i = record {
-  is = i.number ∙ h.is;
-  few = h.few;
-  mentioned = omega (arith, h.mentioned, i.functions);
-  within = λ w. i.within (h.within w);
-}

@@ -1,5 +1,5 @@
 -- Productions that are chosen, and trees that are made, between two tokens.
-use Rattle.std.proofs.Common.{◌≡◌, ℕ, ◌<◌, ◌≤◌, List, [], ◌∷◌, ◌++◌, refl, sym, ap, subst, Bool, true, false, arith, append-nil}
+use Rattle.std.proofs.Common.{◌≡◌, ℕ, ◌<◌, ◌≤◌, List, [], ◌∷◌, refl, sym, ap, Bool, true, false, arith}
 use Rattle.std.proofs.lemmas.Bool.Decides.{nat_tests}
 use Rattle.std.specs.Prelude.{Some, nat_le}
 use Rattle.tokens.specs.declared.located_tokens.LocatedToken.{LocatedToken}
@@ -13,21 +13,18 @@ use denote.Enum.Bare.{same_true}
 use Rattle.grammar.specs.declared.diagnostics.Code.TheVariants as fault_code
 use Rattle.grammar.specs.declared.diagnostics.ParseFault.TheVariants as parse_fault
 use Rattle.grammar.specs.Compiled.{diagnostic}
-use Rattle.grammar.specs.Derivation.{State, PartialTree, Definition, scope_after_action, functions_defined, trees_after, next_token}
+use Rattle.grammar.specs.Derivation.{PartialTree, next_token}
 use Rattle.grammar.specs.Laws.StateParts.{state}
-use Rattle.grammar.specs.Faults.{fault, item_faults, nesting_faults, nested_count, only_if}
-use Rattle.grammar.specs.Grammar.{AKeyword, Exactly, Item, Make, Part, SemanticAction, Close, Symbol, choice, is_lexical_error, is_punctuator, is_keyword, enters}
-use Rattle.grammar.specs.Laws.Parsing.{DerivesWithoutFault}
+use Rattle.grammar.specs.Faults.{fault, nesting_faults, nested_count, only_if}
+use Rattle.grammar.specs.Grammar.{AKeyword, Exactly, Item, Part, Symbol, choice, is_lexical_error, is_punctuator, is_keyword, enters}
 use Rattle.grammar.specs.NameLimits.{most_nested}
-use Rattle.grammar.specs.Profile.{Profile}
 use Rattle.grammar.specs.Scope.{Scope, no_names}
 use Rattle.grammar.proofs.Firsts.{too_deep, too_deep_word}
-use Rattle.grammar.proofs.Runs.{then}
-use Rattle.grammar.proofs.Steps.{make, punctuator, part, close, word}
+use Rattle.grammar.proofs.Steps.{part, word}
 use Rattle.parser.specs.ScopedCursors.{UnreadPosition, next_at, scope_at}
-use Rattle.parser.specs.Stopping.{Stop, stop_with}
-use Rattle.parser.specs.Segment.{Derives, FailsAt, GoesPast, StopsAt}
-use Rattle.parser.proofs.Segments.{Leads, fails_at_next, past, stand, stops}
+use Rattle.parser.specs.Stopping.{stop_with}
+use Rattle.parser.specs.Segment.{Derives, FailsAt}
+use Rattle.parser.proofs.Segments.{Leads, fails_at_next, stand}
 use Rattle.tokens.specs.Cursors.{IsNearTo}
 
 -- Which token it is.
@@ -76,12 +73,6 @@ beyond opened n rest is large = rw (is, above n large) refl
     above : (n : ℕ) → 64 ≤ n → nat_le 64 n ≡ true
     above n large = grind (arith, nat_tests)
 
-pub free_below : (depth : ℕ) (symbol : Symbol) (located_token : LocatedToken) → depth < 64 →
-    IsFree depth symbol located_token
-free_below depth symbol located_token small stack rest depths =
-    within (enters symbol located_token.token (next_token rest)) (nested_count stack) (located_token ∷ rest)
-    (rw depths small)
-
 pub free_of : (depth : ℕ) (symbol : Symbol) (located_token : LocatedToken) →
     ((after : Token) → enters symbol located_token.token after ≡ false) → IsFree depth symbol located_token
 free_of depth symbol located_token none stack rest depths = rw (none (next_token rest)) refl
@@ -109,74 +100,6 @@ pub part_stands : (at : UnreadPosition) (depth : ℕ) (symbol : Symbol) (items :
 part_stands at depth symbol items trees sound chosen free =
     stand at depth (Part symbol ∷ []) items trees trees
     (λ tail b. part_leads (next_at at) depth symbol items trees (scope_at at) tail sound chosen free)
-
-word_leads : (located_token : LocatedToken) (depth : ℕ) (symbol : Symbol) (w : Keyword) (items : List Item)
-    (trees : List PartialTree) (in_scope : Scope) (rest : List LocatedToken) →
-    is_lexical_error located_token.token ≡ false →
-    Chooses symbol located_token.token (AKeyword w ∷ items) → is_keyword w located_token.token ≡ true →
-    IsFree depth symbol located_token →
-    Leads depth (Part symbol ∷ []) items trees trees in_scope in_scope (located_token ∷ rest) rest
-word_leads located_token depth symbol w items trees in_scope rest sound chosen fits free = record {
-  passes = λ profile stack values functions depths.
-      then profile _ _ _
-      (part profile symbol (AKeyword w ∷ items) stack (located_token ∷ rest) _ in_scope functions sound
-      (chosen (next_token rest)) (free stack rest depths))
-      (word profile w _ (located_token ∷ rest) _ in_scope functions sound fits);
-}
-
-pub word_past : (at there : UnreadPosition) (depth : ℕ) (symbol : Symbol) (w : Keyword) (items : List Item)
-    (trees : List PartialTree) →
-    is_lexical_error (next_at at).token ≡ false →
-    Chooses symbol (next_at at).token (AKeyword w ∷ items) → is_keyword w (next_at at).token ≡ true →
-    IsFree depth symbol (next_at at) → GoesPast at there →
-    Derives depth (Part symbol ∷ []) items trees trees at there
-word_past at there depth symbol w items trees sound chosen fits free goes =
-    past at.lookahead.cursor (scope_at at) (scope_at at) at.to_come there depth (Part symbol ∷ []) items trees trees
-    goes
-    (λ rest b. word_leads (next_at at) depth symbol w items trees (scope_at at) rest sound chosen fits free)
-
-pub word_stops : (at : UnreadPosition) (d : Stop) (depth : ℕ) (symbol : Symbol) (w : Keyword) (items : List Item)
-    (trees : List PartialTree) → is_lexical_error (next_at at).token ≡ false →
-    Chooses symbol (next_at at).token (AKeyword w ∷ items) → is_keyword w (next_at at).token ≡ true →
-    IsFree depth symbol (next_at at) → StopsAt at d →
-    FailsAt depth (Part symbol ∷ []) trees at d
-word_stops at d depth symbol w items trees sound chosen fits free stop =
-    stops at.lookahead.cursor (scope_at at) (scope_at at) at.to_come d depth (Part symbol ∷ []) items trees trees
-    (λ rest b. word_leads (next_at at) depth symbol w items trees (scope_at at) rest sound chosen fits free) stop
-
-punctuator_leads : (located_token : LocatedToken) (depth : ℕ) (symbol : Symbol) (m : Punctuator) (items : List Item)
-    (trees : List PartialTree) (in_scope : Scope) (rest : List LocatedToken) →
-    is_lexical_error located_token.token ≡ false →
-    Chooses symbol located_token.token (Exactly m ∷ items) → is_punctuator m located_token.token ≡ true →
-    IsFree depth symbol located_token →
-    Leads depth (Part symbol ∷ []) items trees trees in_scope in_scope (located_token ∷ rest) rest
-punctuator_leads located_token depth symbol m items trees in_scope rest sound chosen fits free = record {
-  passes = λ profile stack values functions depths.
-      then profile _ _ _
-      (part profile symbol (Exactly m ∷ items) stack (located_token ∷ rest) _ in_scope functions sound
-      (chosen (next_token rest)) (free stack rest depths))
-      (punctuator profile m _ (located_token ∷ rest) _ in_scope functions sound fits);
-}
-
-pub punctuator_past : (at there : UnreadPosition) (depth : ℕ) (symbol : Symbol) (m : Punctuator) (items : List Item)
-    (trees : List PartialTree) → is_lexical_error (next_at at).token ≡ false →
-    Chooses symbol (next_at at).token (Exactly m ∷ items) → is_punctuator m (next_at at).token ≡ true →
-    IsFree depth symbol (next_at at) → GoesPast at there →
-    Derives depth (Part symbol ∷ []) items trees trees at there
-punctuator_past at there depth symbol m items trees sound chosen fits free goes =
-    past at.lookahead.cursor (scope_at at) (scope_at at) at.to_come there depth (Part symbol ∷ []) items trees trees
-    goes
-    (λ rest b. punctuator_leads (next_at at) depth symbol m items trees (scope_at at) rest sound chosen fits free)
-
-pub punctuator_stops : (at : UnreadPosition) (d : Stop) (depth : ℕ) (symbol : Symbol) (m : Punctuator)
-    (items : List Item)
-    (trees : List PartialTree) → is_lexical_error (next_at at).token ≡ false →
-    Chooses symbol (next_at at).token (Exactly m ∷ items) → is_punctuator m (next_at at).token ≡ true →
-    IsFree depth symbol (next_at at) → StopsAt at d →
-    FailsAt depth (Part symbol ∷ []) trees at d
-punctuator_stops at d depth symbol m items trees sound chosen fits free stop =
-    stops at.lookahead.cursor (scope_at at) (scope_at at) at.to_come d depth (Part symbol ∷ []) items trees trees
-    (λ rest b. punctuator_leads (next_at at) depth symbol m items trees (scope_at at) rest sound chosen fits free) stop
 
 -- Nested too deeply.
 
@@ -209,55 +132,3 @@ punctuator_too_deep at n near depth symbol m items trees sound chosen fits opene
     (opened (next_token tail)) (rw depths deep)))
 
 -- Trees.
-
--- a semantic action that makes these trees of those, and nothing else
-pub record MakesOnly (rule : SemanticAction) (taken left : List PartialTree) : Type 0 where
-  pub makes : (values : List PartialTree) → trees_after rule (taken ++ values) ≡ left ++ values
-  pub learns : (scope : Scope) → scope_after_action rule scope ≡ scope
-  pub defines : (values : List PartialTree) (scope : Scope) → functions_defined rule values scope ≡ []
-  pub clean : (profile : Profile) (stack : List Item) (rest : List LocatedToken) (values : List PartialTree)
-      (scope : Scope)
-      (functions : List Definition) →
-      item_faults profile (Make rule) (state stack rest values scope functions) ≡ []
-
-pub make_leads : (located_token : LocatedToken) (depth : ℕ) (rule : SemanticAction) (taken left : List PartialTree)
-    (in_scope : Scope) (rest : List LocatedToken) → is_lexical_error located_token.token ≡ false →
-    MakesOnly rule taken left →
-    Leads depth (Make rule ∷ []) [] taken left in_scope in_scope (located_token ∷ rest) (located_token ∷ rest)
-make_leads located_token depth rule taken left in_scope rest sound m = record {
-  passes = λ profile stack values functions depths.
-      let same : state stack (located_token ∷ rest) (trees_after rule (taken ++ values))
-      (scope_after_action rule in_scope)
-      (functions ++ functions_defined rule (taken ++ values) in_scope) ≡
-      state stack (located_token ∷ rest) (left ++ values) in_scope functions =
-      rw (m.makes values, m.learns in_scope, m.defines (taken ++ values) in_scope, append-nil functions) refl in
-      subst
-      (λ (t : State). DerivesWithoutFault profile
-      (state (Make rule ∷ stack) (located_token ∷ rest) (taken ++ values) in_scope functions) t) same
-      (make profile rule stack (located_token ∷ rest) (taken ++ values) in_scope functions sound
-      (m.clean profile stack (located_token ∷ rest) (taken ++ values) in_scope functions));
-}
-
-pub make_stands : (at : UnreadPosition) (depth : ℕ) (rule : SemanticAction) (taken left : List PartialTree) →
-    is_lexical_error (next_at at).token ≡ false → MakesOnly rule taken left →
-    Derives depth (Make rule ∷ []) [] taken left at at
-make_stands at depth rule taken left sound m =
-    stand at depth (Make rule ∷ []) [] taken left
-    (λ tail b. make_leads (next_at at) depth rule taken left (scope_at at) tail sound m)
-
-close_leads : (located_token : LocatedToken) (depth : ℕ) (trees : List PartialTree) (in_scope : Scope)
-    (rest : List LocatedToken)
-    → is_lexical_error located_token.token ≡ false →
-    Leads depth (Close ∷ []) [] trees trees in_scope in_scope (located_token ∷ rest) (located_token ∷ rest)
-close_leads located_token depth trees in_scope rest sound =
-    record {
-      passes =
-          λ profile stack values functions depths. close profile stack (located_token ∷ rest) _ in_scope functions
-          sound;
-    }
-
-pub close_stands : (at : UnreadPosition) (depth : ℕ) (trees : List PartialTree) →
-    is_lexical_error (next_at at).token ≡ false →
-    Derives depth (Close ∷ []) [] trees trees at at
-close_stands at depth trees sound =
-    stand at depth (Close ∷ []) [] trees trees (λ tail b. close_leads (next_at at) depth trees (scope_at at) tail sound)

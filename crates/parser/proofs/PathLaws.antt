@@ -1,5 +1,5 @@
 -- One step of the derivation after another, from the file's start on.
-use Rattle.std.proofs.Common.{◌≡◌, ℕ, zero, suc, ◌+◌, ◌<◌, ◌≤◌, List, [], ◌∷◌, ◌++◌, refl, sym, ap, ◌∙◌, subst, Bool, true, false, append_assoc, append-nil, zero-add, suc-add, length}
+use Rattle.std.proofs.Common.{◌≡◌, ℕ, zero, suc, ◌+◌, ◌<◌, List, [], ◌∷◌, ◌++◌, refl, sym, ap, ap₂, ◌∙◌, subst, Bool, true, false, append_assoc, append-nil, zero-add, suc-add, length}
 use Rattle.std.specs.Prelude.{pos, Some, nat_le}
 use Rattle.tokens.specs.Tokens.{followed_by, is_last}
 use Rattle.tokens.specs.declared.located_tokens.LocatedToken.{LocatedToken}
@@ -15,10 +15,10 @@ use Rattle.grammar.specs.declared.actions.Action.{Action}
 use Rattle.grammar.specs.declared.actions.Action.TheVariants.{PushConstant}
 use Rattle.grammar.specs.declared.name_limits.TheConstants.{MOST_NESTED}
 use Rattle.grammar.specs.Beginning.{IsBeginning}
-use Rattle.grammar.specs.Building.{MayFollow, MayFollowAll, Representation}
+use Rattle.grammar.specs.Building.{AppendsAll, MayFollow, MayFollowAll, Representation}
 use Rattle.grammar.specs.Derivation.{State, PartialTree, Definition, AnExpr, trees_after, scope_after_action, functions_defined, next_token, name_of_token, name_tree, derived, initial_state, stepped}
-use Rattle.grammar.specs.Faults.{Fault, item_faults, faults_at, faults_in, fault, nested_count, only_if}
-use Rattle.grammar.specs.Grammar.{External, Parameter, Typed, Local, AConstant, AKeyword, AName, Role, Close, Exactly, Item, Make, Part, SemanticAction, Symbol, Define, choice, is_lexical_error, is_punctuator, is_keyword, enters}
+use Rattle.grammar.specs.Faults.{item_faults, faults_at, faults_in, fault, nested_count, only_if}
+use Rattle.grammar.specs.Grammar.{External, Parameter, Typed, Local, AConstant, AKeyword, AName, Role, Close, Exactly, Item, Make, Part, SemanticAction, Symbol, Define, choice, is_punctuator, is_keyword, enters}
 use Rattle.grammar.specs.Laws.Naming.{LearnsName}
 use Rattle.grammar.specs.Laws.Parsing.{DerivesWithoutFault as Clean}
 use Rattle.grammar.specs.Laws.StateParts.{state}
@@ -30,14 +30,13 @@ use Rattle.grammar.proofs.Runs.{derived-add, faults_in-add}
 use Rattle.grammar_laws.proofs.Emitted.{emits_a_beginning}
 use Rattle.grammar_laws.specs.Emission.{and_then, on_choice, on_name, emitted, emissions, on_rule}
 use Rattle.parser.specs.Advancing.{HasAdvanced, Stopped}
-use Rattle.parser.specs.Matching.{Matches}
-use Rattle.parser.specs.Paths.{Ended, Leads, Leaves, Origin, Path, Refused, StopsBehind}
+use Rattle.parser.specs.Paths.{Ended, HasTold, Leads, Origin, Path, Refused}
 use Rattle.parser.specs.Roles.{role_of}
 use Rattle.parser.specs.declared.roles.Declared.{Declared}
 use Rattle.parser.specs.declared.roles.Declared.TheVariants as kind
 use Rattle.parser.specs.ScopedCursors.{MayContinue, UnreadPosition, ScopedCursor, next_at, scope_of, taken_at, token_of, tokens_at, with_scope}
 use Rattle.parser.specs.Segment.{FailsAt, FailsItem, GoesPast, Refused as IsRefused, StopsAt, TakesTokens, account_after}
-use Rattle.parser.specs.Stopping.{Stop, StopsInside, stop_with}
+use Rattle.parser.specs.Stopping.{StopsInside, stop_with}
 use Rattle.parser.proofs.Items.{punctuator_stops, word_stops}
 use Rattle.parser.proofs.Parts.{within}
 use Rattle.parser.proofs.Productions.{EntersNone, WithAfter}
@@ -58,9 +57,6 @@ emissions-add (suc m) n s =
     ∙ ap (λ (acts : List Action). emitted s ++ acts) (emissions-add m n (stepped s))
     ∙ sym (append_assoc (emitted s) (emissions m (stepped s)) (emissions n (derived m (stepped s))))
 
-both_empty : (xs ys : List Fault) → xs ≡ [] → ys ≡ [] → xs ++ ys ≡ []
-both_empty xs ys p q = rw (p, q) refl
-
 both_same : (xs ys zs more : List Action) → xs ≡ ys → zs ≡ more → xs ++ (zs ++ []) ≡ and_then ys more
 both_same xs ys zs [] p q = rw (p, q, append-nil ys) refl
 both_same xs ys zs (a ∷ more) p q = rw (p, q, append-nil more) refl
@@ -70,7 +66,7 @@ pub leads_more : (profile : Profile) (n : ℕ) (ls : List LocatedToken) (s t : S
 leads_more profile n ls s t acts more h k = record {
   comes = derived-add n 1 (initial_state ls) ∙ ap (λ (v : State). stepped v) h.comes ∙ k.leads;
   clean = faults_in-add profile n 1 (initial_state ls)
-      ∙ both_empty _ _ h.clean (ap (λ (v : State). faults_in profile 1 v) h.comes ∙ both_empty _ _ k.clean refl);
+      ∙ ap₂ ◌++◌ h.clean (ap (λ (v : State). faults_in profile 1 v) h.comes ∙ ap₂ ◌++◌ k.clean refl);
   emits = emissions-add n 1 (initial_state ls)
       ∙ ap (λ (v : State). emissions n (initial_state ls) ++ emissions 1 v) h.comes
       ∙ both_same _ _ _ _ h.emits k.emits;
@@ -368,43 +364,45 @@ here : (at : ScopedCursor) (f : ParseFault) → at.account ≡ account_after at.
 here at f same = record { borrows = refl; account = same; took = record { rest = λ total h. h } }
 
 -- A call of the cursor was refused within these items.
-pub falls : {o : Origin} {denied : Type 0} {now : Representation} {values : List PartialTree} {acts : List Action}
+pub falls : {o : Origin} {denied : Type 0} {told : List Action → Type 0} {values : List PartialTree}
+    {acts : List Action}
     {at there : ScopedCursor} (front stack : List Item) (f : ParseFault) → Path o (front ++ stack) values acts at →
-    now o.profile acts → Stopped f at there →
+    told acts → Stopped f at there →
     IsRefused (λ stop. (depth : ℕ) → FailsAt depth front [] at.position stop) ⊥ (taken_at there.position) f →
-    Refused o denied now f there
-falls front stack (parse_fault.Source d) h told s r =
+    Refused o denied told f there
+falls front stack (parse_fault.Source d) h t s r =
     record { acts = _; ended = ends front stack _ h s (r (nested_count stack)); leaves = tt }
-falls front stack parse_fault.Device h told s r =
-    record { acts = _; ended = ends front stack _ h s (r (nested_count stack)); leaves = told }
-falls front stack parse_fault.Memory h told s r = absurd r.0
+falls front stack parse_fault.Device h t s r =
+    record { acts = _; ended = ends front stack _ h s (r (nested_count stack)); leaves = t }
+falls front stack parse_fault.Memory h t s r = absurd r.0
 
 -- The next token fits, and the one after it is a lexical error, or the device failed.
 
-pub word_falls : {o : Origin} {denied : Type 0} {now : Representation} {stack : List Item} {values : List PartialTree}
+pub word_falls : {o : Origin} {denied : Type 0} {told : List Action → Type 0} {stack : List Item}
+    {values : List PartialTree}
     {acts : List Action} {at there : ScopedCursor} {f : ParseFault} (w : Keyword) → is_keyword w (token_of at) ≡ true →
-    now o.profile acts → Stopped f at there → IsRefused (StopsAt at.position) ⊥ (taken_at there.position) f →
-    Path o (AKeyword w ∷ stack) values acts at → Refused o denied now f there
-word_falls {stack = stack} {at = at} {f = f} w fits told s r h =
-    falls (AKeyword w ∷ []) stack f h told s
+    told acts → Stopped f at there → IsRefused (StopsAt at.position) ⊥ (taken_at there.position) f →
+    Path o (AKeyword w ∷ stack) values acts at → Refused o denied told f there
+word_falls {stack = stack} {at = at} {f = f} w fits t s r h =
+    falls (AKeyword w ∷ []) stack f h t s
     (refused_map _ _ (FailsItem (AKeyword w) at.position) ⊥ ⊥ f
     (word_stops at.position.lookahead.cursor (scope_of at) at.position.to_come w h.ready.sound fits) (λ same. same) r)
 
-pub punctuator_falls : {o : Origin} {denied : Type 0} {now : Representation} {stack : List Item}
+pub punctuator_falls : {o : Origin} {denied : Type 0} {told : List Action → Type 0} {stack : List Item}
     {values : List PartialTree} {acts : List Action} {at there : ScopedCursor} {f : ParseFault} (m : Punctuator) →
-    is_punctuator m (token_of at) ≡ true → now o.profile acts → Stopped f at there →
+    is_punctuator m (token_of at) ≡ true → told acts → Stopped f at there →
     IsRefused (StopsAt at.position) ⊥ (taken_at there.position) f →
-    Path o (Exactly m ∷ stack) values acts at → Refused o denied now f there
-punctuator_falls {stack = stack} {at = at} {f = f} m fits told s r h =
-    falls (Exactly m ∷ []) stack f h told s
+    Path o (Exactly m ∷ stack) values acts at → Refused o denied told f there
+punctuator_falls {stack = stack} {at = at} {f = f} m fits t s r h =
+    falls (Exactly m ∷ []) stack f h t s
     (refused_map _ _ (FailsItem (Exactly m) at.position) ⊥ ⊥ f
     (punctuator_stops at.position.lookahead.cursor (scope_of at) at.position.to_come m h.ready.sound fits)
     (λ same. same) r)
 
 -- memory was refused
-pub out_of_memory : {o : Origin} {denied : Type 0} {now : Representation} {stack : List Item}
+pub out_of_memory : {o : Origin} {denied : Type 0} {told : List Action → Type 0} {stack : List Item}
     {values : List PartialTree} {acts : List Action} {at : ScopedCursor} → Path o stack values acts at → denied →
-    Refused o denied now parse_fault.Memory at
+    Refused o denied told parse_fault.Memory at
 out_of_memory {stack = stack} {at = at} h asks = record {
   acts = _;
   ended = ends [] stack parse_fault.Memory h (here at parse_fault.Memory refl)
@@ -413,36 +411,41 @@ out_of_memory {stack = stack} {at = at} h asks = record {
 }
 
 -- the next token has a fault
-pub faulty : {o : Origin} {denied : Type 0} {now : Representation} {values : List PartialTree} {acts : List Action}
+pub faulty : {o : Origin} {denied : Type 0} {told : List Action → Type 0} {values : List PartialTree}
+    {acts : List Action}
     {at : ScopedCursor} {d : Diagnostic} (front stack : List Item) → Path o (front ++ stack) values acts at →
     FailsAt (nested_count stack) front [] at.position (stop_with (parse_fault.Source d) (taken_at at.position)) →
-    Refused o denied now (parse_fault.Source d) at
+    Refused o denied told (parse_fault.Source d) at
 faulty {at = at} front stack h fails =
     record { acts = _; ended = ends front stack _ h (here at _ refl) fails; leaves = tt }
 
--- What may be reported: what was emitted.
+-- What was told a builder, and what may be.
 
-pub may_all : {o : Origin} {now : Representation} {stack : List Item} {values : List PartialTree}
-    {more : List Action} {at : ScopedCursor} (acts : List Action) → now o.profile acts →
-    Path o stack values (acts ++ more) at →
-    MayFollowAll now more
-may_all {o} {now} {stack} {values} {more} {at} acts told p =
+pub told_more : {began now : Representation} (after : Representation) (acts : List Action) {more : List Action} →
+    AppendsAll now after more →
+    HasTold began now acts → HasTold began after (acts ++ more)
+told_more after acts added told = record { each = λ profile new. added profile _ (told.each profile new) }
+
+pub may_all : {o : Origin} {began now : Representation} {stack : List Item} {values : List PartialTree}
+    {more : List Action} {at : ScopedCursor} (acts : List Action) → HasTold began now acts → began o.profile [] →
+    Path o stack values (acts ++ more) at → MayFollowAll now more
+may_all {o} {began} {now} {stack} {values} {more} {at} acts told new p =
     let l : Leads o.profile p.steps _ _ (acts ++ more) = p.follows _ (record { behind = []; is = refl }) in
     record {
       profile = o.profile;
       acts = acts;
-      stood = told;
+      stood = told.each o.profile new;
       begins = subst IsBeginning l.emits (emits_a_beginning o.profile p.steps _ l.clean);
     }
 
-pub may : {o : Origin} {now : Representation} {stack : List Item} {values : List PartialTree} {a : Action}
-    {at : ScopedCursor} (acts : List Action) → now o.profile acts → Path o stack values (acts ++ a ∷ []) at →
-    MayFollow now a
-may {o} {now} {stack} {values} {a} {at} acts told p =
+pub may : {o : Origin} {began now : Representation} {stack : List Item} {values : List PartialTree} {a : Action}
+    {at : ScopedCursor} (acts : List Action) → HasTold began now acts → began o.profile [] →
+    Path o stack values (acts ++ a ∷ []) at → MayFollow now a
+may {o} {began} {now} {stack} {values} {a} {at} acts told new p =
     let l : Leads o.profile p.steps _ _ (acts ++ a ∷ []) = p.follows _ (record { behind = []; is = refl }) in
     record {
       profile = o.profile;
       acts = acts;
-      stood = told;
+      stood = told.each o.profile new;
       begins = subst IsBeginning l.emits (emits_a_beginning o.profile p.steps _ l.clean);
     }

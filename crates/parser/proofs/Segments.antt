@@ -23,7 +23,7 @@ use Rattle.tokens.proofs.ReadingLemmas.{open-within}
 use Rattle.parser.proofs.StrictEnds.{reach_limited}
 use Rattle.parser.specs.ScopedCursors.{Lookahead, UnreadPosition, position_of, MayContinue, tokens_at, next_at, after_at, scope_at}
 use Rattle.parser.specs.Stopping.{IfSource, NoFaultBefore, Stop, Stops, StopsInside, most_taken, stop_with}
-use Rattle.parser.specs.Segment.{Derives, FailsAt, FailsItem, GoesPast, HasLexicalError, Refused, StopsAt, StopsAtFirst, TakesTokens}
+use Rattle.parser.specs.Segment.{Derives, FailsAt, GoesPast, HasLexicalError, Refused, StopsAt, StopsAtFirst, TakesTokens}
 
 -- The tokens at a position.
 
@@ -398,14 +398,6 @@ halts_here depth front taken at n near located_tokens is profile stack values fu
     inside_here profile (state (front ++ stack) located_tokens (taken ++ values) (scope_at at) functions)
     (stop_with parse_fault.Memory n) tt (near_told at located_tokens n is near)
 
--- after a segment
-pub halts : (depth : ℕ) (front mid : List Item) (taken between : List PartialTree) (at now : UnreadPosition) (n : ℕ) →
-    Derives depth front mid taken between at now → IsNearTo now.lookahead.cursor n →
-    FailsAt depth front taken at (stop_with parse_fault.Memory n)
-halts depth front mid taken between at now n d near =
-    fails_then depth front mid taken between at now (stop_with parse_fault.Memory n) d
-    (halts_here depth mid between now n near)
-
 -- Refusals.
 
 pub refused_map : (n : ℕ) (P Q : Stop → Type 0) (denied more : Type 0) (f : ParseFault) → ((d : Stop) → P d → Q d) →
@@ -413,30 +405,6 @@ pub refused_map : (n : ℕ) (P Q : Stop → Type 0) (denied more : Type 0) (f : 
 refused_map n P Q denied more (parse_fault.Source d) each memory h = each (stop_with (parse_fault.Source d) n) h
 refused_map n P Q denied more parse_fault.Device each memory h = each (stop_with parse_fault.Device n) h
 refused_map n P Q denied more parse_fault.Memory each memory h = (memory h.0, each (stop_with parse_fault.Memory n) h.1)
-
--- a refusal of a callee after a segment is one of the caller's
-pub exit : (n : ℕ) (depth inner : ℕ) (front mid below : List Item) (taken between under : List PartialTree)
-    (at now : UnreadPosition)
-    (denied more : Type 0) (f : ParseFault) →
-    Derives depth front (mid ++ below) taken (between ++ under) at now →
-    ((stack : List Item) → nested_count stack ≡ depth → nested_count (below ++ stack) ≡ inner) →
-    (denied → more) → Refused (FailsAt inner mid between now) denied n f →
-    Refused (FailsAt depth front taken at) more n f
-exit n depth inner front mid below taken between under at now denied more f a opens memory =
-    refused_map n _ _ denied more f
-    (λ d. fails_behind depth inner front mid below taken between under at now d a opens)
-    memory
-
--- of one that matches an item
-pub exit_item : (n : ℕ) (depth inner : ℕ) (front : List Item) (item : Item) (below : List Item)
-    (taken under : List PartialTree) (at now : UnreadPosition) (more : Type 0) (f : ParseFault) →
-    Derives depth front (item ∷ below) taken under at now →
-    ((stack : List Item) → nested_count stack ≡ depth → nested_count (below ++ stack) ≡ inner) →
-    Refused (FailsItem item now) ⊥ n f → Refused (FailsAt depth front taken at) more n f
-exit_item n depth inner front item below taken under at now more f a opens =
-    refused_map n (FailsItem item now) (FailsAt depth front taken at) ⊥ more f
-    (λ d h. fails_behind depth inner front (item ∷ []) below taken [] under at now d a opens (h inner))
-    (λ never. absurd never)
 
 -- At the first token.
 

@@ -1,122 +1,187 @@
--- What a file is whose parse came to its end.
+-- What a file is whose parse came to its end, and what a refusal says of it.
 use Rattle.std.proofs.Common.{◌≡◌, ℕ, List, [], ◌∷◌, ◌++◌, refl, sym, ap, ◌∙◌, subst, true, false, drop, ◌+◌, ◌≤◌, append_assoc, arith}
 use Rattle.std.specs.Option.{option_map}
 use Rattle.std.specs.Prelude.{Option, Some, None, Ok, Err, Result, is_some}
-use Rattle.tokens.specs.Cursors.{undecided_reach_of, reach_of, IsNearTo}
+use Rattle.tokens.specs.Cursors.{undecided_reach_of, reach_of}
+use Rattle.tokens.specs.Device.{FailureCount}
 use Rattle.tokens.specs.Tokens.{is_last, tokens}
-use Rattle.tokens.specs.Window.{TakesBytes}
+use Rattle.tokens.specs.WindowLimits.{most_taken_bytes}
 use Rattle.tokens.proofs.ReadingLemmas.{open-to_last, open-within}
 use Rattle.tokens.specs.declared.located_tokens.LocatedToken.{LocatedToken}
-use Rattle.tokens.specs.declared.located_tokens.Token.{Token}
 use Rattle.tokens.specs.declared.located_tokens.Token.TheVariants as token
 use Rattle.grammar.specs.declared.diagnostics.Code.TheVariants as fault_code
 use Rattle.grammar.specs.declared.diagnostics.Diagnostic.{Diagnostic}
 use Rattle.grammar.specs.declared.diagnostics.ParseFault.{ParseFault}
 use Rattle.grammar.specs.declared.diagnostics.ParseFault.TheVariants as parse_fault
 use Rattle.grammar.specs.declared.actions.Action.{Action}
-use Rattle.grammar.specs.Building.{Representation, LeavesOpen}
+use Rattle.grammar.specs.Beginning.{IsBeginning, definitions_actions}
+use Rattle.grammar.specs.Building.{Representation}
 use Rattle.grammar.specs.Compiled.{compiled, compiled_tokens, diagnostic, last_line, main_name, resolved}
-use Rattle.grammar.specs.Derivation.{derived, initial_state, Definition, is_end, next_token, line_at}
+use Rattle.grammar.specs.Derivation.{State, PartialTree, derived, initial_state, Definition, next_token, line_at}
+use Rattle.grammar.specs.Following.{follow_all}
 use Rattle.grammar.specs.Laws.StateParts.{state}
 use Rattle.grammar.specs.Faults.{unexpected_token_code}
-use Rattle.grammar.specs.Grammar.{AnEnd, Source, is_lexical_error}
+use Rattle.grammar.specs.Grammar.{AnEnd, Part, Source, is_lexical_error}
 use Rattle.grammar.specs.Laws.Naming.{line_of_undefined}
 use Rattle.grammar.specs.Need.{built, need}
-use Rattle.grammar.specs.Laws.Parsing.{DerivesWithoutFault}
 use Rattle.grammar.specs.Pools.{Pools}
 use Rattle.grammar.specs.Profile.{Profile}
 use Rattle.grammar.specs.Scope.{Scope, function_number, no_names}
 use Rattle.grammar.specs.Tree.{File}
+use Rattle.grammar.proofs.Endings.{stays_final}
 use Rattle.grammar.proofs.Firsts.{at_fault}
 use Rattle.grammar.proofs.Reach.{what_was_read_is_needed}
-use Rattle.grammar.proofs.Runs.{then}
-use Rattle.grammar.proofs.Steps.{last, part}
+use Rattle.grammar.proofs.Runs.{derived-add}
 use Rattle.grammar.proofs.Verdicts.{clean_verdict, fault_verdict}
 use Rattle.grammar.specs.Laws.Finished.{IsFinished, PassesAll}
 use Rattle.grammar.proofs.FileLaws.{finished, undefined, without_main}
-use Rattle.parser.specs.ScopedCursors.{MayContinue, UnreadPosition, next_at, scope_at, tokens_at}
-use Rattle.parser.specs.Stopping.{NoFaultBefore, Stop, Stops, stop_with}
-use Rattle.parser.specs.Segment.{Refused, StopsFirst, StopsAtFirst, TakesTokens}
-use Rattle.parser.proofs.Segments.{functions_here, near_told, none_back, none_before, stops_here, told_goes}
-use Rattle.parser.specs.ParsedFiles.{BuildsAhead, FailsBytes, HasBuilt, LeavesUndecided, ParsesToFile, IsNew, ParseIsRefused, StopsTaking, TakesNoMore, TakesUpTo}
-use Rattle.parser.specs.Progress.{ADefinition, AMain, IsComplete, HasReported, LacksDefinition, ReadsOn, StopsPart, StopsReporting, at_source}
+use Rattle.grammar_laws.specs.Emission.{emissions}
+use Rattle.grammar_laws.specs.Emitted.{IsPart}
+use Rattle.grammar_laws.proofs.Emitted.{emits_a_beginning, emits_a_part, emits_its_functions}
+use Rattle.parser.specs.declared.automaton.Automaton.{Automaton}
+use Rattle.parser.specs.declared.frames.Frame.{Frame}
+use Rattle.parser.specs.declared.frames.Front.TheVariants as front
+use Rattle.parser.specs.Advancing.{IsReady}
+use Rattle.parser.specs.Automata.{Stands, Start, stack_of}
+use Rattle.parser.specs.Complete.{ADefinition, AMain, IsComplete, LacksDefinition}
+use Rattle.parser.specs.ParsedFiles.{BuildsAhead, FailsBytes, HasBuilt, LeavesUndecided, ParsesToFile, ParseIsRefused, StopsTaking, TakesNoMore, TakesUpTo}
+use Rattle.parser.specs.Paths.{HasTold, Leads, Origin, Path, Refused}
+use Rattle.parser.specs.ScopedCursors.{MayContinue, ScopedCursor, UnreadPosition, next_at, pools_in, scope_of, taken_at, token_of, tokens_at}
+use Rattle.parser.specs.Segment.{StopsFirst, StopsAtFirst, TakesTokens}
+use Rattle.parser.specs.Stopping.{NoFaultBefore, Stops, stop_with}
 use Rattle.parser.proofs.Built.{IsAmongDefined, built_by_stop}
+use Rattle.parser.proofs.Closing.{nothing_open}
+use Rattle.parser.proofs.PathLaws.{leads_more}
+use Rattle.parser.proofs.Segments.{functions_here, near_told, none_back, none_before, stops_here, told_goes}
 
-end_is : (t : Token) → is_end t ≡ true → t ≡ token.End
-end_is token.End is = refl
-end_is (token.Name name) is = absurd (cc)
-end_is (token.Punctuator m) is = absurd (cc)
-end_is (token.Keyword w) is = absurd (cc)
-end_is (token.Constant value) is = absurd (cc)
-end_is (token.Fault lexical_error) is = absurd (cc)
+-- Where a parse begins: the first tokens are shown, and nothing was reported.
 
--- The end is the only token from there on.
+abbrev pub from : (told : Option (List ℕ)) (account : FailureCount) (borrows : ℕ × ℕ) → Profile → Origin
+from told account borrows profile =
+    record { profile = profile; bytes = told; account = account; borrows = borrows }
 
-ends_alone : (at : UnreadPosition) (rest : List LocatedToken) → is_end (next_at at).token ≡ true → MayContinue at rest →
+pub starts : (o : Origin) (at : ScopedCursor) → tokens_at at.position ≡ option_map tokens o.bytes →
+    scope_of at ≡ no_names → at.borrows ≡ o.borrows → at.account ≡ o.account →
+    at.position.to_come ≡ option_map (drop (taken_at at.position)) o.bytes → IsReady at →
+    Path o (Part Source ∷ []) [] [] at
+starts o at shows nothing borrows account took ready = record {
+  consumed = [];
+  steps = 0;
+  functions = [];
+  told = λ ls is. record { rest = ls; is = refl; shows = shows ∙ is };
+  follows = λ rest g. record {
+    comes = ap (λ (known : Scope). state (Part Source ∷ []) rest [] known []) (sym nothing);
+    clean = refl;
+    emits = refl;
+  };
+  borrows = borrows;
+  account = account;
+  took = took;
+  ready = ready;
+}
+
+-- an automaton there
+pub begins : {F B : Type 0} (stands : B → Representation) (told : Option (List ℕ)) (account : FailureCount)
+    (at : Automaton F B) → at.frames ≡ [] → at.depth ≡ 0 → tokens_at at.tokens.position ≡ option_map tokens told →
+    scope_of at.tokens ≡ no_names → at.tokens.account ≡ account →
+    at.tokens.position.to_come ≡ option_map (drop (taken_at at.tokens.position)) told → IsReady at.tokens →
+    (profile : Profile) → stands at.builder.now profile [] →
+    Stands (record { origin = from told account at.tokens.borrows profile; builder = at.builder.now }) stands
+    front.Source at
+begins stands told account at none flat shows nothing counted took ready profile new = record {
+  values = [];
+  acts = [];
+  path = rw none (starts (from told account at.tokens.borrows profile) at.tokens shows nothing refl counted took ready);
+  new = new;
+  told = record { each = λ other h. h };
+  depth = rw (none, flat) refl;
+  few = rw flat (omega arith);
+  fits = (none, refl);
+}
+
+-- Where it ends: at the end of the file, if it was not refused.
+
+-- the end is the only token from there on
+ends_alone : (at : UnreadPosition) (rest : List LocatedToken) → (next_at at).token ≡ token.End → MayContinue at rest →
     rest ≡ next_at at ∷ []
-ends_alone at rest is g =
-    let last : is_last (next_at at).token ≡ true = rw (end_is (next_at at).token is) refl in
-    g.is ∙ rw last refl
+ends_alone at rest is g = let last : is_last (next_at at).token ≡ true = rw is refl in g.is ∙ rw last refl
 
-goes_alone : (at : UnreadPosition) → is_end (next_at at).token ≡ true → MayContinue at (next_at at ∷ [])
+goes_alone : (at : UnreadPosition) → (next_at at).token ≡ token.End → MayContinue at (next_at at ∷ [])
 goes_alone at is =
-    let last : is_last (next_at at).token ≡ true = rw (end_is (next_at at).token is) refl in
-    record { behind = []; is = rw last refl }
-
-end_steps : (profile : Profile) (next : LocatedToken) (scope : Scope) (functions : List Definition) →
-    is_end next.token ≡ true →
-    DerivesWithoutFault profile (state at_source (next ∷ []) [] scope functions) (state [] [] [] scope functions)
-end_steps profile next scope functions is =
-    let at : next.token ≡ token.End = end_is next.token is in
-    then profile _ _ _
-    (part profile Source (AnEnd ∷ []) [] (next ∷ []) [] scope functions (rw at refl) (rw at refl) refl)
-    (last profile [] (next ∷ []) [] scope functions (rw at refl) is)
+    let last : is_last (next_at at).token ≡ true = rw is refl in record { behind = []; is = rw last refl }
 
 last_line_is : (consumed : List LocatedToken) (next : LocatedToken) → last_line (consumed ++ next ∷ []) ≡ next.line
 last_line_is [] next = refl
 last_line_is (located_token ∷ []) next = refl
 last_line_is (located_token ∷ other ∷ consumed) next = last_line_is (other ∷ consumed) next
 
--- A parse from the start of a file to its end.
-pub record IsWhole (before after : Representation) (told : Option (List ℕ)) (at there : UnreadPosition) : Type 0 where
-  pub reads : ReadsOn before after at_source at_source at there
-  pub nothing : scope_at at ≡ no_names
-  pub tells : tokens_at at ≡ option_map tokens told
-  pub ends : is_end (next_at there).token ≡ true
+-- The derivation of these tokens and the end comes to its end without a fault, and emits these functions' actions.
+pub record IsWhole (profile : Profile) (told : Option (List ℕ)) (acts : List Action) (at : ScopedCursor) : Type 0 where
+  pub consumed : List LocatedToken
+  pub functions : List Definition
+  pub passes : PassesAll profile (consumed ++ next_at at.position ∷ []) (scope_of at) functions
+  pub reports : acts ≡ definitions_actions functions
+  pub begins : IsBeginning acts
+  pub tells : (bytes : List ℕ) → told ≡ Some bytes → tokens bytes ≡ consumed ++ next_at at.position ∷ []
+  pub shows : (bytes : List ℕ) → told ≡ Some bytes → tokens_at at.position ≡ Some (next_at at.position ∷ [])
+  pub none : NoFaultBefore profile (initial_state (consumed ++ next_at at.position ∷ [])) (next_at at.position ∷ [])
 
-abbrev all_of : (before after : Representation) (told : Option (List ℕ)) (at there : UnreadPosition) →
-    IsWhole before after told at there → List LocatedToken
-all_of before after told at there w = w.reads.consumed ++ next_at there ∷ []
+pub whole : {o : Origin} {acts : List Action} {at : ScopedCursor} → Path o (AnEnd ∷ []) [] acts at →
+    token_of at ≡ token.End → IsWhole o.profile o.bytes acts at
+whole {o} {acts} {at} p is =
+    let next : List LocatedToken = next_at at.position ∷ [] in
+    let here : State = state (AnEnd ∷ []) next [] (scope_of at) p.functions in
+    let before : Leads o.profile p.steps (p.consumed ++ next) here acts = p.follows next (goes_alone at.position is) in
+    let after : Leads o.profile (p.steps + 1) (p.consumed ++ next) (state [] [] [] (scope_of at) p.functions) acts =
+    leads_more o.profile p.steps (p.consumed ++ next) here _ acts [] before
+    (record { leads = rw is refl; clean = rw is refl; emits = rw is refl }) in
+    let alone : (bytes : List ℕ) (shows : o.bytes ≡ Some bytes) →
+    (p.told (tokens bytes) (ap (option_map tokens) shows)).rest ≡ next =
+    λ bytes shows.
+    let t : TakesTokens p.consumed (tokens bytes) at.position = p.told (tokens bytes) (ap (option_map tokens) shows) in
+    ends_alone at.position t.rest is (told_goes at.position t.rest t.shows) in
+    record {
+      consumed = p.consumed;
+      functions = p.functions;
+      passes = record { steps = p.steps + 1; leads = after.comes; clean = after.clean };
+      reports = sym after.emits
+          ∙ emits_its_functions (p.steps + 1) (p.consumed ++ next) (ap (λ (s : State). s.stack) after.comes)
+          ∙ ap (λ (s : State). definitions_actions s.functions) after.comes;
+      begins = subst IsBeginning after.emits
+          (emits_a_beginning o.profile (p.steps + 1) (p.consumed ++ next) after.clean);
+      tells = λ bytes shows.
+          (p.told (tokens bytes) (ap (option_map tokens) shows)).is
+          ∙ ap (λ (ls : List LocatedToken). p.consumed ++ ls) (alone bytes shows);
+      shows = λ bytes shows.
+          (p.told (tokens bytes) (ap (option_map tokens) shows)).shows
+          ∙ ap (λ (ls : List LocatedToken). Some ls) (alone bytes shows);
+      none = none_back o.profile _ here next
+          (record { steps = p.steps; leads = before.comes; clean = before.clean }) (none_before o.profile here);
+    }
 
-passes_all : (before after : Representation) (told : Option (List ℕ)) (at there : UnreadPosition)
-    (w : IsWhole before after told at there) (profile : Profile) → before profile [] →
-    PassesAll profile (all_of before after told at there w) (scope_at there) w.reads.more
-passes_all before after told at there w profile h =
-    then profile _ _ _
-    (subst
-    (λ (s : Scope). DerivesWithoutFault profile (state at_source (w.reads.consumed ++ next_at there ∷ []) [] s [])
-    (state at_source (next_at there ∷ []) [] (scope_at there) w.reads.more)) w.nothing
-    (w.reads.passes (next_at there ∷ []) (goes_alone there w.ends) profile [] h))
-    (end_steps profile (next_at there) (scope_at there) w.reads.more w.ends)
+-- what was read by a profile, to the file's end
+pub record Reads (began left : Representation) (told : Option (List ℕ)) (at : ScopedCursor) (profile : Profile) : Type 0
+  where
+    pub acts : List Action
+    pub is : IsWhole profile told acts at
+    pub tells : HasTold began left acts
 
--- if the device's bytes are known, their tokens are those
-tokens_all : (before after : Representation) (told : Option (List ℕ)) (at there : UnreadPosition)
-    (w : IsWhole before after told at there) (bytes : List ℕ) → told ≡ Some bytes →
-    tokens bytes ≡ all_of before after told at there w
-tokens_all before after told at there w bytes is =
-    let t : TakesTokens w.reads.consumed (tokens bytes) there =
-    w.reads.told (tokens bytes) (w.tells ∙ ap (option_map tokens) is) in
-    t.is ∙
-    ap (λ (ls : List LocatedToken). w.reads.consumed ++ ls)
-    (ends_alone there t.rest w.ends (told_goes there t.rest t.shows))
+abbrev all_of : {began left : Representation} {told : Option (List ℕ)} {at : ScopedCursor} {profile : Profile} →
+    Reads began left told at profile → List LocatedToken
+all_of {at = at} r = r.is.consumed ++ next_at at.position ∷ []
 
-resolved_all : (before after : Representation) (told : Option (List ℕ)) (at there : UnreadPosition)
-    (w : IsWhole before after told at there) (profile : Profile) → before profile [] →
-    compiled_tokens profile (all_of before after told at there w) ≡
-    resolved (all_of before after told at there w) (scope_at there) w.reads.more
-resolved_all before after told at there w profile h =
-    clean_verdict profile (all_of before after told at there w) (state [] [] [] (scope_at there) w.reads.more)
-    (passes_all before after told at there w profile h) refl refl
+pub reads_of : {F B : Type 0} {o : Start B} {stands : B → Representation} {at : Automaton F B} →
+    Stands o stands front.End at →
+    Reads (stands o.builder) (stands at.builder.now) o.origin.bytes at.tokens o.origin.profile
+reads_of {o = o} {at = at} h = record {
+  acts = h.acts;
+  is = whole
+      (subst (λ (fs : List Frame). Path o.origin (AnEnd ∷ stack_of fs) [] h.acts at.tokens) h.fits.0
+      (subst (λ (vs : List PartialTree). Path o.origin (AnEnd ∷ stack_of at.frames) vs h.acts at.tokens) h.fits.1
+      h.path))
+      h.fits.2;
+  tells = h.told;
+}
 
 compiled_as : (profile : Profile) (bytes : List ℕ) (located_tokens : List LocatedToken)
     (verdict : Result File Diagnostic) → tokens bytes ≡ located_tokens →
@@ -124,84 +189,85 @@ compiled_as : (profile : Profile) (bytes : List ℕ) (located_tokens : List Loca
 unfolding compiled
 compiled_as profile bytes located_tokens verdict same is = rw same is
 
--- all functions are defined, and main is among them
-pub whole_file : (before after : Representation) (told : Option (List ℕ)) (at there : UnreadPosition) (names : Pools) →
-    IsNew before →
-    IsWhole before after told at there → IsComplete (scope_at there) →
-    names ≡ record { externals = (scope_at there).externals; functions = (scope_at there).functions } →
-    LeavesOpen after [] → ParsesToFile before after told names
-whole_file before after told at there names new w complete same closed =
-    let f : IsFinished new.profile (all_of before after told at there w) (scope_at there) w.reads.more =
-    finished new.profile (all_of before after told at there w) (scope_at there) w.reads.more
-    (passes_all before after told at there w new.profile new.stands) complete.defined complete.main in
-    record {
-      file = f.file;
-      resolved = f.resolved;
-      named = same ∙ f.named;
-      main = rw same f.main;
-      built =
-          λ profile h. subst (λ (acts : List Action). after profile acts) (sym f.reported) (w.reads.added profile [] h);
-      closed = closed;
-      is =
-          λ bytes shows profile h. compiled_as profile bytes (all_of before after told at there w) (Ok f.file)
-          (tokens_all before after told at there w bytes shows)
-          (resolved_all before after told at there w profile h ∙
-          sym (resolved_all before after told at there w new.profile new.stands) ∙ f.compiled);
-    }
+-- a derivation has one end
+one_end : (p q : Profile) (ls ms : List LocatedToken) (scope : Scope) (fs gs : List Definition) → ls ≡ ms →
+    PassesAll p ls scope fs → PassesAll q ms scope gs → fs ≡ gs
+one_end p q ls ms scope fs gs same a b =
+    let back : derived b.steps (initial_state ls) ≡ state [] [] [] scope gs =
+    subst (λ (xs : List LocatedToken). derived b.steps (initial_state xs) ≡ state [] [] [] scope gs) (sym same) b.leads
+    in
+    let one : derived (a.steps + b.steps) (initial_state ls) ≡ state [] [] [] scope fs =
+    derived-add a.steps b.steps (initial_state ls) ∙ ap (λ (s : State). derived b.steps s) a.leads
+    ∙ stays_final b.steps (state [] [] [] scope fs) refl in
+    let other : derived (b.steps + a.steps) (initial_state ls) ≡ state [] [] [] scope gs =
+    derived-add b.steps a.steps (initial_state ls) ∙ ap (λ (s : State). derived a.steps s) back
+    ∙ stays_final a.steps (state [] [] [] scope gs) refl in
+    let order : a.steps + b.steps ≡ b.steps + a.steps = omega arith in
+    ap (λ (s : State). s.functions)
+    (sym one ∙ ap (λ (n : ℕ). derived n (initial_state ls)) order ∙ other)
 
--- What is lacking is the file's fault.
+module _ {began left : Representation} {told : Option (List ℕ)} {at : ScopedCursor} (first : Profile)
+    (new : began first []) (reads : (profile : Profile) → began profile [] → Reads began left told at profile) where
+  -- all functions are defined, and main is among them
+  pub whole_file : {names : Pools} → IsComplete (scope_of at) → names ≡ pools_in (scope_of at) →
+      ParsesToFile began left told names
+  whole_file complete same =
+      let r : Reads began left told at first = reads first new in
+      let f : IsFinished first (all_of r) (scope_of at) r.is.functions =
+      finished first (all_of r) (scope_of at) r.is.functions r.is.passes complete.defined complete.main in
+      record {
+        file = f.file;
+        resolved = f.resolved;
+        named = same ∙ f.named;
+        main = rw same f.main;
+        built = λ profile h.
+            subst (λ (acts : List Action). left profile acts) (r.is.reports ∙ sym f.reported) (r.tells.each profile h);
+        closed = record {
+          profile = first;
+          acts = r.acts;
+          stood = r.tells.each first new;
+          opens = ap (λ (acts : List Action). follow_all acts []) r.is.reports
+              ∙ nothing_open r.is.functions (subst IsBeginning r.is.reports r.is.begins);
+        };
+        is = λ bytes shows profile h.
+            let q : Reads began left told at profile = reads profile h in
+            let one : all_of q ≡ all_of r = sym (q.is.tells bytes shows) ∙ r.is.tells bytes shows in
+            let defined : q.is.functions ≡ r.is.functions =
+            one_end profile first (all_of q) (all_of r) (scope_of at) q.is.functions r.is.functions one q.is.passes
+            r.is.passes in
+            compiled_as profile bytes (all_of q) (Ok f.file) (q.is.tells bytes shows)
+            (clean_verdict profile (all_of q) (state [] [] [] (scope_of at) q.is.functions) q.is.passes refl refl
+            ∙ ap (λ (ls : List LocatedToken). resolved ls (scope_of at) q.is.functions) one
+            ∙ ap (λ (fs : List Definition). resolved (all_of r) (scope_of at) fs) defined
+            ∙ sym (clean_verdict first (all_of r) (state [] [] [] (scope_of at) r.is.functions) r.is.passes refl refl)
+            ∙ f.compiled);
+      }
 
-lacks_definition : (before after : Representation) (told : Option (List ℕ)) (at there : UnreadPosition) (line : ℕ) →
-    IsWhole before after told at there → line_of_undefined 0 (scope_at there).lines (scope_at there).begun ≡ Some line →
-    FailsBytes before told (diagnostic line fault_code.FunctionNotDefined)
-lacks_definition before after told at there line w is bytes shows profile h =
-    compiled_as profile bytes (all_of before after told at there w)
-    (Err (diagnostic line fault_code.FunctionNotDefined))
-    (tokens_all before after told at there w bytes shows)
-    (undefined profile (all_of before after told at there w) (scope_at there) w.reads.more line
-    (passes_all before after told at there w profile h) is)
+  -- What is lacking is the file's fault.
 
-lacks_main : (before after : Representation) (told : Option (List ℕ)) (at there : UnreadPosition) →
-    IsWhole before after told at there →
-    line_of_undefined 0 (scope_at there).lines (scope_at there).begun ≡ None →
-    is_some (function_number main_name (scope_at there)) ≡ false →
-    FailsBytes before told (diagnostic (next_at there).line fault_code.NoMainFunction)
-lacks_main before after told at there w defined none bytes shows profile h =
-    compiled_as profile bytes (all_of before after told at there w)
-    (Err (diagnostic (next_at there).line fault_code.NoMainFunction))
-    (tokens_all before after told at there w bytes shows)
-    (without_main profile (all_of before after told at there w) (scope_at there) w.reads.more
-    (passes_all before after told at there w profile h) defined none
-    ∙ ap (λ (n : ℕ). Err (diagnostic n fault_code.NoMainFunction)) (last_line_is w.reads.consumed (next_at there)))
+  lacks_definition : (line : ℕ) → line_of_undefined 0 (scope_of at).lines (scope_of at).begun ≡ Some line →
+      FailsBytes began told (diagnostic line fault_code.FunctionNotDefined)
+  lacks_definition line is bytes shows profile h =
+      let q : Reads began left told at profile = reads profile h in
+      compiled_as profile bytes (all_of q) (Err (diagnostic line fault_code.FunctionNotDefined))
+      (q.is.tells bytes shows)
+      (undefined profile (all_of q) (scope_of at) q.is.functions line q.is.passes is)
 
-pub lacking : (before after : Representation) (told to_come : Option (List ℕ)) (at there : UnreadPosition)
-    (f : ParseFault)
-    (denied : Type 0) → IsWhole before after told at there → LacksDefinition there.lookahead f →
-    ParseIsRefused before after denied told to_come f
-lacking before after told to_come at there f denied w (ADefinition line is same) =
-    rw same (lacks_definition before after told at there line w is)
-lacking before after told to_come at there f denied w (AMain defined none same) =
-    rw same (lacks_main before after told at there w defined none)
+  lacks_main : line_of_undefined 0 (scope_of at).lines (scope_of at).begun ≡ None →
+      is_some (function_number main_name (scope_of at)) ≡ false →
+      FailsBytes began told (diagnostic (next_at at.position).line fault_code.NoMainFunction)
+  lacks_main defined none bytes shows profile h =
+      let q : Reads began left told at profile = reads profile h in
+      compiled_as profile bytes (all_of q) (Err (diagnostic (next_at at.position).line fault_code.NoMainFunction))
+      (q.is.tells bytes shows)
+      (without_main profile (all_of q) (scope_of at) q.is.functions q.is.passes defined none
+      ∙ ap (λ (n : ℕ). Err (diagnostic n fault_code.NoMainFunction))
+      (last_line_is q.is.consumed (next_at at.position)))
 
--- If the parse stops, the file's first fault is there.
-
-stops_bytes : (before after : Representation) (told : Option (List ℕ)) (at : UnreadPosition) (d : Diagnostic) (used : ℕ)
-    →
-    scope_at at ≡ no_names → tokens_at at ≡ option_map tokens told →
-    StopsPart before after at_source at (stop_with (parse_fault.Source d) used) → FailsBytes before told d
-stops_bytes before after told at d used nothing tells stops bytes shows profile h =
-    compiled_as profile bytes (tokens bytes) (Err d) refl
-    (fault_verdict profile (tokens bytes) d
-    (rw (sym nothing) (stops (tokens bytes) (tells ∙ ap (option_map tokens) shows) profile [] h).stops.fails))
-
-first_fails : (before : Representation) (told told' : Option (List ℕ)) (d : Diagnostic) →
-    StopsAtFirst told told' (parse_fault.Source d) → FailsBytes before told d
-first_fails before told told' d stops bytes shows profile h =
-    let s : (is_lexical_error (next_token (tokens bytes)) ≡ true) ×
-    (d ≡ diagnostic (line_at (tokens bytes)) (unexpected_token_code (next_token (tokens bytes)))) =
-    stops.refused.lexical_error (tokens bytes) (ap (option_map tokens) shows) in
-    compiled_as profile bytes (tokens bytes) (Err d) refl
-    (fault_verdict profile (tokens bytes) d (rw s.1 (at_fault profile at_source (tokens bytes) [] no_names [] s.0)))
+  pub lacking : (denied : Type 0) (to_come : Option (List ℕ)) (f : ParseFault) →
+      LacksDefinition at.position.lookahead f → ParseIsRefused began left denied told to_come f
+  lacking denied to_come f (ADefinition line is same) = rw same (lacks_definition line is)
+  lacking denied to_come f (AMain defined none same) = rw same (lacks_main defined none)
 
 -- How much was taken.
 
@@ -219,13 +285,11 @@ pub record HasTaken (used : ℕ) (told to_come : Option (List ℕ)) : Type 0 whe
   pub took : (bytes : List ℕ) → told ≡ Some bytes → to_come ≡ Some (drop used bytes)
   pub limited : used ≤ 1048577
 
-pub has_taken : (first used : ℕ) (told between there to_come : Option (List ℕ)) →
-    between ≡ option_map (drop first) told → TakesBytes first used between there → to_come ≡ there → used ≤ 1048577 →
-    HasTaken used told to_come
-has_taken first used told between there to_come opened took same limited = record {
-  took = λ bytes is. same ∙ (took.rest told opened ∙ rw is refl);
-  limited = limited;
-}
+pub has_taken : (at : ScopedCursor) (told to_come : Option (List ℕ)) →
+    at.position.to_come ≡ option_map (drop (taken_at at.position)) told → to_come ≡ at.position.to_come →
+    taken_at at.position ≤ most_taken_bytes → HasTaken (taken_at at.position) told to_come
+has_taken at told to_come took same limited =
+    record { took = λ bytes is. same ∙ took ∙ rw is refl; limited = limited }
 
 leaves_open : (profile : Profile) (bytes : List ℕ) (to_come : Option (List ℕ)) (used : ℕ)
     (passed rest : List LocatedToken) → tokens bytes ≡ passed ++ rest →
@@ -242,41 +306,101 @@ leaves_open profile bytes to_come used passed rest is none took limited taken =
       limited = limited;
     }
 
-stops_reading : (before after : Representation) (told : Option (List ℕ)) (at : UnreadPosition) (stop : Stop) →
-    scope_at at ≡ no_names →
-    tokens_at at ≡ option_map tokens told → StopsPart before after at_source at stop →
-    (bytes : List ℕ) → told ≡ Some bytes → (profile : Profile) → before profile [] →
-    Stops profile (initial_state (tokens bytes)) stop
-stops_reading before after told at stop nothing tells stops bytes shows profile h =
-    subst (λ (in_scope : Scope). Stops profile (state at_source (tokens bytes) [] in_scope []) stop) nothing
-    (stops (tokens bytes) (tells ∙ ap (option_map tokens) shows) profile [] h).stops
+-- a file that was read to its end
+pub whole_takes : {began left : Representation} {told to_come : Option (List ℕ)} {at : ScopedCursor} →
+    ((profile : Profile) → began profile [] → Reads began left told at profile) → IsReady at →
+    HasTaken (taken_at at.position) told to_come → TakesNoMore began told to_come 4096
+whole_takes {to_come = to_come} {at = at} reads ready taken bytes shows profile h =
+    let q = reads profile h in
+    let is : tokens bytes ≡ q.is.consumed ++ next_at at.position ∷ [] = q.is.tells bytes shows in
+    takes_up_to profile bytes to_come (taken_at at.position) 4096 q.is.consumed (next_at at.position ∷ []) is
+    (subst (λ (ls : List LocatedToken). NoFaultBefore profile (initial_state ls) (next_at at.position ∷ [])) (sym is)
+    q.is.none) (taken.took bytes shows) taken.limited
+    (near_told at.position (next_at at.position ∷ []) (taken_at at.position) (q.is.shows bytes shows) ready.near)
 
-pub stops_taking : (used : ℕ) (before after : Representation) (told to_come : Option (List ℕ)) (at : UnreadPosition)
-    (f : ParseFault)
-    (denied : Type 0) → scope_at at ≡ no_names → tokens_at at ≡ option_map tokens told →
-    HasTaken used told to_come → Refused (StopsPart before after at_source at) denied used f →
-    StopsTaking before told to_come f
-stops_taking used before after told to_come at (parse_fault.Source d) denied nothing tells taken h =
-    λ bytes shows profile stands.
-    let s =
-    stops_reading before after told at (stop_with (parse_fault.Source d) used) nothing tells h bytes shows profile
-    stands
-    in
-    takes_up_to profile bytes to_come used 4096 s.passed s.rest s.is s.none_before (taken.took bytes shows)
-    taken.limited s.taken
-stops_taking used before after told to_come at parse_fault.Device denied nothing tells taken h =
-    λ bytes shows profile stands.
-    let s =
-    stops_reading before after told at (stop_with parse_fault.Device used) nothing tells h bytes shows profile stands in
-    leaves_open profile bytes to_come used s.passed s.rest s.is s.none_before (taken.took bytes shows) taken.limited
-    s.taken
-stops_taking used before after told to_come at parse_fault.Memory denied nothing tells taken h =
-    λ bytes shows profile stands.
-    let s =
-    stops_reading before after told at (stop_with parse_fault.Memory used) nothing tells h.1 bytes shows profile stands
-    in
-    takes_up_to profile bytes to_come used 4096 s.passed s.rest s.is s.none_before (taken.took bytes shows)
-    taken.limited s.taken
+pub lacks_taking : {began left : Representation} {told to_come : Option (List ℕ)} {at : ScopedCursor} {f : ParseFault} →
+    ((profile : Profile) → began profile [] → Reads began left told at profile) → IsReady at →
+    HasTaken (taken_at at.position) told to_come → LacksDefinition at.position.lookahead f →
+    StopsTaking began told to_come f
+lacks_taking reads ready taken (ADefinition line is same) = rw same (whole_takes reads ready taken)
+lacks_taking reads ready taken (AMain defined none same) = rw same (whole_takes reads ready taken)
+
+-- What a refusal says.
+
+builds_by : (after : Representation) (profile : Profile) (bytes : List ℕ) (to_come : Option (List ℕ)) (used : ℕ)
+    (s : Stops profile (initial_state (tokens bytes)) (stop_with parse_fault.Device used)) →
+    to_come ≡ Some (drop used bytes) →
+    (more : List Action) →
+    after profile (definitions_actions (derived s.steps (initial_state (tokens bytes))).functions ++ more) →
+    HasBuilt after profile bytes to_come
+builds_by after profile bytes to_come used s took more stands =
+    let defined : IsAmongDefined bytes used s.steps =
+    built_by_stop bytes used s.steps
+    (subst (λ (ls : List LocatedToken). used ≤ reach_of ls) (sym s.comes) (open-within s.rest used s.taken)) in
+    record {
+      count = used;
+      took = took;
+      more = defined.more ++ more;
+      stands = subst (λ (xs : List Action). after profile xs)
+          (ap (λ (xs : List Action). xs ++ more) defined.is ∙
+          append_assoc (built bytes used) defined.more more) stands;
+    }
+
+-- a refusal by each profile
+abbrev pub AreRefused : (began left : Representation) (denied : Type 0) (told : Option (List ℕ))
+    (account : FailureCount)
+    (borrows : ℕ × ℕ) (at : ScopedCursor) → ParseFault → Type 0
+AreRefused began left denied told account borrows at f =
+    (profile : Profile) → began profile [] →
+    Refused (from told account borrows profile) denied (HasTold began left) f at
+
+pub stopped : {began left : Representation} {denied : Type 0} {told to_come : Option (List ℕ)} {account : FailureCount}
+    {borrows : ℕ × ℕ} {at : ScopedCursor} (f : ParseFault) (first : Profile) → began first [] →
+    HasTaken (taken_at at.position) told to_come → AreRefused began left denied told account borrows at f →
+    ParseIsRefused began left denied told to_come f
+stopped (parse_fault.Source d) first new taken refused = λ bytes shows profile h.
+    let s = (refused profile h).ended.stops (tokens bytes) (ap (option_map tokens) shows) in
+    compiled_as profile bytes (tokens bytes) (Err d) refl (fault_verdict profile (tokens bytes) d s.stops.fails)
+stopped {left = left} {to_come = to_come} {at = at} parse_fault.Device first new taken refused =
+    λ bytes shows profile h.
+    let r = refused profile h in
+    let s = r.ended.stops (tokens bytes) (ap (option_map tokens) shows) in
+    let p : IsPart (emissions s.steps (initial_state (tokens bytes)))
+    (derived s.steps (initial_state (tokens bytes))).functions = emits_a_part s.steps (tokens bytes) in
+    builds_by left profile bytes to_come (taken_at at.position) s.stops (taken.took bytes shows) p.part
+    (subst (λ (xs : List Action). left profile xs)
+    (sym s.emits ∙ p.is ∙ ap (λ (fs : List Definition). definitions_actions fs ++ p.part) (sym s.functions))
+    (r.leaves.each profile h))
+stopped parse_fault.Memory first new taken refused = (refused first new).leaves
+
+pub stops_taking : {began left : Representation} {denied : Type 0} {told to_come : Option (List ℕ)}
+    {account : FailureCount} {borrows : ℕ × ℕ} {at : ScopedCursor} (f : ParseFault) →
+    HasTaken (taken_at at.position) told to_come → AreRefused began left denied told account borrows at f →
+    StopsTaking began told to_come f
+stops_taking {to_come = to_come} {at = at} (parse_fault.Source d) taken refused = λ bytes shows profile h.
+    let s = ((refused profile h).ended.stops (tokens bytes) (ap (option_map tokens) shows)).stops in
+    takes_up_to profile bytes to_come (taken_at at.position) 4096 s.passed s.rest s.is s.none_before
+    (taken.took bytes shows) taken.limited s.taken
+stops_taking {to_come = to_come} {at = at} parse_fault.Device taken refused = λ bytes shows profile h.
+    let s = ((refused profile h).ended.stops (tokens bytes) (ap (option_map tokens) shows)).stops in
+    leaves_open profile bytes to_come (taken_at at.position) s.passed s.rest s.is s.none_before
+    (taken.took bytes shows) taken.limited s.taken
+stops_taking {to_come = to_come} {at = at} parse_fault.Memory taken refused = λ bytes shows profile h.
+    let s = ((refused profile h).ended.stops (tokens bytes) (ap (option_map tokens) shows)).stops in
+    takes_up_to profile bytes to_come (taken_at at.position) 4096 s.passed s.rest s.is s.none_before
+    (taken.took bytes shows) taken.limited s.taken
+
+-- At the first token, when nothing was reported.
+
+first_fails : (before : Representation) (told told' : Option (List ℕ)) (d : Diagnostic) →
+    StopsAtFirst told told' (parse_fault.Source d) → FailsBytes before told d
+first_fails before told told' d stops bytes shows profile h =
+    let s : (is_lexical_error (next_token (tokens bytes)) ≡ true) ×
+    (d ≡ diagnostic (line_at (tokens bytes)) (unexpected_token_code (next_token (tokens bytes)))) =
+    stops.refused.lexical_error (tokens bytes) (ap (option_map tokens) shows) in
+    compiled_as profile bytes (tokens bytes) (Err d) refl
+    (fault_verdict profile (tokens bytes) d
+    (rw s.1 (at_fault profile (Part Source ∷ []) (tokens bytes) [] no_names [] s.0)))
 
 pub first_taking : (before : Representation) (told to_come : Option (List ℕ)) (f : ParseFault) →
     StopsAtFirst told to_come f →
@@ -291,104 +415,37 @@ first_taking before told to_come parse_fault.Device stops = λ bytes shows profi
     (stops.took bytes shows) stops.limited (stops.refused.taken (tokens bytes) (ap (option_map tokens) shows))
 first_taking before told to_come parse_fault.Memory stops = absurd stops.refused.0
 
--- a file that was read to its end
-pub whole_takes : (used : ℕ) (before after : Representation) (told to_come : Option (List ℕ))
-    (at there : UnreadPosition) →
-    IsWhole before after told at there → IsNearTo there.lookahead.cursor used → HasTaken used told to_come →
-    TakesNoMore before told to_come 4096
-whole_takes used before after told to_come at there w near taken bytes shows profile h =
-    let t : TakesTokens w.reads.consumed (tokens bytes) there =
-    w.reads.told (tokens bytes) (w.tells ∙ ap (option_map tokens) shows) in
-    let alone : t.rest ≡ next_at there ∷ [] = ends_alone there t.rest w.ends (told_goes there t.rest t.shows) in
-    let reached : DerivesWithoutFault profile (state at_source (w.reads.consumed ++ t.rest) [] no_names [])
-    (state at_source t.rest [] (scope_at there) w.reads.more) =
-    subst
-    (λ (in_scope : Scope). DerivesWithoutFault profile (state at_source (w.reads.consumed ++ t.rest) [] in_scope [])
-    (state at_source t.rest [] (scope_at there) w.reads.more)) w.nothing
-    (w.reads.passes t.rest (told_goes there t.rest t.shows) profile [] h) in
-    let none : NoFaultBefore profile (initial_state (tokens bytes)) t.rest =
-    subst (λ (ls : List LocatedToken). NoFaultBefore profile (initial_state ls) t.rest) (sym t.is)
-    (none_back profile _ (state at_source t.rest [] (scope_at there) w.reads.more) t.rest reached
-    (none_before profile (state at_source t.rest [] (scope_at there) w.reads.more))) in
-    takes_up_to profile bytes to_come used 4096 w.reads.consumed t.rest t.is none (taken.took bytes shows) taken.limited
-    (near_told there t.rest used t.shows near)
-
-pub lacks_taking : (used : ℕ) (before after : Representation) (told to_come : Option (List ℕ))
-    (at there : UnreadPosition)
-    (f : ParseFault) → IsWhole before after told at there → LacksDefinition there.lookahead f →
-    IsNearTo there.lookahead.cursor used → HasTaken used told to_come →
-    StopsTaking before told to_come f
-lacks_taking used before after told to_come at there f w (ADefinition line is same) near taken =
-    rw same (whole_takes used before after told to_come at there w near taken)
-lacks_taking used before after told to_come at there f w (AMain defined none same) near taken =
-    rw same (whole_takes used before after told to_come at there w near taken)
-
--- What was built if the device failed.
-
-builds_by : (after : Representation) (profile : Profile) (bytes : List ℕ) (to_come : Option (List ℕ)) (used : ℕ)
-    (s : Stops profile (initial_state (tokens bytes)) (stop_with parse_fault.Device used)) →
-    to_come ≡ Some (drop used bytes) →
-    HasReported after profile (derived s.steps (initial_state (tokens bytes))).functions →
-    HasBuilt after profile bytes to_come
-builds_by after profile bytes to_come used s took reported =
-    let defined : IsAmongDefined bytes used s.steps =
-    built_by_stop bytes used s.steps
-    (subst (λ (ls : List LocatedToken). used ≤ reach_of ls) (sym s.comes) (open-within s.rest used s.taken)) in
-    record {
-      count = used;
-      took = took;
-      more = defined.more ++ reported.more;
-      stands = subst (λ (xs : List Action). after profile xs)
-          (ap (λ (xs : List Action). xs ++ reported.more) defined.is ∙
-          append_assoc (built bytes used) defined.more reported.more) reported.stands;
-    }
-
-stops_building : (used : ℕ) (before after : Representation) (told to_come : Option (List ℕ)) (at : UnreadPosition) →
-    scope_at at ≡ no_names → tokens_at at ≡ option_map tokens told →
-    HasTaken used told to_come → StopsPart before after at_source at (stop_with parse_fault.Device used) →
-    BuildsAhead before after told to_come
-stops_building used before after told to_come at nothing tells taken stops bytes shows profile h =
-    let s : StopsReporting after profile (initial_state (tokens bytes)) (stop_with parse_fault.Device used) =
-    subst
-    (λ (in_scope : Scope). StopsReporting after profile (state at_source (tokens bytes) [] in_scope [])
-    (stop_with parse_fault.Device used)) nothing
-    (stops (tokens bytes) (tells ∙ ap (option_map tokens) shows) profile [] h) in
-    builds_by after profile bytes to_come used s.stops (taken.took bytes shows) (s.reported refl)
-
--- what is said if the parse stops
-pub stopped : (used : ℕ) (before after : Representation) (told to_come : Option (List ℕ)) (at : UnreadPosition)
-    (f : ParseFault)
-    (denied : Type 0) → scope_at at ≡ no_names → tokens_at at ≡ option_map tokens told →
-    HasTaken used told to_come → Refused (StopsPart before after at_source at) denied used f →
-    ParseIsRefused before after denied told to_come f
-stopped used before after told to_come at (parse_fault.Source d) denied nothing tells taken h =
-    stops_bytes before after told at d used nothing tells h
-stopped used before after told to_come at parse_fault.Device denied nothing tells taken h =
-    stops_building used before after told to_come at nothing tells taken h
-stopped used before after told to_come at parse_fault.Memory denied nothing tells taken h = h.0
-
 opening_builds : (before : Representation) (told to_come : Option (List ℕ)) (used : ℕ) → HasTaken used told to_come →
     StopsFirst (option_map tokens told) (stop_with parse_fault.Device used) → BuildsAhead before before told to_come
 opening_builds before told to_come used taken stops bytes shows profile h =
     let some : used ≤ undecided_reach_of (tokens bytes) = stops.taken (tokens bytes) (ap (option_map tokens) shows) in
     let s : Stops profile (initial_state (tokens bytes)) (stop_with parse_fault.Device used) =
     stops_here profile (initial_state (tokens bytes)) (stop_with parse_fault.Device used) tt some in
-    builds_by before profile bytes to_come used s (taken.took bytes shows)
-    (first_reported before profile bytes used some h)
-  where
-    first_reported : (before : Representation) (profile : Profile) (bytes : List ℕ) (used : ℕ)
-        (some : used ≤ undecided_reach_of (tokens bytes)) → before profile [] →
-        HasReported before profile
-        (derived (stops_here profile (initial_state (tokens bytes)) (stop_with parse_fault.Device used) tt some).steps
-        (initial_state (tokens bytes))).functions
-    first_reported before profile bytes used some h =
-        rw (functions_here profile (initial_state (tokens bytes)) (stop_with parse_fault.Device used) tt some)
-        (record { more = []; stands = h })
+    builds_by before profile bytes to_come used s (taken.took bytes shows) []
+    (subst (λ (fs : List Definition). before profile (definitions_actions fs ++ []))
+    (sym (functions_here profile (initial_state (tokens bytes)) (stop_with parse_fault.Device used) tt some)) h)
 
--- the same at the first token, when nothing was reported
 pub first_refused : (before : Representation) (told to_come : Option (List ℕ)) (f : ParseFault) (denied : Type 0) →
     StopsAtFirst told to_come f → ParseIsRefused before before denied told to_come f
 first_refused before told to_come (parse_fault.Source d) denied stops = first_fails before told to_come d stops
 first_refused before told to_come parse_fault.Device denied stops =
     opening_builds before told to_come stops.taken (record { took = stops.took; limited = stops.limited }) stops.refused
 first_refused before told to_come parse_fault.Memory denied stops = absurd stops.refused.0
+
+-- What is said of a builder as a parser left it is true of it when the parser is gone.
+pub file_left : {B : Type 0} →
+    (stands : B → Representation) (before : Representation) (last left : B) (told : Option (List ℕ))
+    (names : Pools) → last ≡ left → ParsesToFile before (stands left) told names →
+    ParsesToFile before (stands last) told names
+file_left stands before last left told names same h = rw same h
+
+pub refused_left : (before after left : Representation) (denied : Type 0) (told to_come : Option (List ℕ))
+    (fault : ParseFault)
+    →
+    ((profile : Profile) (acts : List Action) → left profile acts → after profile acts) →
+    ParseIsRefused before left denied told to_come fault → ParseIsRefused before after denied told to_come fault
+refused_left before after left denied told to_come (parse_fault.Source d) same h = h
+refused_left before after left denied told to_come parse_fault.Device same h = λ bytes e profile start.
+    let built = h bytes e profile start in
+    record { count = built.count; took = built.took; more = built.more; stands = same profile _ built.stands }
+refused_left before after left denied told to_come parse_fault.Memory same h = h

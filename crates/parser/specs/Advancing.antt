@@ -28,10 +28,6 @@ pub record IsReady (at : ScopedCursor) : Type 0 where
   pub near : IsNear at.position.lookahead.cursor
   pub count : at.account.failures < most_failures
 
--- whatever the next tokens are
-abbrev pub Anywhere : ScopedCursor → Type 0
-Anywhere at = Unit {0}
-
 -- the next token is this punctuator
 abbrev pub IsNextPunctuator : Punctuator → ScopedCursor → Type 0
 IsNextPunctuator punctuator at = is_punctuator punctuator (token_of at) ≡ true

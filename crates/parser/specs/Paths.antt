@@ -1,5 +1,5 @@
 -- The derivation's path from the file's start to where the parser is, and where it ends.
-use Rattle.std.specs.Prelude.{ℕ, ◌≡◌, List, [], ◌∷◌, ◌++◌, drop, Option, Some, Result, Ok, Err}
+use Rattle.std.specs.Prelude.{ℕ, ◌≡◌, List, [], ◌++◌, drop, Option, Some}
 use Rattle.std.specs.Option.{option_map}
 use Rattle.tokens.specs.Device.{FailureCount}
 use Rattle.tokens.specs.Tokens.{tokens}
@@ -69,19 +69,22 @@ pub record Ended (o : Origin) (acts : List Action) (fault : ParseFault) (at : Sc
   pub account : at.account ≡ account_after o.account fault
   pub took : at.position.to_come ≡ option_map (drop (taken_at at.position)) o.bytes
 
--- what a builder represents in the end, if it is the device that failed, and that memory was refused it, if it was that
-abbrev pub Leaves : Origin → List Action → (denied : Type 0) → Representation → ParseFault → Type 0
-Leaves o acts denied now (parse_fault.Source d) = Unit {0}
-Leaves o acts denied now parse_fault.Device = now o.profile acts
-Leaves o acts denied now parse_fault.Memory = denied
+-- each profile by which a builder began, with no action, now goes with these actions
+pub record HasTold (began now : Representation) (acts : List Action) : Type 0 where
+  pub each : (profile : Profile) → began profile [] → now profile acts
+
+-- what was told in the end, if it is the device that failed, and that memory was refused, if it was that
+abbrev pub Leaves : List Action → (denied : Type 0) → (told : List Action → Type 0) → ParseFault → Type 0
+Leaves acts denied told (parse_fault.Source d) = Unit {0}
+Leaves acts denied told parse_fault.Device = told acts
+Leaves acts denied told parse_fault.Memory = denied
 
 -- The parse is over: an error is final where it arises.
-pub record Refused (o : Origin) (denied : Type 0) (now : Representation) (fault : ParseFault) (at : ScopedCursor) : Type
-    0
-  where
-    pub acts : List Action
-    pub ended : Ended o acts fault at
-    pub leaves : Leaves o acts denied now fault
+pub record Refused (o : Origin) (denied : Type 0) (told : List Action → Type 0) (fault : ParseFault) (at : ScopedCursor)
+    : Type 0 where
+  pub acts : List Action
+  pub ended : Ended o acts fault at
+  pub leaves : Leaves acts denied told fault
 
 -- What a call of the cursor does, whatever is below these items: they are matched, which makes these trees and emits
 -- these actions.

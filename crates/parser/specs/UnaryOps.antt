@@ -6,7 +6,8 @@ use Rattle.arith.specs.declared.operators.Op.TheVariants as op
 use Rattle.grammar.specs.declared.operators.StoreOp.{StoreOp}
 use Rattle.grammar.specs.declared.operators.StoreOp.TheVariants as store_op
 use Rattle.grammar.specs.declared.actions.Action.{Action}
-use Rattle.grammar.specs.declared.actions.Action.TheVariants.{ApplyBinop, PushConstant}
+use Rattle.grammar.specs.declared.actions.Action.TheVariants.{ApplyBinop, Chop, FetchVariable, PushConstant, StoreVariable}
+use Rattle.grammar.specs.declared.resolved_names.Var.{Var}
 use Rattle.grammar.specs.Grammar.{SemanticAction, Complement, Negate, Not}
 use Rattle.grammar.specs.Tree.{Expr, Binary, Constant}
 use Rattle.parser.specs.declared.unary_ops.UnaryOp.{UnaryOp}
@@ -47,3 +48,11 @@ increment_punctuator increment_op.Decrement = punctuator.MinusMinus
 abbrev pub increment_store_op : IncrementOp → StoreOp
 increment_store_op increment_op.Increment = store_op.Add
 increment_store_op increment_op.Decrement = store_op.Subtract
+
+-- before a variable: it is changed, and its value is the new one
+abbrev pub prefix_actions : IncrementOp → Var → List Action
+prefix_actions s v = PushConstant (pos 1) ∷ StoreVariable v (increment_store_op s) ∷ []
+
+-- after a variable: the value is the one before
+abbrev pub postfix_actions : IncrementOp → Var → List Action
+postfix_actions s v = FetchVariable v ∷ PushConstant (pos 1) ∷ StoreVariable v (increment_store_op s) ∷ Chop ∷ []

@@ -1,229 +1,94 @@
-//! Assignments, the ten levels of binary operators, unary operators, brackets and calls.
+//! Expressions: the steps of assignments and of binary operators.
 
 ghost use Rattle.std.specs.Prelude.{IfNone, IfSome, OnOk};
-ghost use Rattle.tokens.specs.declared.located_tokens.Punctuator.TheVariants as punctuator;
 ghost use Rattle.grammar.specs.Actions.{middle};
 ghost use Rattle.grammar.specs.Building.{AppendsAll, MayFollowAll, Refuses};
-ghost use Rattle.grammar.specs.Grammar.{Expression, Primary, Unary};
-ghost use Rattle.parser.specs.Advancing.{Anywhere, IsNextPunctuator};
-ghost use Rattle.parser.specs.Parsers.{IsAt, MayProceed, Proceeds};
-ghost use Rattle.parser.specs.Room.{HasLeftSide, HasRoom};
-ghost use Rattle.parser.specs.Expressions.{Parses, ParsesArgs, ParsesLevels, ParsesOperand};
-ghost use Rattle.parser.specs.UnaryOps.{unary_punctuator};
-ghost use Rattle.parser.specs.Starts.{StartsAssignment, StartsCall, StartsNoAssignment, StartsOperand};
+ghost use Rattle.parser.specs.Automata.{Falls, IsAt, KeepsBuilder, Moves, with_frame};
+ghost use Rattle.parser.specs.Starts.{StartsAssignment, StartsNoAssignment};
 
-use crate::parser::Parser;
+use crate::automaton::Automaton;
+use crate::frames::{Frame, Front};
 use crate::scoped_cursor::ScopedCursor;
-use crate::token_predicates::is_punctuator;
-use crate::unary_ops::{UnaryOp, increment_op_of, unary_op_of};
 use grammar::{
-    Action, BinaryOperator, Build, BuildFault, Op, ParseFault, StoreOp, operator_from,
-    store_operator,
+    Action, Build, BuildFault, Op, ParseFault, StoreOp, Var, operator_from, store_operator,
 };
-use tokens::{Feed, Punctuator, Token};
+use tokens::{Feed, Token};
 
-impl<F: Feed, B: Build> Parser<'_, '_, '_, F, B> {
-    /// `expr → name asg expr` and `expr → level1`
-    #[inline(never)]
-    #[cycle(expressions)]
-    pub fn expression(&mut self) -> Result<(), ParseFault>
-        requires at { IsAt B.stands HasRoom 1 Anywhere self.old }
-        ensures parses { Parses result B.denied B.stands 1 Expression self.old self.new }
-        ensures kept { Proceeds result self.old self.new }
+impl<F: Feed, B: Build> Automaton<'_, '_, '_, F, B> {
+    // expr → name asg expr, and level1
+
+    /// `expr → • name asg expr` and `expr → • level1`
+    #[inline(always)]
+    pub fn expression(&mut self) -> Result<Front, ParseFault>
+        requires at { IsAt B.stands Front.Expression self.old }
+        ensures moves { Moves result B.denied B.stands Front.Expression self.old self.new }
+        ensures falls { Falls result Front.Expression self.old self.new }
+        ensures builder { KeepsBuilder self.old self.new }
     {
-        if let Some(op) = assignment_operator(&self.tokens) {
-            self.assignment(op)?;
-        } else {
-            self.levels(1)?;
+        match assignment_operator(&self.tokens) {
+            Some(op) => self.assignment(op),
+            None => self.operand(1),
         }
-        Ok(())
     }
 
-    /// `expr → name asg expr`
-    #[inline(always)]
-    #[cycle(expressions)]
-    fn assignment(&mut self, op: StoreOp) -> Result<(), ParseFault>
-        requires at { IsAt B.stands HasRoom 1 (StartsAssignment op) self.old }
-        ensures parses { Parses result B.denied B.stands 1 Expression self.old self.new }
-        ensures kept { Proceeds result self.old self.new }
+    /// `expr → • name asg expr`
+    fn assignment(&mut self, op: StoreOp) -> Result<Front, ParseFault>
+        requires at { IsAt B.stands Front.Expression self.old }
+        requires starts { StartsAssignment op self.old.tokens }
+        ensures moves { Moves result B.denied B.stands Front.Expression self.old self.new }
+        ensures falls { Falls result Front.Expression self.old self.new }
+        ensures builder { KeepsBuilder self.old self.new }
     {
         self.check_nesting()?;
         let var = self.tokens.expect_variable()?;
         self.tokens.advance()?;
         self.depth += 1;
-        self.right_side()?;
+        self.frames.push(Frame::Store(var, op));
+        Ok(Front::Expression)
+    }
+
+    /// `expr → name asg expr •`
+    pub fn store(&mut self, var: Var, op: StoreOp) -> Result<Front, ParseFault>
+        requires at { IsAt B.stands Front.Enclosing (with_frame (Frame.Store var op) self.old) }
+        ensures moves { Moves result B.denied B.stands Front.Enclosing (with_frame (Frame.Store var op) self.old) self.new }
+        ensures falls { Falls result Front.Enclosing (with_frame (Frame.Store var op) self.old) self.new }
+        ensures builder { KeepsBuilder self.old self.new }
+    {
+        self.builder.act(Action::StoreVariable(var, op))?;
         self.depth -= 1;
-        Ok(self.builder.act(Action::StoreVariable(var, op))?)
+        Ok(Front::Enclosing)
     }
 
-    /// `expr`, after the operator of an assignment: most often no further assignment, which takes no further call
+    // levelN → level(N+1) tailN, down to level11
+    // tailN → operator level(N+1) tailN, and empty if no operator of this level is next
+
+    /// `tailN → • operator level(N+1) tailN`, from the tightest level down to a floor
     #[inline(always)]
-    #[cycle(expressions)]
-    fn right_side(&mut self) -> Result<(), ParseFault>
-        requires at { IsAt B.stands HasRoom 1 Anywhere self.old }
-        ensures parses { Parses result B.denied B.stands 1 Expression self.old self.new }
-        ensures kept { Proceeds result self.old self.new }
+    pub fn operators(&mut self, floor: u8) -> Result<Front, ParseFault>
+        requires at { IsAt B.stands (Front.Operators floor) self.old }
+        ensures moves { Moves result B.denied B.stands (Front.Operators floor) self.old self.new }
+        ensures falls { Falls result (Front.Operators floor) self.old self.new }
+        ensures builder { KeepsBuilder self.old self.new }
     {
-        match assignment_operator(&self.tokens) {
-            Some(_) => self.expression(),
-            None => self.levels(1),
-        }
-    }
-
-    /// `levelN → level(N+1) tailN`, down to `level11`: an operand, and the operators from this level on by precedence
-    /// climbing
-    #[inline(always)]
-    #[cycle(expressions)]
-    fn levels(&mut self, level: u8) -> Result<(), ParseFault>
-        requires at { IsAt B.stands HasRoom level Anywhere self.old }
-        ensures parses { ParsesLevels result B.denied B.stands level self.old self.new }
-        ensures kept { Proceeds result self.old self.new }
-    {
-        self.unary()?;
-        while let Some(binary) = operator_from(&self.tokens.peek().token, level) {
-            self.operand(binary)?;
-        }
-        Ok(())
-    }
-
-    /// `tailN → operator level(N+1) tailN`, up to the next `tailN`
-    #[inline(never)]
-    #[cycle(expressions)]
-    fn operand(&mut self, binary: BinaryOperator) -> Result<(), ParseFault>
-        requires at { IsAt B.stands HasLeftSide binary.level (StartsOperand binary) self.old }
-        ensures parses { ParsesOperand result B.denied B.stands binary self.old self.new }
-        ensures kept { Proceeds result self.old self.new }
-    {
-        self.tokens.advance()?;
+        let Some(binary) = operator_from(&self.tokens.peek().token, floor) else {
+            return self.enclosing();
+        };
         report_middle(self.builder, binary.op)?;
-        self.levels(binary.level + 1)?;
-        Ok(self.builder.act(Action::ApplyBinop(binary.op))?)
-    }
-
-    /// `level11 → operator level11`, `level11 → operator name` and `level11 → primary`
-    #[inline(always)]
-    #[cycle(expressions)]
-    fn unary(&mut self) -> Result<(), ParseFault>
-        requires at { IsAt B.stands HasRoom 11 Anywhere self.old }
-        ensures parses { Parses result B.denied B.stands 11 Unary self.old self.new }
-        ensures kept { Proceeds result self.old self.new }
-    {
-        if let Token::Punctuator(_) = self.tokens.peek().token {
-            self.unary_from_punctuator()?;
-        } else {
-            self.primary()?;
-        }
-        Ok(())
-    }
-
-    /// `level11` from a punctuator on: apart from the names and constants that most operands are
-    #[inline(never)]
-    #[cycle(expressions)]
-    fn unary_from_punctuator(&mut self) -> Result<(), ParseFault>
-        requires at { IsAt B.stands HasRoom 11 Anywhere self.old }
-        ensures parses { Parses result B.denied B.stands 11 Unary self.old self.new }
-        ensures kept { Proceeds result self.old self.new }
-    {
-        if let Some(sign) = unary_op_of(&self.tokens.peek().token) {
-            self.unary_operation(sign)?;
-        } else if let Some(increment) = increment_op_of(&self.tokens.peek().token) {
-            self.prefix_increment(increment)?;
-        } else {
-            self.primary()?;
-        }
-        Ok(())
-    }
-
-    /// `level11 → operator level11`
-    #[inline(never)]
-    #[cycle(expressions)]
-    fn unary_operation(&mut self, sign: UnaryOp) -> Result<(), ParseFault>
-        requires at { IsAt B.stands HasRoom 11 (IsNextPunctuator (unary_punctuator sign)) self.old }
-        ensures parses { Parses result B.denied B.stands 11 Unary self.old self.new }
-        ensures kept { Proceeds result self.old self.new }
-    {
-        self.check_nesting()?;
         self.tokens.advance()?;
-        sign.report_before_operand(self.builder)?;
-        self.depth += 1;
-        self.unary()?;
-        self.depth -= 1;
-        Ok(sign.report_after_operand(self.builder)?)
+        self.frames
+            .push(Frame::Operate(binary.op, binary.level, floor));
+        Ok(Front::Operand(binary.level + 1))
     }
 
-    /// `primary → constant`, `name ( args )`, `name operator`, `name` and `( expr )`
-    #[inline(always)]
-    #[cycle(expressions)]
-    fn primary(&mut self) -> Result<(), ParseFault>
-        requires at { IsAt B.stands HasRoom 11 Anywhere self.old }
-        ensures parses { Parses result B.denied B.stands 11 Primary self.old self.new }
-        ensures kept { Proceeds result self.old self.new }
+    /// `tailN → operator level(N+1) • tailN`
+    pub fn operate(&mut self, op: Op, level: u8, floor: u8) -> Result<Front, ParseFault>
+        requires at { IsAt B.stands Front.Enclosing (with_frame (Frame.Operate op level floor) self.old) }
+        ensures moves { Moves result B.denied B.stands Front.Enclosing (with_frame (Frame.Operate op level floor) self.old) self.new }
+        ensures falls { Falls result Front.Enclosing (with_frame (Frame.Operate op level floor) self.old) self.new }
+        ensures builder { KeepsBuilder self.old self.new }
     {
-        match self.tokens.peek().token {
-            Token::Constant(value) => self.constant(value),
-            Token::Name(_) if is_punctuator(self.tokens.after(), Punctuator::OpenRound) => {
-                self.call()
-            }
-            Token::Name(_) => self.variable(),
-            _ if is_punctuator(&self.tokens.peek().token, Punctuator::OpenRound) => {
-                self.bracketed()
-            }
-            _ => Err(self.tokens.unexpected_token()),
-        }
-    }
-
-    /// `primary → name ( args )`
-    #[inline(never)]
-    #[cycle(expressions)]
-    fn call(&mut self) -> Result<(), ParseFault>
-        requires at { IsAt B.stands HasRoom 11 StartsCall self.old }
-        ensures parses { Parses result B.denied B.stands 11 Primary self.old self.new }
-        ensures kept { Proceeds result self.old self.new }
-    {
-        self.check_nesting()?;
-        let callee = self.tokens.expect_callee()?;
-        self.builder.act(Action::BeginCall)?;
-        self.tokens.expect(Punctuator::OpenRound)?;
-        self.depth += 1;
-        self.arguments()?;
-        self.depth -= 1;
-        self.tokens.expect(Punctuator::CloseRound)?;
-        Ok(self.builder.act(Action::EndCall(callee))?)
-    }
-
-    /// `args → expr moreargs`, and empty at the closing bracket; `moreargs → , expr moreargs`
-    #[cycle(expressions)]
-    fn arguments(&mut self) -> Result<(), ParseFault>
-        requires at { IsAt B.stands HasRoom 1 Anywhere self.old }
-        ensures parses { ParsesArgs result B.denied B.stands self.old self.new }
-        ensures kept { MayProceed result self.old self.new }
-    {
-        if is_punctuator(&self.tokens.peek().token, Punctuator::CloseRound) {
-            return Ok(());
-        }
-        self.expression()?;
-        while is_punctuator(&self.tokens.peek().token, Punctuator::Comma) {
-            self.tokens.expect(Punctuator::Comma)?;
-            self.expression()?;
-        }
-        Ok(())
-    }
-
-    /// `primary → ( expr )`
-    #[inline(never)]
-    #[cycle(expressions)]
-    fn bracketed(&mut self) -> Result<(), ParseFault>
-        requires at { IsAt B.stands HasRoom 11 (IsNextPunctuator punctuator.OpenRound) self.old }
-        ensures parses { Parses result B.denied B.stands 11 Primary self.old self.new }
-        ensures kept { Proceeds result self.old self.new }
-    {
-        self.check_nesting()?;
-        self.tokens.advance()?;
-        self.depth += 1;
-        self.expression()?;
-        self.depth -= 1;
-        self.tokens.expect(Punctuator::CloseRound)?;
-        Ok(())
+        self.builder.act(Action::ApplyBinop(op))?;
+        Ok(Front::Operators(floor))
     }
 }
 

@@ -2,12 +2,13 @@
 //! the file or the first diagnostic.
 #![tactic(auto)]
 
+mod automaton;
 mod expressions;
+mod frames;
 mod function_headers;
 mod functions;
 mod name_lists;
 mod operands;
-mod parser;
 mod roles;
 mod scoped_cursor;
 mod sources;

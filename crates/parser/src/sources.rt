@@ -1,29 +1,23 @@
 //! Sources: one pass from a device's bytes to a builder, and the names of the file.
 
-ghost use Rattle.std.specs.Prelude.{◌≡◌, ◌∷◌, IfErr, IfOk, OnOk};
+ghost use Rattle.std.specs.Prelude.{◌≡◌, IfErr, IfOk, OnOk};
 ghost use Rattle.tokens.specs.Feed.{MayRead};
-ghost use Rattle.tokens.specs.declared.located_tokens.Keyword.TheVariants as keyword;
-ghost use Rattle.grammar.specs.Grammar.{Head, Part};
-ghost use Rattle.parser.specs.Advancing.{Anywhere, IsNextKeyword};
-ghost use Rattle.parser.specs.Parsers.{IsBetween, MayProceed, Proceeds};
 ghost use Rattle.parser.specs.ScopedCursors.{pools_in, scope_of};
 ghost use Rattle.parser.specs.Segment.{CountsRefusal};
 ghost use Rattle.parser.specs.ParsedFiles.{AreNew, ParsesToFile, IsNew, ParseIsRefused, TakesEnough};
-ghost use Rattle.parser.specs.Progress.{HasMore, IsComplete, LacksDefinition, ReadsParts, ReadsSource, at_source};
+ghost use Rattle.parser.specs.Complete.{IsComplete, LacksDefinition};
 
-use crate::function_headers::external_declaration;
-use crate::name_lists::type_words;
-use crate::parser::Parser;
+use crate::automaton::Automaton;
+use crate::frames::Frames;
 use crate::scoped_cursor::{ScopedCursor, open_cursor};
-use crate::token_predicates::{is_keyword, is_punctuator};
 use grammar::{Build, Code, Diagnostic, ParseFault, Pools, Scope};
-use tokens::{Cursor, Feed, Keyword, Punctuator, Token};
+use tokens::{Cursor, Feed};
 
 /// Reads a source from the device in one pass, reports its actions to the builder, and returns its names.
 ///
 /// The device gives its bytes in pieces of any size. The source ends before the first byte 26, or when the device has
 /// no more bytes; it is too long past 1,048,576 bytes. At most `MOST_NESTED` constructs may be open at once, which
-/// bounds the recursion. No more bytes are taken than decide the answer and a window of 4,096 bytes. A device that has
+/// bounds the stack of frames. No more bytes are taken than decide the answer and a window of 4,096 bytes. A device that has
 /// given no byte has ended, and is not asked again.
 ///
 /// The builder is new: it represents no action yet. On `Ok` it represents those of the whole file, and nothing is left
@@ -77,14 +71,16 @@ pub fn parse_into<F: Feed, B: Build>(
     let mut cursor = Cursor::new();
     open_cursor(&mut cursor, feed)?;
     let parser = ScopedCursor::new(cursor, scope, feed);
-    let mut reader = Parser {
+    let frames = Frames::new();
+    let mut reader = Automaton {
         tokens: parser,
         builder: build,
+        frames,
         depth: 0,
     };
-    let read = reader.source();
+    let read = reader.run();
     let checked = check_functions(&reader.tokens);
-    let Parser {
+    let Automaton {
         tokens: parser,
         builder: build,
         ..
@@ -97,64 +93,6 @@ pub fn parse_into<F: Feed, B: Build>(
     read?;
     checked?;
     Ok(())
-}
-
-impl<F: Feed, B: Build> Parser<'_, '_, '_, F, B> {
-    /// `source → end`, `type types head source` and `name ( params ) pdecls block source`
-    fn source(&mut self) -> Result<(), ParseFault>
-        requires at { IsBetween B.stands Anywhere self.old }
-        ensures reads { ReadsSource result B.denied B.stands self.old self.new }
-        ensures kept { MayProceed result self.old self.new }
-    {
-        while !matches!(self.tokens.peek().token, Token::End) {
-            self.file_part()?;
-        }
-        Ok(())
-    }
-
-    /// `type types head` or `name ( params ) pdecls block`
-    fn file_part(&mut self) -> Result<(), ParseFault>
-        requires at { IsBetween B.stands HasMore self.old }
-        ensures reads { ReadsParts result B.denied B.stands at_source self.old self.new }
-        ensures kept { Proceeds result self.old self.new }
-    {
-        if is_keyword(&self.tokens.peek().token, Keyword::Type) {
-            self.typed_part()?;
-        } else if let Token::Name(_) = self.tokens.peek().token {
-            self.function()?;
-        } else {
-            return Err(self.tokens.unexpected_token());
-        }
-        Ok(())
-    }
-
-    /// `type types head`
-    fn typed_part(&mut self) -> Result<(), ParseFault>
-        requires at { IsBetween B.stands (IsNextKeyword keyword.Type) self.old }
-        ensures reads { ReadsParts result B.denied B.stands at_source self.old self.new }
-        ensures kept { Proceeds result self.old self.new }
-    {
-        self.tokens.expect_type()?;
-        type_words(&mut self.tokens)?;
-        self.head()?;
-        Ok(())
-    }
-
-    /// `head → name ( params ) pdecls block` and `head → name more ;`
-    fn head(&mut self) -> Result<(), ParseFault>
-        requires at { IsBetween B.stands Anywhere self.old }
-        ensures reads { ReadsParts result B.denied B.stands (Part Head ∷ at_source) self.old self.new }
-        ensures kept { Proceeds result self.old self.new }
-    {
-        match self.tokens.peek().token {
-            Token::Name(_) if is_punctuator(self.tokens.after(), Punctuator::OpenRound) => {
-                self.function()?;
-            }
-            Token::Name(_) => external_declaration(&mut self.tokens)?,
-            _ => return Err(self.tokens.unexpected_token()),
-        }
-        Ok(())
-    }
 }
 
 /// Refuses a file in which a function is missing: one that was mentioned, or else `main`.

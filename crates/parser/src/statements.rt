@@ -1,172 +1,258 @@
-//! Blocks, branches, loops, returns and expression statements.
+//! Statements: the steps of each production, in its order.
 
 ghost use Rattle.tokens.specs.declared.located_tokens.Punctuator.TheVariants as punctuator;
 ghost use Rattle.tokens.specs.declared.located_tokens.Keyword.TheVariants as keyword;
-ghost use Rattle.grammar.specs.Following.{InBranch};
-ghost use Rattle.grammar.specs.Grammar.{Back, Statement};
-ghost use Rattle.parser.specs.Advancing.{Anywhere, IsNextPunctuator, IsNextKeyword};
-ghost use Rattle.parser.specs.Parsers.{IsAt, MayProceed, Proceeds};
-ghost use Rattle.parser.specs.Room.{HasStatementRoom, HasRoom};
-ghost use Rattle.parser.specs.Expressions.{Parses};
-ghost use Rattle.parser.specs.Branches.{HasInside, ParsesElse};
-ghost use Rattle.parser.specs.Forms.{ParsesCondition, StartsEvaluation};
-ghost use Rattle.parser.specs.Statements.{ParsesBody, ParsesStatements};
+ghost use Rattle.parser.specs.Advancing.{IsNextKeyword, IsNextPunctuator};
+ghost use Rattle.parser.specs.Automata.{Falls, IsAt, KeepsBuilder, Moves, with_frame};
+ghost use Rattle.parser.specs.Forms.{StartsEvaluation};
 
+use crate::automaton::Automaton;
+use crate::frames::{Frame, Front};
 use crate::name_lists::declarations;
-use crate::parser::Parser;
 use crate::roles::Declared;
 use crate::token_predicates::{is_keyword, is_punctuator};
 use grammar::{Action, Build, ParseFault};
 use tokens::{Feed, Keyword, Punctuator, Token};
 
-impl<F: Feed, B: Build> Parser<'_, '_, '_, F, B> {
-    /// `stmts → stmt stmts`, up to the closing brace
-    #[cycle(statements)]
-    pub fn statements(&mut self) -> Result<(), ParseFault>
-        requires at { IsAt B.stands HasStatementRoom 1 Anywhere self.old }
-        ensures parses { ParsesStatements result B.denied B.stands self.old self.new }
-        ensures kept { MayProceed result self.old self.new }
-    {
-        while !is_punctuator(&self.tokens.peek().token, Punctuator::CloseCurly) {
-            self.statement()?;
-        }
-        Ok(())
-    }
-
-    /// `stmt → ;`, `block`, `if ( expr ) stmt elsepart`, `while ( expr ) stmt`, `return back ;` and `expr ;`
-    #[cycle(statements)]
-    fn statement(&mut self) -> Result<(), ParseFault>
-        requires at { IsAt B.stands HasStatementRoom 1 Anywhere self.old }
-        ensures parses { ParsesBody result B.denied B.stands Statement self.old self.new }
-        ensures kept { Proceeds result self.old self.new }
+impl<F: Feed, B: Build> Automaton<'_, '_, '_, F, B> {
+    /// `stmt → • ;`, `• block`, `• if ( expr ) stmt elsepart`, `• while ( expr ) stmt`, `• return back ;` and `• expr ;`
+    pub fn statement(&mut self) -> Result<Front, ParseFault>
+        requires at { IsAt B.stands Front.Statement self.old }
+        ensures moves { Moves result B.denied B.stands Front.Statement self.old self.new }
+        ensures falls { Falls result Front.Statement self.old self.new }
+        ensures builder { KeepsBuilder self.old self.new }
     {
         match self.tokens.peek().token {
-            Token::Punctuator(Punctuator::Semicolon) => self.tokens.expect(Punctuator::Semicolon)?,
-            Token::Punctuator(Punctuator::OpenCurly) => self.block()?,
-            Token::Keyword(Keyword::If) => self.if_statement()?,
-            Token::Keyword(Keyword::While) => self.while_statement()?,
-            Token::Keyword(Keyword::Return) => self.return_statement()?,
-            _ => self.expression_statement()?,
+            Token::Punctuator(Punctuator::Semicolon) => self.empty_statement(),
+            Token::Punctuator(Punctuator::OpenCurly) => self.begin_block(),
+            Token::Keyword(Keyword::If) => self.if_statement(),
+            Token::Keyword(Keyword::While) => self.while_statement(),
+            Token::Keyword(Keyword::Return) => self.return_statement(),
+            _ => self.evaluation(),
         }
-        Ok(())
     }
 
-    /// `block → { decls stmts }`
-    #[cycle(statements)]
-    fn block(&mut self) -> Result<(), ParseFault>
-        requires at { IsAt B.stands HasStatementRoom 1 (IsNextPunctuator punctuator.OpenCurly) self.old }
-        ensures parses { ParsesBody result B.denied B.stands Statement self.old self.new }
-        ensures kept { Proceeds result self.old self.new }
+    // stmt → ;
+
+    /// `stmt → • ;`
+    fn empty_statement(&mut self) -> Result<Front, ParseFault>
+        requires at { IsAt B.stands Front.Statement self.old }
+        requires starts { IsNextPunctuator punctuator.Semicolon self.old.tokens }
+        ensures moves { Moves result B.denied B.stands Front.Statement self.old self.new }
+        ensures falls { Falls result Front.Statement self.old self.new }
+        ensures builder { KeepsBuilder self.old self.new }
+    {
+        self.tokens.advance()?;
+        Ok(Front::Enclosing)
+    }
+
+    // stmt → if ( expr ) stmt elsepart
+    // elsepart → else stmt, and empty if no `else` is next
+
+    /// `stmt → • if ( expr ) stmt elsepart`
+    fn if_statement(&mut self) -> Result<Front, ParseFault>
+        requires at { IsAt B.stands Front.Statement self.old }
+        requires starts { IsNextKeyword keyword.If self.old.tokens }
+        ensures moves { Moves result B.denied B.stands Front.Statement self.old self.new }
+        ensures falls { Falls result Front.Statement self.old self.new }
+        ensures builder { KeepsBuilder self.old self.new }
+    {
+        self.check_nesting()?;
+        self.tokens.advance()?;
+        self.tokens.expect(Punctuator::OpenRound)?;
+        self.depth += 1;
+        self.frames.push(Frame::If);
+        Ok(Front::Expression)
+    }
+
+    /// `stmt → if ( expr • ) stmt elsepart`
+    pub fn if_test(&mut self) -> Result<Front, ParseFault>
+        requires at { IsAt B.stands Front.Enclosing (with_frame Frame.If self.old) }
+        ensures moves { Moves result B.denied B.stands Front.Enclosing (with_frame Frame.If self.old) self.new }
+        ensures falls { Falls result Front.Enclosing (with_frame Frame.If self.old) self.new }
+        ensures builder { KeepsBuilder self.old self.new }
+    {
+        self.tokens.expect(Punctuator::CloseRound)?;
+        self.builder.act(Action::IfTest)?;
+        self.frames.push(Frame::Then);
+        Ok(Front::Statement)
+    }
+
+    /// `stmt → if ( expr ) stmt • elsepart`
+    pub fn else_part(&mut self) -> Result<Front, ParseFault>
+        requires at { IsAt B.stands Front.Enclosing (with_frame Frame.Then self.old) }
+        ensures moves { Moves result B.denied B.stands Front.Enclosing (with_frame Frame.Then self.old) self.new }
+        ensures falls { Falls result Front.Enclosing (with_frame Frame.Then self.old) self.new }
+        ensures builder { KeepsBuilder self.old self.new }
+    {
+        if is_keyword(&self.tokens.peek().token, Keyword::Else) {
+            return self.else_branch();
+        }
+        self.builder.act(Action::EndIf)?;
+        self.depth -= 1;
+        Ok(Front::Enclosing)
+    }
+
+    /// `elsepart → • else stmt`
+    fn else_branch(&mut self) -> Result<Front, ParseFault>
+        requires at { IsAt B.stands Front.Enclosing (with_frame Frame.Then self.old) }
+        requires starts { IsNextKeyword keyword.Else self.old.tokens }
+        ensures moves { Moves result B.denied B.stands Front.Enclosing (with_frame Frame.Then self.old) self.new }
+        ensures falls { Falls result Front.Enclosing (with_frame Frame.Then self.old) self.new }
+        ensures builder { KeepsBuilder self.old self.new }
+    {
+        self.tokens.advance()?;
+        self.builder.act(Action::ElsePart)?;
+        self.frames.push(Frame::Else);
+        Ok(Front::Statement)
+    }
+
+    /// `elsepart → else stmt •`
+    pub fn end_if(&mut self) -> Result<Front, ParseFault>
+        requires at { IsAt B.stands Front.Enclosing (with_frame Frame.Else self.old) }
+        ensures moves { Moves result B.denied B.stands Front.Enclosing (with_frame Frame.Else self.old) self.new }
+        ensures falls { Falls result Front.Enclosing (with_frame Frame.Else self.old) self.new }
+        ensures builder { KeepsBuilder self.old self.new }
+    {
+        self.builder.act(Action::EndIf)?;
+        self.depth -= 1;
+        Ok(Front::Enclosing)
+    }
+
+    // stmt → while ( expr ) stmt
+
+    /// `stmt → • while ( expr ) stmt`
+    fn while_statement(&mut self) -> Result<Front, ParseFault>
+        requires at { IsAt B.stands Front.Statement self.old }
+        requires starts { IsNextKeyword keyword.While self.old.tokens }
+        ensures moves { Moves result B.denied B.stands Front.Statement self.old self.new }
+        ensures falls { Falls result Front.Statement self.old self.new }
+        ensures builder { KeepsBuilder self.old self.new }
+    {
+        self.check_nesting()?;
+        self.builder.act(Action::BeginWhile)?;
+        self.tokens.advance()?;
+        self.tokens.expect(Punctuator::OpenRound)?;
+        self.depth += 1;
+        self.frames.push(Frame::While);
+        Ok(Front::Expression)
+    }
+
+    /// `stmt → while ( expr • ) stmt`
+    pub fn while_test(&mut self) -> Result<Front, ParseFault>
+        requires at { IsAt B.stands Front.Enclosing (with_frame Frame.While self.old) }
+        ensures moves { Moves result B.denied B.stands Front.Enclosing (with_frame Frame.While self.old) self.new }
+        ensures falls { Falls result Front.Enclosing (with_frame Frame.While self.old) self.new }
+        ensures builder { KeepsBuilder self.old self.new }
+    {
+        self.tokens.expect(Punctuator::CloseRound)?;
+        self.builder.act(Action::WhileTest)?;
+        self.frames.push(Frame::Loop);
+        Ok(Front::Statement)
+    }
+
+    /// `stmt → while ( expr ) stmt •`
+    pub fn end_while(&mut self) -> Result<Front, ParseFault>
+        requires at { IsAt B.stands Front.Enclosing (with_frame Frame.Loop self.old) }
+        ensures moves { Moves result B.denied B.stands Front.Enclosing (with_frame Frame.Loop self.old) self.new }
+        ensures falls { Falls result Front.Enclosing (with_frame Frame.Loop self.old) self.new }
+        ensures builder { KeepsBuilder self.old self.new }
+    {
+        self.builder.act(Action::EndWhile)?;
+        self.depth -= 1;
+        Ok(Front::Enclosing)
+    }
+
+    // stmt → return back ;
+    // back → expr, and empty at the semicolon
+
+    /// `stmt → • return back ;`
+    fn return_statement(&mut self) -> Result<Front, ParseFault>
+        requires at { IsAt B.stands Front.Statement self.old }
+        requires starts { IsNextKeyword keyword.Return self.old.tokens }
+        ensures moves { Moves result B.denied B.stands Front.Statement self.old self.new }
+        ensures falls { Falls result Front.Statement self.old self.new }
+        ensures builder { KeepsBuilder self.old self.new }
+    {
+        self.tokens.advance()?;
+        self.frames.push(Frame::Return);
+        if is_punctuator(&self.tokens.peek().token, Punctuator::Semicolon) {
+            self.builder.act(Action::PushConstant(0))?;
+            return Ok(Front::Enclosing);
+        }
+        Ok(Front::Expression)
+    }
+
+    /// `stmt → return back • ;`
+    pub fn end_return(&mut self) -> Result<Front, ParseFault>
+        requires at { IsAt B.stands Front.Enclosing (with_frame Frame.Return self.old) }
+        ensures moves { Moves result B.denied B.stands Front.Enclosing (with_frame Frame.Return self.old) self.new }
+        ensures falls { Falls result Front.Enclosing (with_frame Frame.Return self.old) self.new }
+        ensures builder { KeepsBuilder self.old self.new }
+    {
+        self.tokens.expect(Punctuator::Semicolon)?;
+        self.builder.act(Action::GiveBack)?;
+        Ok(Front::Enclosing)
+    }
+
+    // stmt → expr ;
+
+    /// `stmt → • expr ;`
+    fn evaluation(&mut self) -> Result<Front, ParseFault>
+        requires at { IsAt B.stands Front.Statement self.old }
+        requires starts { StartsEvaluation self.old.tokens }
+        ensures moves { Moves result B.denied B.stands Front.Statement self.old self.new }
+        ensures falls { Falls result Front.Statement self.old self.new }
+        ensures builder { KeepsBuilder self.old self.new }
+    {
+        self.frames.push(Frame::Evaluate);
+        Ok(Front::Expression)
+    }
+
+    /// `stmt → expr • ;`
+    pub fn end_evaluation(&mut self) -> Result<Front, ParseFault>
+        requires at { IsAt B.stands Front.Enclosing (with_frame Frame.Evaluate self.old) }
+        ensures moves { Moves result B.denied B.stands Front.Enclosing (with_frame Frame.Evaluate self.old) self.new }
+        ensures falls { Falls result Front.Enclosing (with_frame Frame.Evaluate self.old) self.new }
+        ensures builder { KeepsBuilder self.old self.new }
+    {
+        self.tokens.expect(Punctuator::Semicolon)?;
+        self.builder.act(Action::Chop)?;
+        Ok(Front::Enclosing)
+    }
+
+    // block → { decls stmts }
+    // stmts → stmt stmts, and empty at the closing brace
+
+    /// `block → • { decls stmts }`
+    fn begin_block(&mut self) -> Result<Front, ParseFault>
+        requires at { IsAt B.stands Front.Statement self.old }
+        requires starts { IsNextPunctuator punctuator.OpenCurly self.old.tokens }
+        ensures moves { Moves result B.denied B.stands Front.Statement self.old self.new }
+        ensures falls { Falls result Front.Statement self.old self.new }
+        ensures builder { KeepsBuilder self.old self.new }
     {
         self.check_nesting()?;
         self.tokens.advance()?;
         declarations(&mut self.tokens, Declared::Locals)?;
         self.depth += 1;
-        self.statements()?;
-        self.depth -= 1;
-        self.tokens.expect(Punctuator::CloseCurly)?;
-        Ok(())
+        self.frames.push(Frame::Block);
+        Ok(Front::Enclosing)
     }
 
-    /// `stmt → if ( expr ) stmt elsepart`
-    #[cycle(statements)]
-    fn if_statement(&mut self) -> Result<(), ParseFault>
-        requires at { IsAt B.stands HasStatementRoom 1 (IsNextKeyword keyword.If) self.old }
-        ensures parses { ParsesBody result B.denied B.stands Statement self.old self.new }
-        ensures kept { Proceeds result self.old self.new }
+    /// `block → { decls • stmts }`
+    pub fn block(&mut self) -> Result<Front, ParseFault>
+        requires at { IsAt B.stands Front.Enclosing (with_frame Frame.Block self.old) }
+        ensures moves { Moves result B.denied B.stands Front.Enclosing (with_frame Frame.Block self.old) self.new }
+        ensures falls { Falls result Front.Enclosing (with_frame Frame.Block self.old) self.new }
+        ensures builder { KeepsBuilder self.old self.new }
     {
-        self.check_nesting()?;
-        self.tokens.advance()?;
-        self.depth += 1;
-        self.condition()?;
-        self.builder.act(Action::IfTest)?;
-        self.statement()?;
-        self.else_part()?;
-        self.depth -= 1;
-        Ok(self.builder.act(Action::EndIf)?)
-    }
-
-    /// `elsepart → else stmt`, and empty if no `else` is next
-    #[inline(always)]
-    #[cycle(statements)]
-    fn else_part(&mut self) -> Result<(), ParseFault>
-        requires at { IsAt B.stands (HasInside InBranch) 1 Anywhere self.old }
-        ensures parses { ParsesElse result B.denied B.stands self.old self.new }
-        ensures kept { MayProceed result self.old self.new }
-    {
-        if is_keyword(&self.tokens.peek().token, Keyword::Else) {
-            self.builder.act(Action::ElsePart)?;
-            self.tokens.advance()?;
-            self.statement()?;
+        if !is_punctuator(&self.tokens.peek().token, Punctuator::CloseCurly) {
+            self.frames.push(Frame::Block);
+            return Ok(Front::Statement);
         }
-        Ok(())
-    }
-
-    /// `stmt → while ( expr ) stmt`
-    #[cycle(statements)]
-    fn while_statement(&mut self) -> Result<(), ParseFault>
-        requires at { IsAt B.stands HasStatementRoom 1 (IsNextKeyword keyword.While) self.old }
-        ensures parses { ParsesBody result B.denied B.stands Statement self.old self.new }
-        ensures kept { Proceeds result self.old self.new }
-    {
-        self.check_nesting()?;
-        self.builder.act(Action::BeginWhile)?;
         self.tokens.advance()?;
-        self.depth += 1;
-        self.condition()?;
-        self.builder.act(Action::WhileTest)?;
-        self.statement()?;
         self.depth -= 1;
-        Ok(self.builder.act(Action::EndWhile)?)
-    }
-
-    /// `( expr )`, after `if` or `while`
-    #[inline(always)]
-    fn condition(&mut self) -> Result<(), ParseFault>
-        requires at { IsAt B.stands HasRoom 1 Anywhere self.old }
-        ensures parses { ParsesCondition result B.denied B.stands self.old self.new }
-        ensures kept { Proceeds result self.old self.new }
-    {
-        self.tokens.expect(Punctuator::OpenRound)?;
-        self.expression()?;
-        self.tokens.expect(Punctuator::CloseRound)?;
-        Ok(())
-    }
-
-    /// `stmt → return back ;`
-    fn return_statement(&mut self) -> Result<(), ParseFault>
-        requires at { IsAt B.stands HasStatementRoom 1 (IsNextKeyword keyword.Return) self.old }
-        ensures parses { ParsesBody result B.denied B.stands Statement self.old self.new }
-        ensures kept { Proceeds result self.old self.new }
-    {
-        self.tokens.advance()?;
-        self.return_value()?;
-        self.tokens.expect(Punctuator::Semicolon)?;
-        Ok(self.builder.act(Action::GiveBack)?)
-    }
-
-    /// `back → expr`, and empty at the semicolon
-    fn return_value(&mut self) -> Result<(), ParseFault>
-        requires at { IsAt B.stands HasRoom 1 Anywhere self.old }
-        ensures parses { Parses result B.denied B.stands 1 Back self.old self.new }
-        ensures kept { MayProceed result self.old self.new }
-    {
-        if is_punctuator(&self.tokens.peek().token, Punctuator::Semicolon) {
-            self.builder.act(Action::PushConstant(0))?;
-            return Ok(());
-        }
-        self.expression()?;
-        Ok(())
-    }
-
-    /// `stmt → expr ;`
-    fn expression_statement(&mut self) -> Result<(), ParseFault>
-        requires at { IsAt B.stands HasStatementRoom 1 StartsEvaluation self.old }
-        ensures parses { ParsesBody result B.denied B.stands Statement self.old self.new }
-        ensures kept { Proceeds result self.old self.new }
-    {
-        self.expression()?;
-        self.tokens.expect(Punctuator::Semicolon)?;
-        Ok(self.builder.act(Action::Chop)?)
+        Ok(Front::Enclosing)
     }
 }

@@ -5,6 +5,7 @@ use derivations::{Derivation, Located, locate};
 use grammar::{Code, Diagnostic, lexical_error_code};
 use std::alloc::AllocError;
 use tokens::{Keyword, Token};
+use tools::kind_of;
 
 /// Adds a line for each token of a source, the end among them: its line, its column in bytes, both from 1, its kind,
 /// and its text. Of a source with a fault the last line is that of the first token that doesn't fit, with the fault, if
@@ -67,19 +68,5 @@ fn misfit_code(token: &Token) -> Code {
         Token::Keyword(Keyword::Refused) => Code::ReservedWord,
         // any other token fits elsewhere
         _ => Code::SyntaxError,
-    }
-}
-
-/// Returns the word for a token's kind.
-fn kind_of(token: &Token) -> &'static str {
-    match token {
-        Token::Name(_) => "name",
-        Token::Keyword(Keyword::Type) => "type",
-        Token::Keyword(Keyword::Refused) => "reserved",
-        Token::Keyword(Keyword::If | Keyword::Else | Keyword::While | Keyword::Return) => "keyword",
-        Token::Constant(_) => "constant",
-        Token::Punctuator(_) => "punctuator",
-        Token::End => "end",
-        Token::Fault(_) => "fault",
     }
 }

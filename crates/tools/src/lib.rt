@@ -17,6 +17,7 @@ mod outputs;
 mod shown;
 mod spans;
 mod texts;
+mod token_kinds;
 mod version;
 mod wishes;
 
@@ -32,5 +33,6 @@ pub use outputs::{Output, write_text, write_to};
 pub use shown::{Dashed, Plain, visible};
 pub use spans::{SPAN_OPTIONS, Span};
 pub use texts::{Draft, Text, add_left, add_right, add_signed};
+pub use token_kinds::kind_of;
 pub use version::VERSION;
 pub use wishes::{MATCH_OPTIONS, PROFILE_OPTIONS, file_of, number_of, profile, wish};

@@ -1,5 +1,5 @@
 use Rattle.std.proofs.Common.{sym, ◌∙◌, refl}
-use Rattle.parser.specs.Progress.{ADefinition}
+use Rattle.parser.specs.Complete.{ADefinition}
 use Rattle.parser.proofs.sources.check_functions.Goals as goal
 
 pub returns-in-Some-clause-lacks : goal.returns-in-Some-clause-lacks

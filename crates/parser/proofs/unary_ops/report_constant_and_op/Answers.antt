@@ -2,7 +2,7 @@ use Rattle.std.proofs.Common.{[], ◌∷◌, ℤ, subst, sym, w32}
 use Rattle.std.proofs.lemmas.Int.{to_z-of_z}
 use Rattle.grammar.specs.declared.actions.Action.TheVariants.{ApplyBinop, PushConstant}
 use Rattle.grammar.specs.Building.{AppendsAll, MayFollow}
-use Rattle.parser.proofs.ReportingLaws.{next_follows}
+use Rattle.parser.proofs.Reports.{next_follows}
 use Rattle.parser.proofs.unary_ops.report_constant_and_op.Goals as goal
 use Rattle.grammar.proofs.RepresentationLaws.{appends_both, may_first}
 

@@ -1,0 +1,167 @@
+-- The levels of binary operators, and which of their productions a token chooses.
+use Rattle.std.proofs.Common.{◌≡◌, ℕ, ◌+◌, ◌<◌, ◌≤◌, [], ◌∷◌, refl, subst, Bool, true, false, arith}
+use Rattle.std.proofs.lemmas.Bool.Decides.{nat_tests}
+use Rattle.std.specs.Prelude.{Option, Some, None, nat_le, nat_lt, ◌==◌, if◌then◌else◌}
+use Rattle.tokens.specs.declared.located_tokens.Punctuator.{Punctuator}
+use Rattle.tokens.specs.declared.located_tokens.Punctuator.TheVariants as punctuator
+use Rattle.tokens.specs.declared.located_tokens.Token.{Token}
+use Rattle.tokens.specs.declared.located_tokens.Token.TheVariants as token
+use Rattle.grammar.specs.declared.operators.BinaryOperator.{BinaryOperator as AnOperator}
+use Rattle.arith.specs.declared.operators.Op.{Op}
+use Rattle.arith.specs.declared.operators.Op.TheVariants as op
+use Rattle.grammar.specs.Grammar.{Exactly, Level, Make, Operate, Part, Tail, Unary, choice, is_punctuator}
+use Rattle.grammar.specs.Operators.{binary_of, if_at, operator_at}
+use Rattle.grammar.specs.Laws.OperatorTokens.{operator_of}
+use Rattle.grammar.specs.Laws.Climbing.{if_from, operator_from}
+use Rattle.parser.proofs.Productions.{same_self}
+
+at_most : (l : ℕ) (o : Op) (b : AnOperator) → l ≤ 10 → Some (record { level = l; op = o }) ≡ Some b → b.level ≤ 10
+at_most l o b small is = let same : b ≡ record { level = l; op = o } = cc in rw same small
+
+-- there are ten
+pub ten_levels : (t : Token) (b : AnOperator) → operator_of t ≡ Some b → b.level ≤ 10
+ten_levels (token.Punctuator m) b is = by_punctuator m is
+  where
+    by_punctuator : (m : Punctuator) → operator_of (token.Punctuator m) ≡ Some b → b.level ≤ 10
+    by_punctuator punctuator.OrOr is = at_most 1 op.Or b (omega arith) is
+    by_punctuator punctuator.AndAnd is = at_most 2 op.And b (omega arith) is
+    by_punctuator punctuator.Or is = at_most 3 op.BitOr b (omega arith) is
+    by_punctuator punctuator.Xor is = at_most 4 op.BitXor b (omega arith) is
+    by_punctuator punctuator.And is = at_most 5 op.BitAnd b (omega arith) is
+    by_punctuator punctuator.EqualsEquals is = at_most 6 op.Equal b (omega arith) is
+    by_punctuator punctuator.NotEquals is = at_most 6 op.NotEqual b (omega arith) is
+    by_punctuator punctuator.Less is = at_most 7 op.Less b (omega arith) is
+    by_punctuator punctuator.Greater is = at_most 7 op.Greater b (omega arith) is
+    by_punctuator punctuator.LessEquals is = at_most 7 op.LessOrEqual b (omega arith) is
+    by_punctuator punctuator.GreaterEquals is = at_most 7 op.GreaterOrEqual b (omega arith) is
+    by_punctuator punctuator.ShiftLeft is = at_most 8 op.ShiftLeft b (omega arith) is
+    by_punctuator punctuator.ShiftRight is = at_most 8 op.ShiftRight b (omega arith) is
+    by_punctuator punctuator.Plus is = at_most 9 op.Add b (omega arith) is
+    by_punctuator punctuator.Minus is = at_most 9 op.Subtract b (omega arith) is
+    by_punctuator punctuator.Star is = at_most 10 op.Multiply b (omega arith) is
+    by_punctuator punctuator.Slash is = at_most 10 op.Divide b (omega arith) is
+    by_punctuator punctuator.Percent is = at_most 10 op.Remainder b (omega arith) is
+    by_punctuator m is = absurd (cc)
+ten_levels (token.Name name) b is = absurd (cc)
+ten_levels (token.Keyword word) b is = absurd (cc)
+ten_levels (token.Constant value) b is = absurd (cc)
+ten_levels token.End b is = absurd (cc)
+ten_levels (token.Fault lexical_error) b is = absurd (cc)
+
+same_level : (n : ℕ) → (n == n) ≡ true
+same_level n = grind (arith, nat_tests)
+
+other_level : (k n : ℕ) → k < n → (k == n) ≡ false
+other_level k n less = grind (arith, nat_tests)
+
+looser : (n k : ℕ) → k < n → nat_le n k ≡ false
+looser n k less = grind (arith, nat_tests)
+
+is_at : (n k : ℕ) → nat_le n k ≡ true → n ≤ k
+is_at n k e = grind (arith, nat_tests)
+
+is_below : (n k : ℕ) → nat_le n k ≡ false → k < n
+is_below n k e = grind (arith, nat_tests)
+
+-- an operator is one of its own level
+pub at_its_own : (t : Token) (b : AnOperator) → operator_of t ≡ Some b → operator_at b.level t ≡ Some b.op
+at_its_own (token.Punctuator m) b is =
+    let spelled : binary_of m ≡ Some b = is in rw spelled (rw (same_level b.level) refl)
+at_its_own (token.Name name) b is = absurd (cc)
+at_its_own (token.Keyword word) b is = absurd (cc)
+at_its_own (token.Constant value) b is = absurd (cc)
+at_its_own token.End b is = absurd (cc)
+at_its_own (token.Fault lexical_error) b is = absurd (cc)
+
+-- the operator found from a level on is the token's, and of that level or a tighter one
+pub found : (n : ℕ) (t : Token) (b : AnOperator) → operator_from n t ≡ Some b → (operator_of t ≡ Some b) × (n ≤ b.level)
+found n t b is = by (operator_of t) is
+  where
+    tested : (c : AnOperator) (test : Bool) → nat_le n c.level ≡ test → (if test then Some c else None) ≡ Some b →
+        (Some c ≡ Some b) × (n ≤ b.level)
+    tested c true e h =
+        let same : c ≡ b = cc in
+        let fits : n ≤ c.level = is_at n c.level e in (h, subst (λ (d : AnOperator). n ≤ d.level) same fits)
+    tested c false e h = absurd (cc)
+
+    by : (o : Option AnOperator) → if_from n o ≡ Some b → (o ≡ Some b) × (n ≤ b.level)
+    by None h = absurd (cc)
+    by (Some c) h = tested c (nat_le n c.level) refl h
+
+-- if none is found from a level on, the token's is of a looser level
+pub all_looser : (n : ℕ) (t : Token) (b : AnOperator) → operator_from n t ≡ None → operator_of t ≡ Some b → b.level < n
+all_looser n t b none is = by (operator_of t) none is
+  where
+    tested : (test : Bool) → nat_le n b.level ≡ test → (if test then Some b else None) ≡ None → b.level < n
+    tested true e h = absurd (cc)
+    tested false e h = is_below n b.level e
+
+    by : (o : Option AnOperator) → if_from n o ≡ None → o ≡ Some b → b.level < n
+    by None h same = absurd (cc)
+    by (Some c) h same =
+        let it : c ≡ b = cc in
+        tested (nat_le n b.level) refl
+        (subst (λ (d : AnOperator). (if nat_le n d.level then Some d else None) ≡ None) it h)
+
+-- none is of a level past the tenth
+pub none_past : (n : ℕ) (t : Token) → 10 < n → operator_from n t ≡ None
+none_past n t past = by (operator_of t) (ten_levels t)
+  where
+    by : (o : Option AnOperator) → ((b : AnOperator) → o ≡ Some b → b.level ≤ 10) → if_from n o ≡ None
+    by None most = refl
+    by (Some b) most =
+        let level : b.level ≤ 10 = most b refl in
+        let less : b.level < n = omega arith in rw (looser n b.level less) refl
+
+-- if none is found from a level on, there is none of any tighter level
+pub none_at : (n l : ℕ) (t : Token) → operator_from n t ≡ None → n ≤ l → operator_at l t ≡ None
+none_at n l (token.Punctuator m) none tighter = by (binary_of m) (λ b is. all_looser n (token.Punctuator m) b none is)
+  where
+    by : (o : Option AnOperator) → ((b : AnOperator) → o ≡ Some b → b.level < n) → if_at l o ≡ None
+    by None looser_ = refl
+    by (Some b) looser_ =
+        let less : b.level < n = looser_ b refl in
+        let far : b.level < l = omega arith in rw (other_level b.level l far) refl
+none_at n l (token.Name name) none tighter = refl
+none_at n l (token.Keyword word) none tighter = refl
+none_at n l (token.Constant value) none tighter = refl
+none_at n l token.End none tighter = refl
+none_at n l (token.Fault lexical_error) none tighter = refl
+
+-- What the levels are replaced by.
+
+pub level_choice : (n : ℕ) (t after : Token) → n ≤ 10 →
+    choice (Level n) t after ≡ Some (Part (Level (n + 1)) ∷ Part (Tail n) ∷ [])
+level_choice n t after small = let test : nat_lt n 11 ≡ true = below n small in rw test refl
+  where
+    below : (n : ℕ) → n ≤ 10 → nat_lt n 11 ≡ true
+    below n small = grind (arith, nat_tests)
+
+pub last_choice : (n : ℕ) (t after : Token) → 10 < n → choice (Level n) t after ≡ Some (Part Unary ∷ [])
+last_choice n t after last = let test : nat_lt n 11 ≡ false = above n last in rw test refl
+  where
+    above : (n : ℕ) → 10 < n → nat_lt n 11 ≡ false
+    above n last = grind (arith, nat_tests)
+
+pub no_operator : (n : ℕ) (t after : Token) → operator_at n t ≡ None → choice (Tail n) t after ≡ Some []
+no_operator n (token.Punctuator m) after none = rw none refl
+no_operator n (token.Name name) after none = refl
+no_operator n (token.Keyword word) after none = refl
+no_operator n (token.Constant value) after none = refl
+no_operator n token.End after none = refl
+no_operator n (token.Fault lexical_error) after none = refl
+
+pub record SpellsOperator (n : ℕ) (o : Op) (t : Token) : Type 0 where
+  pub m : Punctuator
+  pub is : t ≡ token.Punctuator m
+  pub choice_is : (after : Token) →
+      choice (Tail n) t after ≡ Some (Exactly m ∷ Part (Level (n + 1)) ∷ Make (Operate o) ∷ Part (Tail n) ∷ [])
+  pub fits : is_punctuator m t ≡ true
+
+pub spells : (n : ℕ) (o : Op) (t : Token) → operator_at n t ≡ Some o → SpellsOperator n o t
+spells n o (token.Punctuator m) is = record { m = m; is = refl; choice_is = λ after. rw is refl; fits = same_self m }
+spells n o (token.Name name) is = absurd (cc)
+spells n o (token.Keyword word) is = absurd (cc)
+spells n o (token.Constant value) is = absurd (cc)
+spells n o token.End is = absurd (cc)
+spells n o (token.Fault lexical_error) is = absurd (cc)

@@ -1,0 +1,21 @@
+use Rattle.std.proofs.Common.{arith}
+use Rattle.std.proofs.lemmas.Result.{err_from_is_err_and}
+use Rattle.grammar.specs.Grammar.{DecideElse}
+use Rattle.parser.proofs.AutomatonLaws.{comes_to, refuses}
+use Rattle.parser.proofs.PathLaws.{closed, made, may, told_more, out_of_memory}
+use Rattle.parser.proofs.automaton.Automaton.end_if.Goals as goal
+
+pub act-requires : goal.act-requires
+act-requires g c =
+    let h = c.requires.at.is in record { follows = may h.acts h.told h.new (made DecideElse tt h.path) }
+
+pub returns-in_err-act-clause-moves : goal.returns-in_err-act-clause-moves
+returns-in_err-act-clause-moves g c =
+    let p = err_from_is_err_and c.from_residual.result c.from_residual.ensures.1 in
+    rw (p.1, p.2) (λ o h.
+    out_of_memory h.path (refuses c.in_err-act.field-0.0 _ c.in_err-act.ensures.judged))
+
+pub returns-clause-moves : goal.returns-clause-moves
+returns-clause-moves g c = λ o h.
+    comes_to h (closed (made DecideElse tt h.path)) (told_more _ _ c.in_ok-act.ensures.ok h.told)
+    (omega (arith, h.depth)) (omega (arith, h.few)) (record { level = 0; takes = h.fits.takes.1; ends = tt })
