@@ -87,7 +87,7 @@ def completion(page: Page) -> list[str]:
 def steps(page: Page, crobots: str, folder: str) -> list[str]:
     """Five steps lead from the smallest robot to one that wins; each of them can be tried, and compiles."""
     with open(os.path.join(folder, "data.js"), encoding="utf-8") as file:
-        found: list[dict[str, str]] = json.loads(file.read().partition("= ")[2].rstrip(";\n"))["steps"]
+        found: list[dict[str, str]] = json.loads(file.read().partition("=")[2].rstrip(";\n"))["steps"]
     wrong = [] if len(found) == 5 else [f"{len(found)} steps"]
     known = dict(samples())
     won = []
