@@ -5,7 +5,7 @@ from __future__ import annotations
 from typing import Callable
 
 from .battles import Battle, Settings, samples
-from .pages import Page, Tests, fragment, is_in_time
+from .pages import MOST_NARROW, Page, Tests, fragment, is_in_time
 
 SIZES = ((1366, 768), (1920, 1080), (740, 360), (360, 740))
 PLAYER = "document.getElementById('film').contentWindow?.player"
@@ -93,7 +93,7 @@ def places(page: Page) -> list[str]:
         for name in ("write", "fight", "watch"):
             page.click(f"to-{name}")
             seen = set(page.js(SEEN))
-            wrong += [] if seen == ({"write", "fight", "watch"} if size[0] > 960 else {name}) else [f"{size}, {name}: {sorted(seen)}"]
+            wrong += [] if seen == ({"write", "fight", "watch"} if size[0] > MOST_NARROW else {name}) else [f"{size}, {name}: {sorted(seen)}"]
     page.whole_window()
     return wrong
 

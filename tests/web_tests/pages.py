@@ -25,6 +25,8 @@ from .battles import Battle
 
 # for what is waited for, and for an answer of a browser, on a machine that has much else to do
 SECONDS, SECONDS_OF_AN_ANSWER = 180, 400
+# at most so wide a window shows one of the page's three places at a time
+MOST_NARROW = 960
 
 
 # counts the pictures since the layout was another one

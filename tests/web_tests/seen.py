@@ -9,7 +9,7 @@ from typing import Any
 
 from .battles import Battle, Settings, samples
 from .keeping import dropped
-from .pages import Page, Tests, fragment
+from .pages import MOST_NARROW, Page, Tests, fragment
 
 SIZES = ((1366, 768), (1920, 1080), (740, 360), (683, 384), (360, 740))
 STILL = ("still.r", b"main(){}")
@@ -219,22 +219,34 @@ MOST_TABS = 150
 
 
 def focus(page: Page, folder: str) -> list[str]:
-    """Who goes through the page by the tab key sees what has the focus, at each size of a window: nothing lies over it."""
+    """Who goes through the page by the tab key sees what has the focus, at each size of a window and in each place: nothing lies over it."""
     wrong = []
     for size in SIZES:
         page.size(*size)
         page.fresh()
         page.run()
-        page.js("document.body.tabIndex = -1; document.body.focus(); scrollTo(0, 0)")
-        for count in range(MOST_TABS):
-            page.press("TAB")
-            seen = page.js(IN_SIGHT)
-            if not seen and count:
-                break
-            wrong += [] if seen == "." else [f"{size}: {seen}"]
-        wrong += [] if count > 20 else [f"{size}: {count} stops"]
+        total = 0
+        for place in ("write", "fight", "watch") if size[0] <= MOST_NARROW else ("fight",):
+            page.js(f"document.getElementById('to-{place}').click()")
+            count, hidden = stops(page)
+            total += count
+            wrong += [f"{size}, {place}: {it}" for it in hidden]
+        wrong += [] if total > 20 else [f"{size}: {total} stops"]
     page.whole_window()
     return wrong
+
+
+def stops(page: Page) -> tuple[int, list[str]]:
+    """How many stops the tab key makes until it leaves the page, and what isn't in sight when it has the focus."""
+    hidden = []
+    page.js("document.body.tabIndex = -1; document.body.focus(); scrollTo(0, 0)")
+    for count in range(MOST_TABS):
+        page.press("TAB")
+        seen = page.js(IN_SIGHT)
+        if not seen and count:
+            break
+        hidden += [] if seen == "." else [seen]
+    return count, hidden
 
 
 def graph(page: Page, folder: str) -> list[str]:
