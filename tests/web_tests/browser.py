@@ -452,6 +452,17 @@ def tests(crobots: str, stages: str, folder: str) -> Tests:
     yield "an older browser", lambda page: older(page, folder)
 
 
+def others(name: str, crobots: str, stages: str, folder: str) -> Tests:
+    """The tests that each browser but Chromium runs."""
+    yield "widths", everyone.widths
+    yield from firsts.tests()
+    yield from embeds.tests(folder)
+    yield from reels.tests()
+    yield from inside.tests()
+    yield from worths.few(crobots, stages, folder)
+    yield from paths.tests(name, folder)
+
+
 def results(crobots: str, stages: str, folder: str, place: str) -> Iterator[tuple[str, list[str]]]:
     """The names of those tests that are taken here, and what is wrong."""
     return judged("browser", chromium, folder, tests(crobots, stages, folder), place)

@@ -5,7 +5,7 @@ from __future__ import annotations
 import os
 from typing import Iterator
 
-from . import browser, embeds, everyone, firsts, inside, paths, reels, worths
+from . import browser
 from .battles import random_battles, sample_battles
 from .marionette import firefox, program
 from .pages import Page, Tests, judged
@@ -32,13 +32,7 @@ def tests(crobots: str, stages: str, folder: str) -> Tests:
     yield "explanations", browser.explanations
     yield "links", lambda page: browser.links(page, crobots)
     yield "watched matches", lambda page: browser.watched(page, crobots)
-    yield "widths", everyone.widths
-    yield from firsts.tests()
-    yield from embeds.tests(folder)
-    yield from reels.tests()
-    yield from inside.tests()
-    yield from worths.few(crobots, stages, folder)
-    yield from paths.tests("Firefox", folder)
+    yield from browser.others("Firefox", crobots, stages, folder)
     yield "the page as a file", lambda page: as_a_file(page, crobots, folder)
 
 

@@ -13,7 +13,7 @@ from typing import Any, Iterator
 
 from tries import group
 
-from . import browser, embeds, everyone, firsts, inside, paths, reels, robust, worths
+from . import browser, robust
 from .battles import random_battles, sample_battles
 from .pages import Tests, driven, judged
 
@@ -100,14 +100,8 @@ def tests(crobots: str, stages: str, folder: str) -> Tests:
     yield "watched matches", lambda page: browser.watched(page, crobots)
     yield "a cycle beyond a film", browser.far
     yield "a stopped series", lambda page: browser.stopped(page, crobots)
-    yield "widths", everyone.widths
     yield "keys", browser.keys
-    yield from firsts.tests()
-    yield from embeds.tests(folder)
-    yield from reels.tests()
-    yield from inside.tests()
-    yield from worths.few(crobots, stages, folder)
-    yield from paths.tests("WebKit", folder)
+    yield from browser.others("WebKit", crobots, stages, folder)
     yield "the page as a file", lambda page: browser.story(page, crobots, folder, webkit)
     yield from robust.missing(folder)
     yield from robust.hostile_links()
