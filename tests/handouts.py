@@ -9,6 +9,7 @@ import subprocess
 from typing import Iterator
 
 from browsers import Browser
+from harness import PATIENCE
 
 # The width and the height of papers, in inches.
 PAPERS = {"A4": (8.27, 11.69), "Letter": (8.5, 11.0)}
@@ -23,7 +24,7 @@ def pages(browser: Browser, path: str, paper: str) -> list[list[str]]:
     wide, high = PAPERS[paper]
     browser.load(path)
     printed = browser.call("Page.printToPDF", paperWidth=wide, paperHeight=high, preferCSSPageSize=True)["data"]
-    ran = subprocess.run(["pdftotext", "-layout", "-", "-"], input=base64.b64decode(printed), capture_output=True, check=True, timeout=60)
+    ran = subprocess.run(["pdftotext", "-layout", "-", "-"], input=base64.b64decode(printed), capture_output=True, check=True, timeout=PATIENCE)
     texts = ran.stdout.decode().split("\f")[:-1]
     return [[line.strip() for line in text.splitlines() if line.strip()] for text in texts]
 

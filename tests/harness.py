@@ -1,25 +1,41 @@
-"""What tests share: how the methods of a class are run, how cases are counted, words of the command line, and tests that use another
-one.
+"""What tests share: how the methods of a class are run, how cases are counted, words of the command line, copies of what stands here, and
+tests that use another one.
 
 A test is a method whose name doesn't begin with `_`, of a class itself and not of one that it stands on: it answers what is wrong, a
-line each, and nothing if all is right. A case is a name, and what is wrong, as lines or as a text."""
+line each, and nothing if all is right. A case is a name, and what is wrong, as lines or as a text, or what answers that. An exception
+that comes in a test or a case fails it alone."""
 
 from __future__ import annotations
 
+import contextlib
 import functools
 import importlib.machinery
 import importlib.util
 import os
 import resource
+import shutil
 import signal
 import subprocess
 import sys
 import tempfile
 import time
+import traceback
 from types import ModuleType
-from typing import Any, Callable, Collection, Iterable, Sequence
+from typing import Any, Callable, Collection, Iterable, Iterator, Sequence
 
 HERE = os.path.dirname(os.path.abspath(__file__))
+# what a test waits for anything at most, in seconds: the machine may have much else to do, and only what hangs takes so long
+PATIENCE = 600
+# how tests are run: no place that a fault came from
+RUNNERS = ("harness.py", "tries.py")
+# of what a program said before it was stopped, so many letters are said
+MOST_LETTERS = 300
+# folders of what is built, and of git's
+BUILT = ("out", "__pycache__", ".git")
+# what is wrong with a case, what answers that, and a case
+Wrong = str | Iterable[str]
+Test = Callable[[], Wrong]
+Case = tuple[str, Wrong | Test]
 sys.dont_write_bytecode = True
 
 
@@ -52,39 +68,58 @@ def take_signals() -> None:
         signal.signal(ending, signal.SIG_DFL)
 
 
-def run(tests: object, faults: tuple[type[Exception], ...] = (), but: Collection[str] = (), only: Collection[str] = ()) -> tuple[int, int]:
+def run(tests: object, but: Collection[str] = (), only: Collection[str] = ()) -> tuple[int, int]:
     """Runs the tests of an object but some, or some only; says what is wrong, and how long each took if TIMES is in the environment.
-    These faults fail the test in which they come. Answers how many passed and how many failed."""
+    Answers how many passed and how many failed."""
     chosen = [name for name in names(tests) if name not in but and (not only or name in only)]
-    return judge((name.replace("_", " "), timed(name, lambda name=name: tried(getattr(tests, name), faults))) for name in chosen)
+    return judge((name.replace("_", " "), timed(name, getattr(tests, name))) for name in chosen)
 
 
-def tried(test: Callable[[], Iterable[str]], faults: tuple[type[Exception], ...]) -> Iterable[str]:
-    """What is wrong by a test: also one of these faults, if it comes."""
+def tried(test: Wrong | Test) -> list[str]:
+    """What is wrong by a test or with a case, and what ended it before its time."""
+    found: list[str] = []
     try:
-        return test()
-    except faults as fault:
-        return [f"{type(fault).__name__}: {fault}"]
+        wrong = test() if callable(test) else test
+        found.extend(([wrong] if wrong else []) if isinstance(wrong, str) else wrong)
+    except Exception as fault:  # pylint: disable=broad-exception-caught
+        found.append(ended(fault))
+    return found
 
 
-def timed(name: str, test: Callable[[], Iterable[str]]) -> Iterable[str]:
+def ended(fault: Exception) -> str:
+    """What ended a test, and where, in a line. Of a program that failed or was stopped it has the end of what that said."""
+    frames = [it for it in traceback.extract_tb(fault.__traceback__) if it.filename.startswith(HERE) and os.path.basename(it.filename) not in RUNNERS]
+    way = ", ".join(f"{os.path.basename(it.filename)}:{it.lineno} {it.name}" for it in frames)
+    said = "".join(f"; its {name}: {text[-MOST_LETTERS:]!r}" for name in ("stdout", "stderr") if (text := getattr(fault, name, None)))
+    return f"it ended in {way}: {type(fault).__name__}: {' '.join(str(fault).split())}{said}"
+
+
+def timed(name: str, test: Test) -> list[str]:
     """What is wrong by a test; says how long it took if TIMES is in the environment."""
     begun = time.monotonic()
-    wrong = test()
+    wrong = tried(test)
     if os.environ.get("TIMES"):
         print(f"{time.monotonic() - begun:6.1f} {name}", flush=True)
     return wrong
 
 
-def judge(cases: Iterable[tuple[str, str | Iterable[str]]]) -> tuple[int, int]:
+def judge(cases: Iterable[Case]) -> tuple[int, int]:
     """Says what is wrong with each case. Answers how many are right and how many aren't."""
     passed = failed = 0
-    for name, wrong in cases:
-        lines = ([wrong] if wrong else []) if isinstance(wrong, str) else [*wrong]
+    for name, wrong in whole(cases):
+        lines = tried(wrong)
         passed, failed = passed + (not lines), failed + bool(lines)
         for line in lines:
             print(f"{name}: {line}", flush=True)
     return passed, failed
+
+
+def whole(cases: Iterable[Case]) -> Iterator[Case]:
+    """Cases, and as the last one what ended them before their time: none comes from a generator in which a fault came."""
+    try:
+        yield from cases
+    except Exception as fault:  # pylint: disable=broad-exception-caught
+        yield "the rest isn't run", ended(fault)
 
 
 def skip(what: str, why: str) -> None:
@@ -95,6 +130,25 @@ def skip(what: str, why: str) -> None:
 def names(tests: object) -> list[str]:
     """The names of the tests of an object."""
     return sorted(name for name in vars(type(tests)) if not name.startswith("_"))
+
+
+def copied(folder: str | os.PathLike[str], to: str | os.PathLike[str]) -> None:
+    """Copies a folder of the repository. Tests that run side by side, and the programs that they begin, make and remove files in it at any
+    moment: what git knows or would take is copied, or all but what is built where git knows nothing; and what is gone meanwhile isn't."""
+    asked = subprocess.run(["git", "ls-files", "-z", "--cached", "--others", "--exclude-standard"], cwd=folder, capture_output=True, check=False)
+    for name in [os.fsdecode(it) for it in asked.stdout.split(b"\0") if it] or sources(folder):
+        os.makedirs(os.path.dirname(os.path.join(to, name)), exist_ok=True)
+        with contextlib.suppress(FileNotFoundError):
+            shutil.copy2(os.path.join(folder, name), os.path.join(to, name))
+
+
+def sources(folder: str | os.PathLike[str]) -> list[str]:
+    """The files below a folder but what is built."""
+    found = []
+    for at, folders, files in os.walk(folder):
+        folders[:] = [name for name in folders if name not in BUILT]
+        found += [os.path.relpath(os.path.join(at, name), folder) for name in files]
+    return found
 
 
 class Folder:
@@ -112,7 +166,7 @@ class Folder:
 
     def _run(self, program: str, *words: str, **how: Any) -> subprocess.CompletedProcess:
         """What a program does with these words."""
-        given: dict[str, Any] = {"capture_output": True, "encoding": "utf-8", "timeout": 100} | how
+        given: dict[str, Any] = {"capture_output": True, "encoding": "utf-8", "timeout": PATIENCE} | how
         return subprocess.run([program, *words], cwd=self._folder, check=False, **given)
 
     def _short_of_memory(self, name: str, sizes: range, *words: str, writes_early: bool = False) -> list[str]:
@@ -139,7 +193,7 @@ def run_parts(usage: str, words: list[str], parts: Sequence[Callable[[str, str],
         if strange := {*words[1:]} - {name for it in them for name in names(it)}:
             print(f"{usage.partition(' ')[0]}: there is no test {min(strange)}", file=sys.stderr)
             return 2
-        counts = [run(it, (AssertionError,), only=words[1:]) for it in them]
+        counts = [run(it, only=words[1:]) for it in them]
     return counted(*map(sum, zip(*counts)))
 
 

@@ -2,6 +2,7 @@
 
 from __future__ import annotations
 
+import operator
 import random
 import re
 import unicodedata
@@ -61,7 +62,7 @@ def plain_text(text: str) -> str:
 def rows_in(line: str, language: str) -> list[Row]:
     """The rows of a line: it has constructs, and what is said of each."""
     constructs, _, says = line.partition("\t")
-    return [Row(looks, behind, language, says.lstrip("^;")) for looks, _, behind in (construct.partition("'") for construct in constructs.split(" "))]
+    return [Row(looks, behind, language, says.lstrip("^;*+")) for looks, _, behind in (construct.partition("'") for construct in constructs.split(" "))]
 
 
 def block(random_: random.Random, margin: str, unit: str, is_own_line: bool, depth: int) -> list[str]:
@@ -167,6 +168,115 @@ def swept(random_: random.Random) -> tuple[str, bool]:
     on = random_.choice((f"d += {step};", f"d = d + {step};", f"d = (d + {step}) % 360;", f"d -= {step};"))
     seen = {degree for look in (0, step) for degree in range(look - resolution, look + resolution + 1)}
     return f"main() {{\n  int d;\n  while (1) {{\n    cannon(d, scan(d, {resolution}));\n    {on}\n  }}\n}}\n", not seen >= {*range(step)}
+
+
+TESTS = {"<": operator.lt, "<=": operator.le, ">": operator.gt, ">=": operator.ge, "==": operator.eq, "!=": operator.ne}
+# The numbers that conditions compare with, and all that tell these apart.
+COMPARED, VALUES = range(10), range(-1, 11)
+
+
+def chained(random_: random.Random) -> tuple[str, list[str]]:
+    """A robot of conditions, each the first thing in a branch of the one before; and the place of the first that no value passes which comes to
+    it, if there is one: then it is the last."""
+    lines, come, never = ["main() {", "  int a, b;", "  a = rand(10); b = rand(10);", "  while (1)"], {"a": {*VALUES}, "b": {*VALUES}}, list[str]()
+    for depth in range(random_.randrange(2, 6)):
+        name, sign, number, is_else = random_.choice("aaab"), random_.choice([*TESTS]), random_.choice(COMPARED), random_.random() < 0.6
+        passed = {value for value in come[name] if TESTS[sign](value, number)}
+        indent = 2 * depth + 4
+        if not passed:
+            never.append(f"{len(lines) + 1}:{indent + 7}")
+        if not passed or not come[name] - passed:
+            is_else = False
+        lines.append(f"{' ' * indent}if ({name} {sign} {number})" + (" drive(9, 50); else" if is_else else ""))
+        if not passed:
+            break
+        come[name] = come[name] - passed if is_else else passed
+    return "\n".join([*lines, "    drive(0, 50);", "}"]) + "\n", never
+
+
+def counting(random_: random.Random) -> tuple[str, bool]:
+    """A robot that counts in the turns of a loop and compares that with a number; and whether it begins anew in each turn, so that it never
+    gets there."""
+    first, step, times, number = random_.randrange(4), random_.randrange(1, 4), random_.randrange(1, 4), random_.randrange(12)
+    on = [random_.choice(("n++;", "++n;")) if step == 1 and random_.random() < 0.5 else random_.choice((f"n += {step};", f"n = n + {step};"))
+          for _ in range(times)]
+    sign = random_.choice((">", ">=", "=="))
+    where = random_.choice(("inside", "inside", "before", "behind", "looped"))
+    begin, steps, asked = f"n = {first};", "\n    ".join(f"if (damage() > {at}) {it}" for at, it in enumerate(on)), f"if (n {sign} {number}) drive(0, 50);"
+    inside = {"inside": [begin, steps, asked], "before": [steps, asked], "behind": [asked, steps, begin],
+              "looped": [begin, f"while (damage() > 50) {{ {' '.join(on)} }}", asked]}[where]
+    lines = ["main() {", "  int n;", *([f"  {begin}"] if where == "before" else []), "  while (1) {", *(f"    {it}" for it in inside), "  }", "}"]
+    return "\n".join(lines) + "\n", where == "inside" and not TESTS[sign](first + step * times, number) and number >= first + step * times
+
+
+def turned(random_: random.Random) -> tuple[str, bool]:
+    """A robot that looks, changes what it looks to, and shoots; and whether each shot at what a look saw goes to another degree than that look,
+    whatever the damage is."""
+    step = random_.randrange(1, 30)
+    on = random_.choice((f"d += {step};", f"d = d + {step};", f"d = (d + {step}) % 360;"))
+    # a step is a statement, and what it adds to the degree in each of two runs: with little damage, and with much; or a look
+    steps = {"none": [], "step": [(on, step, step)], "back": [(on, step, step), (f"d -= {step};", -step, -step)], "up": [("d++;", 1, 1)],
+             "branch": [(f"if (damage() > 50) {on}", 0, step)], "nobody": [(f"if (r == 0) {on}", 0, 0)],
+             "again": [(on, step, step), ("r = scan(d, 10);", None, None)]}
+    others = random_.choice(([], [(f"e += {step};", 0, 0), ("drive(e, 50);", 0, 0)]))
+    between = others + steps[random_.choice([*steps])] + random_.choice(([], others))
+    ways = [sum_behind_look([it[run] for it in between]) for run in (1, 2)]
+    test = random_.choice(("if (r > 40) ", "if (r) ", "if (r > 40 && r < 700) ", ""))
+    lines = ["r = scan(d, 10);", *(it[0] for it in between), f"{test}cannon(d, r);", f"d += {random_.randrange(9)};"]
+    declared = random_.choice(("main() {\n  int d, e, r;\n", "int d, e, r;\nmain() {\n"))
+    return declared + "  while (1) {\n    " + "\n    ".join(lines) + "\n  }\n}\n", 0 not in ways
+
+
+def sum_behind_look(steps: list[int | None]) -> int:
+    """What steps add up to behind the last look among them."""
+    last = max((at for at, it in enumerate(steps) if it is None), default=-1)
+    return sum(it or 0 for it in steps[last + 1:])
+
+
+def nearest(random_: random.Random) -> tuple[str, bool]:
+    """A robot that searches for the least range of a few looks; and whether a look that saw nobody is taken for the nearest one."""
+    less = random_.choice(("r < best", "best > r", "r <= best", "best >= r"))
+    first = random_.choice((9999, 2000, 800))
+    more, before, is_left_out = random_.choice((
+        ("{}", "", False), ("{} && d != 90", "", False), ("d != 90 && {}", "", False), ("r > 0 && {}", "", True), ("r && {}", "", True),
+        ("{} && r != 0", "", True), ("{} && r > 40", "", True), ("{}", "if (r == 0) r = 9999;\n    ", True), ("{}", "if (r > 0)\n      ", True)))
+    keep = random_.choice(("best = r; at = d;", "at = d; best = r;", "best = r;"))
+    inner = random_.choice(("{ @ }", "{ if (r > 0) { @ } }")) if random_.random() < 0.3 else "{ @ }"
+    looks = [(0, 300), (90, 0), (180, 0), (270, 200)]
+    best, is_taken = first, False
+    for degree, range_ in looks:
+        passes = not (range_ == 0 and (is_left_out or "if" in inner)) and not (degree == 90 and "d != 90" in more)
+        if passes and (range_ <= best if "=" in less else range_ < best):
+            best, is_taken = range_, is_taken or range_ == 0
+    test = f"if ({more.format(less)}) {inner.replace('@', keep)}"
+    return f"""main() {{
+  int d, r, best, at;
+  while (1) {{
+    best = {first};
+    d = 0;
+    while (d < 360) {{
+      r = scan(d, 10);
+      {before}{test}
+      d = d + 20;
+    }}
+    if (best > 0) cannon(at, best);
+  }}
+}}
+""", is_taken
+
+
+def renewed(random_: random.Random) -> tuple[str, bool]:
+    """A robot that compares, turn for turn, what a question answers with an earlier answer; and whether that is never renewed though the loop
+    never ends. A place is left for good, so that only the same one is asked for."""
+    question, sign = random_.choice(("damage()", "loc_x()", "loc_y()", "speed()")), random_.choice([*TESTS])
+    test = random_.choice((f"{question} {sign} old", f"old {sign} {question}"))
+    where, loop = random_.choice(("nowhere", "nowhere", "branch", "end", "begin", "twice", "other")), random_.choice(("1", "1", "damage() < 50"))
+    turn = {"branch": f"if ({test}) {{ drive(9, 40); old = {question}; }}", "end": f"if ({test}) drive(9, 40); old = {question};",
+            "begin": f"old = {question}; cannon(9, 90); if ({test}) drive(9, 40);"}.get(where, f"if ({test}) drive(9, 40);")
+    before = {"twice": f"old = {question}; drive(0, 9); old = {question};", "other": "old = rand(9);"}.get(where, f"old = {question};")
+    inner = random_.choice((turn, f"while (speed() > 0) {{ {turn} }}"))
+    stays = where == "nowhere" and loop == "1" and (question == "damage()" or sign in ("==", "!="))
+    return f"main() {{\n  int old;\n  {before}\n  while ({loop}) {{\n    cannon(0, 90);\n    {inner}\n  }}\n  while (1) drive(0, 9);\n}}\n", stays
 
 
 # Sources with a comment that is no comment as it was meant, whose place is marked, and what is said of the line on which it begins.

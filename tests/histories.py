@@ -9,6 +9,7 @@ from collections import defaultdict
 from dataclasses import dataclass
 from pathlib import Path
 
+from harness import PATIENCE
 from listing_machine import USED, Listing, Machine, read
 
 HURTS = ("hurt", "wall", "collision")
@@ -134,7 +135,7 @@ class History:
 
 def told(program: str, *words: str) -> str:
     """What a program writes."""
-    ran = subprocess.run([program, *words], capture_output=True, text=True, timeout=600, check=True)
+    ran = subprocess.run([program, *words], capture_output=True, text=True, timeout=PATIENCE, check=True)
     return ran.stdout
 
 
@@ -150,7 +151,7 @@ def hits_of(match: Match, trace: str, debug: str) -> set[int]:
     bursts = [(int(row[0]), int(row[3]), int(row[4])) for row in events if row[2] == "burst" and row[1] == str(match.robot)]
     deaths = {row[1]: int(row[0]) for row in events if row[2] == "death"}
     commands = "".join(f"at {cycle}\n" for cycle, _, _ in bursts)
-    ran = subprocess.run([debug, *match.command()], input=commands, capture_output=True, text=True, timeout=600, check=True)
+    ran = subprocess.run([debug, *match.command()], input=commands, capture_output=True, text=True, timeout=PATIENCE, check=True)
     hits = set()
     for (cycle, x, y), answer in zip(bursts, ran.stdout.split("\n\n")):
         robots = [row.split("\t")[1:4] for row in answer.splitlines() if row.startswith("robot\t")]

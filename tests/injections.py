@@ -5,6 +5,7 @@ from __future__ import annotations
 import os
 import subprocess
 
+from harness import PATIENCE
 from packages import lacking
 
 
@@ -20,4 +21,4 @@ def run(fault: str, path: str, program: str, *words: str) -> subprocess.Complete
     """Runs a program for which calls on the file of an absolute path fail: `read:error=EINTR:when=1` is the first read."""
     call = fault.split(":")[0]
     tracer = ["strace", "-f", "-qq", "-o", os.devnull, "-P", os.path.realpath(path), "-e", f"trace={call}", "-e", f"inject={fault}"]
-    return subprocess.run([*tracer, program, *words], capture_output=True, text=True, check=False, timeout=60)
+    return subprocess.run([*tracer, program, *words], capture_output=True, text=True, check=False, timeout=PATIENCE)

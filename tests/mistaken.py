@@ -8,7 +8,8 @@ import subprocess
 from dataclasses import dataclass, field
 from functools import reduce
 
-SECONDS = 60
+from harness import PATIENCE
+
 ESCAPES = {"n": "\n", "r": "\r", "t": "\t", "s": " ", "\\": "\\"}
 Change = tuple[str, str]
 
@@ -143,7 +144,7 @@ class Judge:
         """What is said of a source, with its warnings."""
         with open(os.path.join(self._folder, "a.r"), "wb") as file:
             file.write(source.encode())
-        ran = subprocess.run([self._why, "--lint", "a.r"], cwd=self._folder, capture_output=True, check=False, timeout=SECONDS)
+        ran = subprocess.run([self._why, "--lint", "a.r"], cwd=self._folder, capture_output=True, check=False, timeout=PATIENCE)
         return (ran.stdout + ran.stderr).decode(errors="replace")
 
     def misstated(self, mistake: Mistake) -> str:

@@ -11,9 +11,10 @@ from concurrent.futures import ThreadPoolExecutor
 from pathlib import Path
 from typing import Any, Callable, Iterable
 
+from harness import PATIENCE
+
 TOP = Path(__file__).resolve().parent.parent
 # Nothing takes so long but a hang.
-PATIENCE = 300
 Message = dict[str, Any]
 
 

@@ -13,13 +13,12 @@ import subprocess
 import sys
 import threading
 import time
-import traceback
+from functools import partial
 from types import TracebackType
 from typing import Any, Callable, Generic, Iterable, Iterator, Protocol, Sequence, TypeVar
 
-from harness import judge, names, timed
+from harness import judge, names, timed, tried
 
-HERE = os.path.dirname(os.path.abspath(__file__))
 # for a test, for all that fail in a part of tests, and for a browser to end by itself; on a machine that has much else to do
 SECONDS, SECONDS_OF_FAILURES, SECONDS_OF_AN_END = 900, 2400, 30
 # after the limit is over, how often what was begun meanwhile is killed
@@ -91,13 +90,6 @@ def limit(seconds: float) -> Iterator[threading.Event]:
         thread.join()
 
 
-def ended(fault: Exception) -> str:
-    """What ended a test, and where, in a line."""
-    frames = [it for it in traceback.extract_tb(fault.__traceback__) if it.filename.startswith(HERE) and it.filename != __file__]
-    way = ", ".join(f"{os.path.basename(it.filename)}:{it.lineno} {it.name}" for it in frames)
-    return f"it ended in {way}: {type(fault).__name__}: {fault}"
-
-
 def nothing(_browser: Any) -> list[str]:
     """What a browser says beside that nobody asks."""
     return []
@@ -156,7 +148,7 @@ class Tries(Generic[T]):
                 return getattr(tests, name)()  # type: ignore[no-any-return]
             return self.wrong(f"{part}: {name.replace('_', ' ')}", test)
 
-        return judge((name.replace("_", " "), timed(name, lambda name=name: wrong(name))) for name in names(tests))
+        return judge((name.replace("_", " "), timed(name, partial(wrong, name))) for name in names(tests))
 
     def _tried(self, test: Callable[[T], Iterable[str]]) -> list[str]:
         """What is wrong by a test in the browser that is there; one in which something is doesn't stay."""
@@ -173,12 +165,12 @@ class Tries(Generic[T]):
 
     def _found(self, test: Callable[[T], Iterable[str]]) -> list[str]:
         """What is wrong by a test, what the browser says beside, and what ended the test before its time."""
-        try:
+        def found() -> list[str]:
             if not self._browsers:
                 self._browsers.append(self._open.enter_context(self._begin()))
             return [*test(self._browsers[0]), *self._said(self._browsers[0])]
-        except Exception as fault:  # pylint: disable=broad-exception-caught
-            return [ended(fault)]
+
+        return tried(found)
 
     def _end(self) -> None:
         """Ends the browser. That one which is killed, or doesn't end, can't be asked to is no fault."""

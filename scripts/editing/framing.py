@@ -17,6 +17,7 @@ MOST_BYTES = 64 << 20
 MOST_HEAD = 1 << 13
 
 
+ENCODER = json.JSONEncoder(separators=(",", ":"))
 # There is no message that is whole: null is one.
 NOTHING = object()
 
@@ -98,7 +99,7 @@ def refuse(word: str) -> Any:
 
 def encoded(value: Any) -> bytes:
     """A value as JSON."""
-    return json.dumps(value, ensure_ascii=True, separators=(",", ":")).encode("ascii")
+    return ENCODER.encode(value).encode("ascii")
 
 
 def framed(body: bytes) -> bytes:

@@ -3,16 +3,21 @@
 from __future__ import annotations
 
 import re
+from functools import lru_cache
 from typing import Any
 
 from .documents import Text
 from .fields import Fields
+from .framing import encoded
 from .knowing import Known, Name, Row
 
 ERROR, WARNING = 1, 2
 SOURCE = "crobots"
+# how a diagnostic begins as JSON
+RANGE = b'{"range":{"start":{"line":%d,"character":%d},"end":{"line":%d,"character":%d}}'
 PAGES = {ERROR: "language.md#diagnostics", WARNING: "mistakes.md"}
 Diagnostic = dict[str, Any]
+Parts = tuple[str, str, str, str | None, str | None, str | None]
 
 
 class Refusal(Exception):
@@ -20,11 +25,32 @@ class Refusal(Exception):
 
 
 def diagnostic(text: Text, row: Row, pages: str) -> Diagnostic:
-    """A fault or a warning as the protocol has it; its message ends with the hint."""
-    severity = WARNING if row["row"] == "warning" else ERROR
-    lines = [row["message"], *(f"{name}: {row[name]}" for name in ("met", "fits", "hint") if row.get(name))]
-    return {"range": text.range(row["start"], row["end"]), "severity": severity, "code": row["code"], "source": SOURCE,
-            "codeDescription": {"href": f"{pages}/{PAGES[severity]}"}, "message": "\n".join(lines)}
+    """A fault or a warning as the protocol has it."""
+    return {"range": text.range(row["start"], row["end"])} | said(*parts(row), pages)
+
+
+def written(text: Text, row: Row, pages: str) -> bytes:
+    """The same as JSON. Of a thousand warnings most say what others say."""
+    start, end = text.range(row["start"], row["end"]).values()
+    return RANGE % (start["line"], start["character"], end["line"], end["character"]) + ending(parts(row), pages)
+
+
+def parts(row: Row) -> Parts:
+    """What is said of a fault or a warning."""
+    return row["row"], row["code"], row["message"], row.get("met"), row.get("fits"), row.get("hint")
+
+
+@lru_cache(maxsize=1000)
+def ending(those: Parts, pages: str) -> bytes:
+    """What a diagnostic has beside its range, as the end of its JSON."""
+    return b"," + encoded(said(*those, pages))[1:]
+
+
+def said(row: str, code: str, message: str, met: str | None, fits: str | None, hint: str | None, pages: str) -> Diagnostic:
+    """What a diagnostic has beside its range; its message ends with the hint."""
+    severity = WARNING if row == "warning" else ERROR
+    lines = [message, *(f"{name}: {part}" for name, part in (("met", met), ("fits", fits), ("hint", hint)) if part)]
+    return {"severity": severity, "code": code, "source": SOURCE, "codeDescription": {"href": f"{pages}/{PAGES[severity]}"}, "message": "\n".join(lines)}
 
 
 def actions(text: Text, uri: str, known: Known, first: int, last: int, pages: str) -> list[dict[str, Any]]:

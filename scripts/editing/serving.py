@@ -286,7 +286,7 @@ class Server:
             send(failure(asked.number, FAILED, why))
 
     def _diagnostic(self, document: Document, row: dict[str, Any]) -> bytes:
-        return encoded(mending.diagnostic(document.text, row, self._pages))
+        return mending.written(document.text, row, self._pages)
 
     def _ask(self, asked: Asked, document: Document) -> None:
         """Answers a request, or keeps it until the text is known."""

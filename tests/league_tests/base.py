@@ -11,6 +11,8 @@ import subprocess
 from contextlib import closing
 from typing import Any
 
+from harness import PATIENCE
+
 HERE = os.path.dirname(os.path.abspath(__file__))
 LEAGUE = os.path.join(HERE, "..", "..", "scripts", "league")
 # A robot that shoots itself at once, so it is dead in cycle 90; one that stands still; and one that shoots itself in
@@ -73,7 +75,7 @@ class Base:
     def ran(self, *words: str, **more: Any) -> subprocess.CompletedProcess[str]:
         """Runs the script in the folder."""
         files = {"stdin": subprocess.DEVNULL, "stdout": subprocess.PIPE, "stderr": subprocess.PIPE}
-        options: dict[str, Any] = {**files, "cwd": self._folder, "env": self._environment, "timeout": 300, **more}
+        options: dict[str, Any] = {**files, "cwd": self._folder, "env": self._environment, "timeout": PATIENCE, **more}
         return subprocess.run([LEAGUE, *words], text=True, check=False, **options)
 
     def _begun(self, *words: str) -> subprocess.Popen[bytes]:
@@ -128,7 +130,7 @@ class League:
         return it.stdout
 
     def rows(self, query: str) -> list[tuple[Any, ...]]:
-        with closing(sqlite3.connect(os.path.join(self.folder, "league.db"))) as database:
+        with closing(sqlite3.connect(os.path.join(self.folder, "league.db"), timeout=PATIENCE)) as database:
             return database.execute(query).fetchall()
 
     def battles(self) -> list[tuple[Any, ...]]:

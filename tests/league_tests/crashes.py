@@ -2,11 +2,12 @@
 
 from __future__ import annotations
 
-
 import random
 import signal
 import subprocess
 import time
+
+from harness import PATIENCE
 
 from .base import LEAGUE, Base, League
 
@@ -58,7 +59,7 @@ class Crashes(Base):
         child = self._begun("play", it.folder, "-j1", "--piece=20")
         wrong = []
         try:
-            until = time.monotonic() + 600
+            until = time.monotonic() + PATIENCE
             while not it.battles() and time.monotonic() < until:
                 time.sleep(0.02)
             ran = it.ran("play")

@@ -7,6 +7,8 @@ import random
 import subprocess
 from typing import Any
 
+from harness import PATIENCE
+
 from .base import BAD, IDLE, SHOOTER, Base, League, read, write
 
 
@@ -209,4 +211,4 @@ class Handing(Base):
     def _bytes(self, it: League, day: str) -> subprocess.CompletedProcess[bytes]:
         """What a hand-in writes, which may have any bytes."""
         words: list[Any] = [os.path.join(os.path.dirname(__file__), "..", "..", "scripts", "league"), "take-in", it.folder, self.at("any-inbox"), day]
-        return subprocess.run(words, cwd=self._folder, env=self._environment, stdin=subprocess.DEVNULL, capture_output=True, check=False, timeout=120)
+        return subprocess.run(words, cwd=self._folder, env=self._environment, stdin=subprocess.DEVNULL, capture_output=True, check=False, timeout=PATIENCE)

@@ -6,6 +6,7 @@ import os
 import random
 import re
 import sqlite3
+import subprocess
 from contextlib import closing
 
 from tournaments.records import checksum
@@ -131,6 +132,30 @@ class Righting(Base):
         said = it.run("history")
         return wrong + [f"the history lacks {it}" for it in ("entry 4 is of 2026-03-02: a typing error",
                         "entry 5 was taken back: not his", "end 1 is of 2026-03-04: a typing error") if it not in said]
+
+    def a_day_is_that_of_the_clock_here(self) -> list[str]:
+        """Without --day each command writes down the day that `date` says, also where it is yesterday or tomorrow in Greenwich: at any
+        time one of these zones has another day."""
+        wrong = []
+        for zone in ("EAST-14", "WEST+12"):
+            self._environment["TZ"] = zone
+            try:
+                days = {self._date()}
+                name = f"clock{zone[:4]}"
+                it = League(self, name)
+                statuses = [it.ran(*words).returncode for words in (("add", "a.r", "b.r", "--future"), ("play", "-j1", "--quiet"), ("season", "end"), ("season", "begin", "two"))]
+                # a day may end meanwhile
+                days.add(self._date())
+            finally:
+                del self._environment["TZ"]
+            found = {day for (day,) in it.rows("SELECT day FROM entry UNION SELECT day FROM battle UNION SELECT day FROM ending UNION SELECT begun FROM season WHERE number = 2")}
+            if statuses != [0] * 4 or not found or not found <= days:
+                wrong.append(f"{zone}: {statuses}, {sorted(found)}, and not {sorted(days)}")
+        return wrong
+
+    def _date(self) -> str:
+        """The day by the program `date`."""
+        return subprocess.run(["date", "+%F"], env=self._environment, capture_output=True, text=True, check=True).stdout.strip()
 
     def names_that_rules_have(self) -> list[str]:
         """An entry can't be taken back if the rules name its robot."""

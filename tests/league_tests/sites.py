@@ -13,6 +13,7 @@ import zipfile
 from typing import Callable
 
 from catalog.commands import packages_of
+from harness import copied
 from leagues.words import Words
 
 from .base import HERE, LEAGUE, Base, League, read, write
@@ -53,7 +54,7 @@ class Sites(Base):
         """It is that of the file beside the installed scripts, of the program that was installed with them alone."""
         top, scripts = self.at("installed"), os.path.join(HERE, "..", "..", "scripts")
         for package in packages_of("league"):
-            shutil.copytree(os.path.join(scripts, package), f"{top}/share/crobots/lib/{package}")
+            copied(os.path.join(scripts, package), f"{top}/share/crobots/lib/{package}")
         os.makedirs(f"{top}/bin")
         for name, path in (("crobots", self._program), ("crobots-league", LEAGUE),
                            ("crobots-tournament", os.path.join(scripts, "tournament"))):

@@ -9,6 +9,8 @@ from dataclasses import dataclass, field
 from pathlib import Path
 from typing import Any
 
+from harness import PATIENCE
+
 # What may stand between two tokens, as far as that says nothing to the compiler.
 GAPS = (" ", " ", "\n", "  ", "\t", " /* while (1) { */ ", "\r\n")
 PLAIN = (";", "a = a + 1;", "drive(a, 50);", "a = (a + 2) * 3;")
@@ -73,6 +75,6 @@ def wrong_places(know: str, folder: Path, draw: random.Random) -> list[str]:
     for number, name in enumerate(names, 1):
         robot.function(number, name)
     path.write_bytes(robot.text.encode())
-    said = subprocess.run([know, str(path)], capture_output=True, text=True, check=False, timeout=60).stdout
+    said = subprocess.run([know, str(path)], capture_output=True, text=True, check=False, timeout=PATIENCE).stdout
     got = [row for row in map(json.loads, said.splitlines()) if row["row"] in ("function", "loop")]
     return [] if got == robot.rows else [f"{got}, not {robot.rows}, of\n{robot.text}"]

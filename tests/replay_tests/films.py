@@ -12,13 +12,13 @@ import tempfile
 from typing import Any
 
 import packages
+from harness import PATIENCE
 from replays.films import Film
 
 from .made import BEGIN, END, FILM, INSIDE, tabbed
 
 HERE = os.path.dirname(os.path.abspath(__file__))
 PLAYER = os.path.join(HERE, "..", "..", "web", "player")
-SECONDS = 100
 READ = {
     "first": 0, "cycles": 300, "goesOn": False,
     "robots": [
@@ -71,7 +71,7 @@ class Films:
         """What the modules make of films that are written with blanks."""
         words = [shutil.which("node") or "node", os.path.join(HERE, "films.mjs"), self._place.name]
         tabs = json.dumps([job | {"text": tabbed(job["text"])} for job in jobs])
-        ran = subprocess.run(words, input=tabs, capture_output=True, text=True, check=True, timeout=SECONDS)
+        ran = subprocess.run(words, input=tabs, capture_output=True, text=True, check=True, timeout=PATIENCE)
         return list(json.loads(ran.stdout))
 
     def _answer(self, film: str, **more: Any) -> Any:
@@ -163,6 +163,20 @@ class Films:
         """A shot in cycle 15 is fired before the first update, one in cycle 16 after it; at range 0 each bursts in the next."""
         bursts = self._film(BEGIN + "15 1 shot 0 0 5000 5000\n16 1 shot 0 0 5000 5000\n" + END)["shots"]["burst"]
         return [] if bursts == [15, 30] else [f"{bursts}"]
+
+    def a_shot_whose_burst_the_film_lacks(self) -> list[str]:
+        """It bursts in the first update in which its missile has gone as far as it is to go, by 50 metres an update: ranges beside each
+        multiple of that, fired in the cycles round an update."""
+        shots = [(cycle, metres) for cycle in (1, 14, 15, 16) for metres in sorted({*range(0, 700, 50), *range(1, 701, 50), *range(49, 700, 50), 700})]
+        film = BEGIN + "".join(f"{cycle} 1 shot 0 {metres} 0 5000\n" for cycle, metres in shots) + END
+        found = self._film(film)["shots"]["burst"]
+        wanted = []
+        for cycle, metres in shots:
+            update, gone = next(it for it in range(15, 900, 15) if it >= cycle), 50
+            while gone < metres:
+                update, gone = update + 15, gone + 50
+            wanted.append(update)
+        return [f"{shot}: {got}, not {right}" for shot, got, right in zip(shots, found, wanted) if got != right][:5]
 
     def values_outside_their_limits(self) -> list[str]:
         """The field takes angles round the circle, resolutions from 0 to 10, and ranges from 0 to 700 metres."""

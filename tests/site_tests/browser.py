@@ -11,7 +11,7 @@ from dataclasses import replace
 from functools import partial
 from typing import Callable, Iterator
 
-from browsers import Browser, chromium, tries
+from browsers import SECONDS, Browser, chromium, tries
 from harness import skip
 from packages import lacking
 from results.verdicts import Verdict
@@ -157,8 +157,9 @@ def bad_addresses(browser: Browser, site: str) -> Results:
 
 
 def has_text(browser: Browser, wanted: str) -> bool:
-    """Waits, five seconds at most, for a text in the main part."""
-    for _ in range(100):
+    """Waits for a text in the main part."""
+    end = time.monotonic() + SECONDS
+    while time.monotonic() < end:
         if wanted in browser.value("document.querySelector('main').textContent"):
             return True
         time.sleep(0.05)
@@ -208,8 +209,9 @@ def the_dense_map(browser: Browser, place: str) -> Results:
 
 
 def has_heading(browser: Browser, wanted: str) -> bool:
-    """Waits, five seconds at most, for a page with this heading. A page that is left meanwhile answers nothing."""
-    for _ in range(50):
+    """Waits for a page with this heading. A page that is left meanwhile answers nothing."""
+    end = time.monotonic() + SECONDS
+    while time.monotonic() < end:
         with contextlib.suppress(RuntimeError):
             if browser.value("document.querySelector('h1').textContent") == wanted:
                 return True

@@ -7,6 +7,8 @@ import re
 import subprocess
 from pathlib import Path
 
+from harness import PATIENCE
+
 TOP = Path(__file__).resolve().parent.parent.parent
 SCRIPT = TOP / "scripts" / "step"
 ROBOTS = TOP / "robots"
@@ -44,7 +46,7 @@ class Base:
     def _run(self, commands: str | bytes, *words: str, path: str = "") -> subprocess.CompletedProcess[bytes]:
         given = commands.encode() if isinstance(commands, str) else commands
         return subprocess.run([SCRIPT, *words], cwd=self._folder, env=self._environment(path), input=given, capture_output=True,
-                              timeout=600, check=False)
+                              timeout=PATIENCE, check=False)
 
     def _answers(self, commands: list[str], *words: str) -> list[list[str]]:
         """The lines that answer each command; the first ones are of the start."""

@@ -8,7 +8,7 @@ import subprocess
 import time
 from pathlib import Path
 
-from harness import is_usage
+from harness import PATIENCE, is_usage
 
 from .base import SCRIPT, USAGE, Base, differ
 
@@ -90,7 +90,7 @@ class Refusals(Base):
         copy = os.path.join(self._folder, "copy", "scripts")
         os.makedirs(copy, exist_ok=True)
         ran = subprocess.run(f"cp -r '{SCRIPT}' '{SCRIPT.parent}/stepping' '{SCRIPT.parent}/tools' '{copy}' && '{copy}/step' looker.r",
-                             shell=True, cwd=self._folder, env=os.environ | {"PATH": os.defpath}, capture_output=True, timeout=100, check=False)
+                             shell=True, cwd=self._folder, env=os.environ | {"PATH": os.defpath}, capture_output=True, timeout=PATIENCE, check=False)
         return differ((ran.stdout, ran.stderr, ran.returncode), (b"", SAID + b"crobots-debug is not there, or is no program; README.md says how it is built\n", 2))
 
     def output_that_nobody_takes(self) -> list[str]:
@@ -100,7 +100,7 @@ class Refusals(Base):
             script = f"(sleep 1; yes s | head -n 200) | ('{SCRIPT}' looker.r 2>said; echo $? >status) {way}"
             if way != "| true":
                 script = f"(echo s; echo s) | '{SCRIPT}' looker.r 2>said {way}; echo $? >status"
-            subprocess.run(["sh", "-c", script], cwd=self._folder, env=self._environment(), timeout=100, check=False)
+            subprocess.run(["sh", "-c", script], cwd=self._folder, env=self._environment(), timeout=PATIENCE, check=False)
             got = [Path(self._folder, name).read_text(encoding="ascii") for name in ("said", "status")]
             wrong += differ((way, *got), (way, "", "141\n") if way == "| true" else (way, "crobots-step: cannot write\n", "4\n"))
         return wrong
@@ -114,12 +114,13 @@ class Refusals(Base):
             child.stdin.flush()
             lines = [child.stdout.readline() for _ in range(4)]
             os.killpg(child.pid, signal.SIGINT)
-            wrong = differ((child.wait(20), child.stderr.read()), (130, b""))
+            wrong = differ((child.wait(PATIENCE), child.stderr.read()), (130, b""))
         return wrong + differ(lines[2], b"(step) step\n") + self._left(child.pid)
 
     def _left(self, group: int) -> list[str]:
-        """Processes of a group that go on after a second."""
-        for _ in range(20):
+        """Processes of a group that go on."""
+        end = time.monotonic() + PATIENCE
+        while time.monotonic() < end:
             try:
                 os.killpg(group, 0)
             except ProcessLookupError:

@@ -14,13 +14,12 @@ from pathlib import Path
 from .base import ROBOTS, SCRIPT, Base, differ
 
 sys.path.append(str(SCRIPT.parent))
-from harness import skip  # noqa: E402
+from harness import PATIENCE, skip  # noqa: E402
 from packages import lacking  # noqa: E402
 from stepping.moments import Call, Moment, Question, Robot  # noqa: E402
 from stepping.screens import Piece, filled, screen, width  # noqa: E402
 from stepping.sources import Source  # noqa: E402
 
-SECONDS = 30
 NUMBERS = itertools.count()
 
 
@@ -151,7 +150,7 @@ class Terminals(Base):
             return []
         line = f"{SCRIPT} -l100 looker.r"
         ran = subprocess.run(["script", "-qec", line, "/dev/null"], cwd=self._folder, env=self._environment() | {"TERM": "dumb"}, input=b"print seen\nquit\n",
-                             capture_output=True, timeout=100, check=False)
+                             capture_output=True, timeout=PATIENCE, check=False)
         return differ(b"seen = 0\r\n" in ran.stdout, True)
 
 
@@ -162,7 +161,7 @@ class Tmux:
         # a server that was told to end may not have ended yet
         self._socket = os.path.join(folder, f"tmux{next(NUMBERS)}")
         self._environment = environment
-        line = f"trap : INT; '{SCRIPT}' -l9000 deep.r '{ROBOTS}/runner.r'; echo status $?; exec sleep {SECONDS * 4}"
+        line = f"trap : INT; '{SCRIPT}' -l9000 deep.r '{ROBOTS}/runner.r'; echo status $?; exec sleep {PATIENCE * 4}"
         self._tmux("-f", "/dev/null", "new-session", "-d", "-x", str(columns), "-y", str(rows), "-c", folder, f"exec sh -c {quoted(line)}")
 
     def __enter__(self) -> Tmux:
@@ -172,7 +171,7 @@ class Tmux:
         self._tmux("kill-server")
 
     def _tmux(self, *words: str) -> str:
-        return subprocess.run(["tmux", "-S", self._socket, *words], env=self._environment, capture_output=True, text=True, timeout=60, check=True).stdout
+        return subprocess.run(["tmux", "-S", self._socket, *words], env=self._environment, capture_output=True, text=True, timeout=PATIENCE, check=True).stdout
 
     def child(self) -> str:
         """The number of the process of the script."""
@@ -194,7 +193,7 @@ class Tmux:
 
     def lacks(self, *wanted: str) -> list[str]:
         """Waits until the screen has all texts; answers those that don't come."""
-        end = time.monotonic() + SECONDS
+        end = time.monotonic() + PATIENCE
         while True:
             shown = self._tmux("capture-pane", "-p")
             lacking = [text for text in wanted if text not in shown]

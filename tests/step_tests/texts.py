@@ -7,6 +7,8 @@ import shlex
 import subprocess
 from pathlib import Path
 
+from harness import PATIENCE
+
 from .base import ROBOTS, TOP, Base, differ
 
 MATCH = ["-k4", "-l6000", "--robot", "2", str(ROBOTS / "sweeper.r"), str(ROBOTS / "pilot.r")]
@@ -54,7 +56,7 @@ class Texts(Base):
         return differ(self._last(["goto 3000", "info field"], *MATCH), wanted)
 
     def _traced(self, *words: str) -> list[str]:
-        ran = subprocess.run([self._programs["crobots-trace"], *words, *MATCH], capture_output=True, text=True, timeout=100, check=True)
+        ran = subprocess.run([self._programs["crobots-trace"], *words, *MATCH], capture_output=True, text=True, timeout=PATIENCE, check=True)
         return ran.stdout.splitlines()
 
     def breakpoints(self) -> list[str]:
@@ -113,7 +115,7 @@ class Texts(Base):
         """Runs a command line."""
         words = shlex.split(line)
         assert words[0] == name, line
-        ran = subprocess.run([path, *words[1:]], cwd=self._folder, env=self._environment(), capture_output=True, text=True, timeout=100, check=False)
+        ran = subprocess.run([path, *words[1:]], cwd=self._folder, env=self._environment(), capture_output=True, text=True, timeout=PATIENCE, check=False)
         assert (ran.returncode, ran.stderr) == (0, ""), f"{line}: {ran}"
         return ran.stdout
 

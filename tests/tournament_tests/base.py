@@ -10,6 +10,8 @@ import re
 import subprocess
 from typing import Any
 
+from harness import PATIENCE
+
 TOP = os.path.normpath(os.path.join(os.path.dirname(os.path.abspath(__file__)), "..", ".."))
 SCRIPTS = os.path.join(TOP, "scripts")
 ROBOTS = os.path.join(TOP, "robots")
@@ -31,7 +33,6 @@ rank  robot  played  won  tied  lost  points
 """
 FORMS: tuple[list[str], ...] = ([], ["--csv"], ["--matrix"], ["--long"], ["--json"])
 # Tests run side by side, on a machine that may have other work.
-PATIENCE = 600
 Ran = subprocess.CompletedProcess[str]
 
 

@@ -14,6 +14,7 @@ import subprocess
 import termios
 from typing import Iterator
 
+from harness import PATIENCE
 from tournaments import progress
 
 from .base import TABLE, Base, unrated
@@ -45,7 +46,8 @@ class Told(Base):
         for _ in range(4):
             it.glance()
         wrong = [] if log == ["tournament: 0 of 10 series, 10 left\n"] * 2 else [f"{log}"]
-        self._program_of("slow", f'case $1 in -c) exit 0;; esac; sleep 0.7; exec {shlex.quote(self._program)} "$@"')
+        once = shlex.quote(self._at("once"))
+        self._program_of("slow", f'case $1 in -c) exit 0;; esac; [ -e {once} ] || sleep 5; touch {once}; exec {shlex.quote(self._program)} "$@"')
         shown = self._on_a_terminal(80, "--crobots", "./slow", "-m2")
         return wrong + ([] if shown.startswith("\r0 of 12 series, 12 left\r") else [f"{shown!r:.300}"])
 
@@ -88,7 +90,7 @@ class Told(Base):
         with self._started("--crobots", "./slowly", "--piece", "1", *WORDS, stderr=theirs) as child:
             os.close(theirs)
             os.close(ours)
-            text, _ = child.communicate(timeout=60)
+            text, _ = child.communicate(timeout=PATIENCE)
         return wrong + ([] if (unrated(text), child.returncode) == (TABLE, 0) else [f"{text} {child.returncode}"])
 
     def a_journal_is_not_what_a_closed_file_writes_to(self) -> list[str]:

@@ -11,6 +11,7 @@ import subprocess
 import time
 
 from catalog.commands import packages_of
+from harness import PATIENCE, copied
 from web_tests.pages import is_in_time
 
 from .base import SCRIPTS, Base, read, write
@@ -37,7 +38,7 @@ class Signals(Base):
                 time.sleep(0.02)
             begun = time.monotonic()
             child.send_signal(number)
-            text, faults = child.communicate(timeout=300)
+            text, faults = child.communicate(timeout=PATIENCE)
             taken = time.monotonic() - begun
             left = [it for it in os.listdir("/proc") if it.isdigit() and session_of(it) == child.pid]
             lines = len(self._lines(journal))
@@ -48,9 +49,9 @@ class Signals(Base):
 
     def a_signal_after_all_was_played(self) -> list[str]:
         """While the table is made, and while records are merged: here modules wait there until the signal comes."""
-        wait = "import time\ndef ratings(*_: object) -> None:\n    print(end='rating', flush=True)\n    time.sleep(9)\n"
+        wait = "import time\ndef ratings(*_: object) -> None:\n    print(end='rating', flush=True)\n    time.sleep(9999)\n"
         for package in packages_of("tournament"):
-            shutil.copytree(os.path.join(SCRIPTS, package), self._at(f"waiting/{package}"))
+            copied(os.path.join(SCRIPTS, package), self._at(f"waiting/{package}"))
         shutil.copy(os.path.join(SCRIPTS, "tournament"), self._at("waiting/tournament"))
         with open(self._at("waiting/tournaments/ratings.py"), "a", encoding="ascii") as module:
             module.write(wait)
@@ -69,17 +70,17 @@ class Signals(Base):
             assert child.stdout
             begun = child.stdout.read(6)
             child.send_signal(signal.SIGINT)
-            text, faults = child.communicate(timeout=300)
+            text, faults = child.communicate(timeout=PATIENCE)
             got = (child.returncode, begun, text, faults)
             wrong += [] if got == (130, "rating", "", said) else [f"{got}, not {said}"]
         return wrong
 
     def a_signal_while_the_modules_are_read(self) -> list[str]:
         """Here they are one that sends the signal."""
-        shutil.copytree(os.path.join(SCRIPTS, "tools"), self._at("early/tools"))
+        copied(os.path.join(SCRIPTS, "tools"), self._at("early/tools"))
         write(self._at("early/tournaments/main.py"), "import os, signal, time\nos.kill(os.getpid(), signal.SIGINT)\ntime.sleep(9)\n")
         shutil.copy(os.path.join(SCRIPTS, "tournament"), self._at("early/tournament"))
-        ran = subprocess.run([self._at("early/tournament")], capture_output=True, text=True, check=False, timeout=20)
+        ran = subprocess.run([self._at("early/tournament")], capture_output=True, text=True, check=False, timeout=PATIENCE)
         return self._answers(ran, "", "tournament: stopped while no series was played\n", 130)
 
     def killed_at_any_instant(self) -> list[str]:

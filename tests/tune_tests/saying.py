@@ -31,6 +31,7 @@ NOTHING = "no difference that these matches could show"
 SIGNED_ZERO = re.compile(r"(?<![\d.])[+-]0(?:\.0+)?(?![\d.])")
 # What a pointer says of a dot: its change, the interval of that, and the verdict.
 DOT = re.compile(r"\d+: ([+-]?[\d.]+) \(([+-]?[\d.]+) to ([+-]?[\d.]+)\), (.*)")
+NUMBER = re.compile(r"[+-]?[\d.]+")
 BEATEN = re.compile(r"(?:better but )?worse than near=(\d+)(?:, turn=(\d+))? by ([\d.]+) to ([\d.]+)")
 
 
@@ -165,6 +166,30 @@ class Saying:
             seen |= there | signs
         return wrong[:5] + ([] if seen == {"better", "worse", "beaten", "value", "today", "+", "\N{MINUS SIGN}", "\N{MULTIPLICATION SIGN}"} else [f"only {seen}"])
 
+    def what_a_picture_shows_stands_where_its_axes_say(self) -> list[str]:
+        """Of a map each field is beside and above the numbers of its values. Of a curve each dot is as far along and as high as the numbers of
+        both axes say, as a rule through two of them."""
+        wrong, seen = [], set[int]()
+        for games, rows in self._drawn[:400]:
+            drawn, by_words = ElementTree.fromstring(pictures.picture(games, rows)), {shown(row.values): row for row in rows}
+            texts = [(float(it.get("x", "0")), float(it.get("y", "0")), it.get("text-anchor"), it.text or "") for it in drawn.iterfind("{*}text")]
+            below, beside = ([it for it in texts if it[2] == anchor and NUMBER.fullmatch(it[3])] for anchor in ("middle", "end"))
+            below = [it for it in below if it[1] == max(y for _, y, _, _ in below)]
+            for shape in drawn.iterfind(".//{*}rect" if len(games.numbers) == 2 else ".//{*}circle"):
+                if (title := shape.findtext("{*}title")) is None:
+                    continue
+                row = by_words[title.rpartition(": ")[0] or title]
+                if len(row.values) == 2:
+                    x, y = (float(shape.get(at, "0")) + float(shape.get(size, "0")) / 2 for at, size in (("x", "width"), ("y", "height")))
+                    got = nearest(below, 0, x), nearest(beside, 1, y - 4)
+                    wanted: tuple[float, ...] = row.values
+                else:
+                    got = along(below, 0, float(shape.get("cx", "0"))), along(beside, 1, float(shape.get("cy", "0")) + 4)
+                    wanted = row.values[0], row.change.value
+                seen.add(len(row.values))
+                wrong += [] if all(abs(one - other) < 0.02 for one, other in zip(got, wanted)) else [f"{title}: at {got}, and not {wanted}"]
+        return wrong[:5] + ([] if seen == {1, 2} else [f"only {seen}"])
+
     def numbers_are_written_in_one_way(self) -> list[str]:
         """With three digits; what rounds to zero has no sign. Other values are worked out by exact decimals."""
         rest = random.Random(3)
@@ -253,6 +278,18 @@ class Saying:
             right = f" with {figures.points(most)} points a match, today's {figures.points(row_of(rows, games.today).points.value)}; " in told
             wrong += [] if games.given.until or (best.points.value == most and right) else [told]
         return wrong[:5]
+
+
+def nearest(numbers: list[tuple[float, float, str | None, str]], way: int, place: float) -> float:
+    """The number of an axis that is nearest to a place along it, which is across (0) or up (1)."""
+    return float(min(numbers, key=lambda it: abs(it[way] - place))[3])
+
+
+def along(numbers: list[tuple[float, float, str | None, str]], way: int, place: float) -> float:
+    """What a place is, by the first number and the last one of an axis."""
+    first, last = numbers[0], numbers[-1]
+    low, high = float(first[3]), float(last[3])
+    return low + (high - low) * (place - first[way]) / (last[way] - first[way])
 
 
 def row_of(rows: list[Row], values: tuple[int, ...]) -> Row:

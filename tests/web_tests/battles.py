@@ -11,12 +11,11 @@ import subprocess
 import tempfile
 from dataclasses import dataclass, field
 
-from harness import loaded, skip
+from harness import PATIENCE, loaded, skip
 
 HERE = os.path.dirname(os.path.abspath(__file__))
 ROBOTS = os.path.join(HERE, "..", "..", "robots")
 MISTAKES = os.path.join(HERE, "..", "..", "docs", "mistakes.md")
-SECONDS = 120
 VECTORS = "CROBOTS_VECTORS"
 
 
@@ -47,6 +46,10 @@ class Battle:
 
     def told(self, crobots: str) -> tuple[int, bytes, bytes]:
         """The status, text and faults of crobots."""
+        return self.said(crobots, "-c" if self.call == "list" else f"-m{self.settings.matches}")
+
+    def said(self, program: str, *words: str) -> tuple[int, bytes, bytes]:
+        """The status, text and faults of a program that takes the settings' words, after these words."""
         with tempfile.TemporaryDirectory() as folder:
             paths = []
             for number, (name, source) in enumerate(self.robots):
@@ -55,8 +58,7 @@ class Battle:
                 with open(path, "wb") as file:
                     file.write(source)
                 paths.append(path)
-            mode = "-c" if self.call == "list" else f"-m{self.settings.matches}"
-            ran = subprocess.run([crobots, mode, *self.settings.words(), *paths], capture_output=True, check=False, timeout=SECONDS)
+            ran = subprocess.run([program, *words, *self.settings.words(), *paths], capture_output=True, check=False, timeout=PATIENCE)
             return ran.returncode, ran.stdout, ran.stderr
 
 

@@ -14,6 +14,7 @@ import tempfile
 from typing import Any, Iterator, Sequence
 
 import packages
+from harness import PATIENCE
 
 HERE = os.path.dirname(os.path.abspath(__file__))
 TOP = os.path.normpath(os.path.join(HERE, "..", ".."))
@@ -27,7 +28,6 @@ from tuning import marks  # noqa: E402
 from .battles import random_battles, samples  # noqa: E402
 from .stores import modules, told  # noqa: E402
 
-SECONDS = 600
 SEED = 20261129
 # by how much numbers of two programs may differ that are added up in another order
 NEAR = 1e-9
@@ -49,7 +49,7 @@ def answers(jobs: Sequence[tuple[str, tuple[Any, ...]]], module: str = "") -> li
     with modules() as place:
         words = [shutil.which("node") or "node", os.path.join(HERE, "worked.mjs"), place, *([module] if module else [])]
         text = json.dumps([{"what": what, "words": given} for what, given in jobs])
-        ran = subprocess.run(words, input=text, capture_output=True, text=True, check=False, timeout=SECONDS)
+        ran = subprocess.run(words, input=text, capture_output=True, text=True, check=False, timeout=PATIENCE)
     if ran.returncode:
         raise RuntimeError(ran.stderr[-2000:])
     return list(json.loads(ran.stdout))
@@ -222,7 +222,7 @@ def answered(script: str, words: list[str], files: dict[str, str]) -> Any:
         for name, source in files.items():
             with open(os.path.join(place, name), "w", encoding="utf-8", newline="") as file:
                 file.write(source)
-        ran = subprocess.run([os.path.join(TOP, "scripts", script), "--json", "-j2", *words], cwd=place, capture_output=True, text=True, check=False, timeout=SECONDS)
+        ran = subprocess.run([os.path.join(TOP, "scripts", script), "--json", "-j2", *words], cwd=place, capture_output=True, text=True, check=False, timeout=PATIENCE)
     if ran.returncode:
         raise RuntimeError(ran.stderr[-2000:])
     return json.loads(ran.stdout)
@@ -311,7 +311,7 @@ def constants_of(stages: str, source: bytes, profile: int) -> list[dict[str, int
     with tempfile.NamedTemporaryFile(suffix=".r") as file:
         file.write(source)
         file.flush()
-        ran = subprocess.run([stages, "--tokens", f"-p{profile}", file.name], capture_output=True, text=True, check=False, timeout=SECONDS)
+        ran = subprocess.run([stages, "--tokens", f"-p{profile}", file.name], capture_output=True, text=True, check=False, timeout=PATIENCE)
     rows = [line.split() for line in ran.stdout.splitlines()]
     return None if ran.returncode else [{"line": int(row[0]), "column": int(row[1])} for row in rows if row[2] == "constant"]
 

@@ -11,7 +11,9 @@ from typing import Iterator
 import packages
 
 from .battles import Battle, random_battles, sample_battles
-from .module import HERE, SECONDS, Answer, compared, job
+from harness import PATIENCE
+
+from .module import HERE, Answer, compared, job
 
 PROGRAM = "jsc"
 
@@ -28,7 +30,7 @@ def answers(folder: str, battles: list[Battle]) -> list[Answer]:
         json.dump(jobs, file)
         file.flush()
         words = [PROGRAM, "-m", os.path.join(HERE, "jsc.mjs"), "--", f"{folder}.wasm", file.name]
-        ran = subprocess.run(words, capture_output=True, text=True, check=True, timeout=SECONDS)
+        ran = subprocess.run(words, capture_output=True, text=True, check=True, timeout=PATIENCE)
     return [(it["ending"], bytes(it["text"]), bytes(it["faults"])) for it in json.loads(ran.stdout)]
 
 

@@ -3,7 +3,6 @@
 from __future__ import annotations
 
 import base64
-import itertools
 import json
 import os
 import random
@@ -16,6 +15,7 @@ from typing import Any, Iterator
 
 import packages
 from asking_robots import AskingRobots
+from harness import PATIENCE
 
 from . import slimmed
 from .battles import Battle, Settings, deepest, hostile_battles, mistakes, outcome, random_battles, sample_battles, samples, vectors
@@ -24,7 +24,6 @@ HERE = os.path.dirname(os.path.abspath(__file__))
 WEB = os.path.join(HERE, "..", "..", "web")
 STILL = ("still.r", b"main(){}")
 MOST_SEED = 2**64 - 1
-SECONDS = 120
 MOST_BYTES = 400_000
 CALLS = 1000
 # Of a larger source crobots-stages shows nothing.
@@ -72,7 +71,7 @@ def answers(folder: str, battles: list[Battle]) -> list[Answer]:
     """What the module answers."""
     words = words_of("engine.mjs", folder)
     jobs = json.dumps([job(battle) for battle in battles])
-    ran = subprocess.run(words, input=jobs, capture_output=True, text=True, check=True, timeout=SECONDS)
+    ran = subprocess.run(words, input=jobs, capture_output=True, text=True, check=True, timeout=PATIENCE)
     return [(it["ending"], base64.b64decode(it["text"]), base64.b64decode(it["faults"])) for it in json.loads(ran.stdout)]
 
 
@@ -155,44 +154,6 @@ def long_films(folder: str) -> list[str]:
 
 GOES_ON = 6
 MOST_NUMBER = 2**32 - 1
-BORDER = re.compile(rb"\d+\t\d\t(?:stands|flies)\t.*\n")
-
-
-def windows_of(battle: Battle, size: int) -> list[Battle]:
-    """The windows of a battle's first match up to its longest end, in groups of this size."""
-    updates = -(-battle.settings.limit // 15)
-    return [replace(battle, call="windows", windows=(begin, size)) for begin in range(0, updates, size)]
-
-
-def without_borders(film: bytes) -> bytes:
-    """The rows of a film of windows that the whole film has too."""
-    return BORDER.sub(b"", film.partition(b"\n")[2])
-
-
-def put_together(whole: bytes, parts: list[Answer]) -> list[str]:
-    """Where films of windows, put together up to the first one that is over, are not the film of the whole match, and where
-    one ends that the next one doesn't begin."""
-    last = next(at for at, (code, _, _) in enumerate(parts) if code != GOES_ON)
-    films = [film for _, film, _ in parts[:last + 1]]
-    borders = [re.findall(rb"\d+\t\d\tstands\t.*\n", film) for film in films]
-    count = len(re.findall(rb"^0\t\d\tat", whole, re.MULTILINE))
-    wrong = [f"after {ends[-count:]} {begins[:count]}" for ends, begins in zip(borders, borders[1:]) if ends[-count:] != begins[:count]]
-    if parts[last][0] != 0 or b"".join(map(without_borders, films)) != whole.partition(b"\n")[2]:
-        wrong.append(f"code {parts[last][0]}, and rows that the whole film doesn't have")
-    return wrong
-
-
-def joined(folder: str) -> list[str]:
-    """Films of windows, put together, are the film of the whole match."""
-    drawn = [replace(it, settings=replace(it.settings, limit=2_000)) for it in sample_battles()[::12] + random_battles(12, 13)]
-    asked = [[replace(battle, call="film"), *windows_of(battle, size)] for battle, size in zip(drawn, itertools.cycle((1, 7, 40, 300)))]
-    answered = iter(answers(folder, sum(asked, [])))
-    wrong = []
-    for battles in asked:
-        whole, *parts = [next(answered) for _ in battles]
-        wrong += [f"{battles[1]}: {line}" for line in put_together(whole[1], parts)]
-    return wrong
-
 
 # it fires to the east as far as a missile flies, which takes 14 updates, and then idles
 GUNNER = ("gunner.r", b"main(){ cannon(0, 700); while (1); }")
@@ -309,7 +270,7 @@ def lines_of_code(stages: str, name: str, source: bytes, profile: int) -> list[i
         path = os.path.join(folder, name)
         with open(path, "wb") as file:
             file.write(source)
-        code = subprocess.run([stages, "--code", f"-p{profile}", path], capture_output=True, check=True, timeout=SECONDS).stdout
+        code = subprocess.run([stages, "--code", f"-p{profile}", path], capture_output=True, check=True, timeout=PATIENCE).stdout
     line, lines = 0, {}
     for row in code.decode().splitlines():
         if begin := re.match(r" *(\d+) \|", row):
@@ -342,7 +303,7 @@ def places(crobots: str, stages: str, folder: str) -> list[str]:
 def any_blocks(folder: str) -> list[str]:
     """Whatever stands in the blocks, a call answers with a code; beyond the memory it ends. Nothing comes from the host."""
     words = [*words_of("blocks.mjs", folder), str(CALLS), "1"]
-    ran = subprocess.run(words, capture_output=True, text=True, check=False, timeout=SECONDS)
+    ran = subprocess.run(words, capture_output=True, text=True, check=False, timeout=PATIENCE)
     if ran.returncode:
         return [ran.stderr[-500:]]
     told = json.loads(ran.stdout)
@@ -372,7 +333,7 @@ def known_turns(stages: str, source: bytes, profile: int) -> bytes | None:
         path = os.path.join(place, "a.r")
         with open(path, "wb") as file:
             file.write(source)
-        ran = subprocess.run([stages, "--bounds", f"-p{profile}", path], capture_output=True, text=True, check=False, timeout=SECONDS)
+        ran = subprocess.run([stages, "--bounds", f"-p{profile}", path], capture_output=True, text=True, check=False, timeout=PATIENCE)
     rows: list[str] = []
     for line, never, at_least, least, most in TURN.findall(ran.stdout):
         numbers = [] if never else [least] if at_least else [least, most or least]
@@ -413,7 +374,7 @@ def units() -> list[str]:
         with open(os.path.join(place, "package.json"), "w", encoding="ascii") as file:
             file.write('{"type": "module"}')
         words = [shutil.which("node") or "node", os.path.join(HERE, "units.mjs"), place]
-        ran = subprocess.run(words, capture_output=True, text=True, check=False, timeout=SECONDS)
+        ran = subprocess.run(words, capture_output=True, text=True, check=False, timeout=PATIENCE)
     return list(json.loads(ran.stdout)) if not ran.returncode else [ran.stderr[-500:]]
 
 
@@ -443,7 +404,6 @@ def results(crobots: str, stages: str, folder: str) -> Iterator[tuple[str, list[
     yield "a full sheet", full(crobots, folder)
     yield "films", films(crobots, folder)
     yield "long films", long_films(folder)
-    yield "films by windows", joined(folder)
     yield "single windows", single_windows(folder)
     yield "updates of windows", updates_of_windows(folder)
     yield "missiles in the air", missiles_in_the_air(folder)

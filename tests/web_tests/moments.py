@@ -13,7 +13,9 @@ from histories import History, Match, State, history_of
 from listing_machine import USED
 
 from .battles import ROBOTS
-from .module import SECONDS, STILL, lacking, words_of
+from harness import PATIENCE
+
+from .module import STILL, lacking, words_of
 
 __all__ = ["lacking", "results"]
 CYCLES = 2_000
@@ -26,7 +28,7 @@ Rows = list[list[str]]
 
 def asked(folder: str, jobs: list[dict[str, Any]]) -> list[tuple[int, Rows]]:
     """What the module answers to jobs, as engine.mjs takes them: statuses and rows."""
-    ran = subprocess.run(words_of("engine.mjs", folder), input=json.dumps(jobs), capture_output=True, text=True, check=True, timeout=SECONDS)
+    ran = subprocess.run(words_of("engine.mjs", folder), input=json.dumps(jobs), capture_output=True, text=True, check=True, timeout=PATIENCE)
     found = []
     for answer in json.loads(ran.stdout):
         head, *rows = base64.b64decode(answer["text"]).decode().splitlines() or [""]

@@ -196,7 +196,9 @@ class Page:
             self.driver.execute_cdp_cmd("Page.removeScriptToEvaluateOnNewDocument", added)
 
     def show(self, battle: Battle) -> None:
-        """Follows a link to a battle in the open page, until the first robot is compiled."""
+        """Follows a link to a battle in the open page, until the first robot is compiled. A test before may have left another page open."""
+        if not self.js("return document.getElementById('diagnostic') !== null"):
+            self.open()
         self.js(FOLLOWS, fragment(battle))
         self.wait("return window.isShown && document.getElementById('diagnostic').textContent")
 

@@ -11,6 +11,7 @@ import subprocess
 import tempfile
 from typing import Iterable, Iterator
 
+from harness import PATIENCE
 from replays.modules import exports_of, name_of, text_of
 
 from .module import EXPORTS
@@ -18,7 +19,6 @@ from .stores import HERE, WEB
 
 OPTIONS = {"allowJs": True, "checkJs": True, "noEmit": True, "skipLibCheck": True, "target": "es2022", "module": "es2022", "moduleResolution": "node",
            "lib": ["es2022", "dom", "dom.iterable"], "strict": False, "types": [], "noUnusedLocals": True}
-SECONDS = 600
 # a file, a text in it, and what a slip makes of it, which is to be seen
 SLIPS = (("engine.js", "this.exports.moment,", "this.exports.moments,"), ("keeping.js", "this.store.openLink(", "this.store.openLinked("),
          ("workbench.js", "this.store.robots", "this.store.robot_s"), ("store.js", "isTouched, battle: keyed", "isTouched, batle: keyed"),
@@ -46,7 +46,7 @@ def told(slips: tuple[tuple[str, str, str], ...] = ()) -> str:
             with open(path, "w", encoding="utf-8") as file:
                 file.write(script.replace(text, slip, 1))
         words = ["tsc", "--project", "tsconfig.json", "--pretty", "false"]
-        return subprocess.run(words, cwd=place, capture_output=True, text=True, check=False, timeout=SECONDS).stdout
+        return subprocess.run(words, cwd=place, capture_output=True, text=True, check=False, timeout=PATIENCE).stdout
 
 
 def exports() -> list[str]:

@@ -20,6 +20,7 @@ const {adviceOf} = await load("advice");
 const {turnsOf} = await load("listings");
 const {reasonOf, warningsOf} = await load("explaining");
 const {filmOf} = await load("player/films");
+const {DamageDrawing, FieldDrawing} = await load("player/drawing");
 const {Match} = await load("player/matches");
 const {SvgContext, picturesOf, svgOf} = await load("player/reels");
 const {Code, callsOf, foundIn, momentOf, valuesOf} = await load("moments");
@@ -86,6 +87,14 @@ check("the robot that is followed", followed, [2, undefined, 3, undefined]);
 const wrongMoments = ["&match=0&cycle=1", "&match=1000001&cycle=1", "&match=1&cycle=1000000001", "&match=1&cycle=-1", "&match=x&cycle=1", "&cycle=1&match=1",
     "&match=1&cycle=1&robot=0", "&match=1&cycle=1&robot=5", "&match=1&cycle=1&robot=", "&match=1&robot=1&cycle=1"];
 check("moments that are none", wrongMoments.map(it => linkedMoment(it, three)), wrongMoments.map(() => null));
+// sources that are drawn, so that a link has each sign of base 64 many times
+let draw = 1;
+const drawnLetter = () => { draw = draw * 48271 % 2147483647; return String.fromCharCode(32 + draw % 95); };
+const mixed = Array.from({length: 20}, () => Array.from({length: 400}, drawnLetter).join(""));
+const carried = await Promise.all(mixed.map(source => fragmentOf({robots: [{name: "a.r", source}], settings: usual})));
+check("letters of links", carried.filter(it => !/^#battle=[\w-]+$/.test(it)), []);
+check("their signs", [..."-_"].filter(sign => carried.filter(it => it.split(sign).length > 2).length < 5), []);
+check("links of any letters", (await Promise.all(carried.map(battleOf))).map(it => it?.robots[0].source), mixed);
 check("the largest link", (await battleOf(packed(battle("x".repeat(room - fill)))))?.robots[0].source.length, room - fill);
 check("links that are none", [await battleOf(packed(battle("x".repeat(room - fill + 1)))), await battleOf("#battle=%%%"), await battleOf(packed("[")), await battleOf("#x")],
     [null, null, null, null]);
@@ -112,6 +121,48 @@ check("its ground stands there once", [svg.split("1000 m").length, svg.split("<c
 const drawn = (act, context = new SvgContext()) => { context.beginPath(); act(context); context.stroke(); return /d="([^"]*)"/.exec(context.parts[0])[1]; };
 check("arcs", [drawn(it => it.arc(10, 10, 5, 0, Math.PI / 2)), drawn(it => it.arc(10, 10, 5, 0, Math.PI / 2, true)), drawn(it => it.arc(10, 10, 5, 0, 2 * Math.PI))],
     ["M15 10A5 5 0 0 1 10 15", "M15 10A5 5 0 1 0 10 15", "M15 10A5 5 0 1 1 5 10A5 5 0 1 1 15 10z"]);
+
+/** A context that keeps what is drawn with which colour: fields, texts, filled ways and lines. */
+class Seen extends SvgContext {
+    seen = [];
+
+    fillRect(x, y, width, height) {
+        this.seen.push({what: "rect", colour: this.fillStyle, x, y, width, height});
+    }
+
+    fillText(text, x, y) {
+        this.seen.push({what: "text", colour: this.fillStyle, text, x, y, before: this.seen.at(-1)?.colour});
+    }
+
+    fill() {
+        this.seen.push({what: "fill", colour: this.fillStyle});
+    }
+
+    stroke() {
+        this.seen.push({what: "stroke", colour: this.strokeStyle, width: this.lineWidth});
+    }
+}
+// four robots of which each restarts in a cycle of its own, and is hurt in another one: all that is drawn of a robot has its colour
+const four = [1, 2, 3, 4];
+const coloured = {...colours, robots: ["#000001", "#000002", "#000003", "#000004"]};
+const several = new Match(filmOf(["cycle robot kind a b c d e", ...four.map(it => `0 ${it} name r${it}`), ...four.map(it => `0 ${it} at ${2000 * it} 5000 0 0 0`),
+    ...four.map(it => `${100 * it} ${it} restart words main 3`), ...four.map(it => `450 ${it} shot 90 500 ${2000 * it} 5000`),
+    ...four.map(it => `480 ${it} at ${2000 * it} 5000 0 0 ${10 * it}`), ...four.map(it => `1000 ${it} end ${10 * it}`)].map(row => row.replaceAll(" ", "\t")).join("\n")));
+function seenBy(Drawing, ...words) {
+    const context = new Seen();
+    ["setTransform", "clearRect", "clip", "save", "restore"].forEach(name => { context[name] = () => {}; });
+    new Drawing({clientWidth: 478, clientHeight: 158, getContext: () => context}, coloured).draw(...words);
+    return context.seen;
+}
+const chart = seenBy(DamageDrawing, several, 1000, true);
+// 400 pixels, from 44 on, are 1000 cycles
+check("ticks of restarts", chart.filter(({what}) => what === "rect").map(({colour, x}) => [colour, x]), four.map(it => [`#00000${it}`, 44 + 40 * it]));
+check("lines of damage", chart.filter(({what, width}) => what === "stroke" && width === 2).map(({colour}) => colour), four.map(it => `#00000${it}`));
+const numbersOf = seen => seen.filter(({what, text}) => what === "text" && /^[1-4]$/.test(text)).map(({text, before}) => [Number(text), before]).sort();
+check("discs of numbers", numbersOf(chart), four.map(it => [it, `#00000${it}`]));
+const ground = seenBy(FieldDrawing, several.moment(465, 60));
+check("robots on the field", numbersOf(ground), four.map(it => [it, `#00000${it}`]));
+check("missiles on it", ground.filter(({what, width}) => what === "stroke" && width === 1).map(({colour}) => colour).filter(it => coloured.robots.includes(it)), coloured.robots);
 
 check("places", [placesOf("ab", "abxABab"), placesOf("", "x"), placesOf("aa", "aaaa")], [[0, 3, 5], [], [0, 2]]);
 // the small letter of a dotted I is two, and a sigma has another one at the end of a word

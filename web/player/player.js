@@ -32,7 +32,7 @@ export class Player {
         this.#follow(location.hash);
         this.chosen = 0;
         this.isPlaying = false;
-        this.stillAt = -Infinity;
+        this.shownAt = -Infinity;
         this.speed = this.#fittingSpeed();
         const colours = coloursOf(document.documentElement);
         this.field = new FieldDrawing(element("field"), colours);
@@ -74,6 +74,7 @@ export class Player {
     show() {
         const {match, cycle} = this;
         const whole = Math.floor(cycle);
+        this.shownAt = performance.now();
         const moment = match.moment(cycle, this.#glow());
         this.field.draw(moment);
         this.damage.draw(match, cycle, element("whole").checked);
@@ -107,9 +108,7 @@ export class Player {
 
     /** Whether a picture is drawn now. */
     #isDue(now) {
-        if (CALM.matches && this.isPlaying && now - this.stillAt < MILLISECONDS_OF_A_STILL) return false;
-        this.stillAt = now;
-        return true;
+        return !CALM.matches || !this.isPlaying || now - this.shownAt >= MILLISECONDS_OF_A_STILL;
     }
 
     /** The speed at which the match is neither over at once nor too long; that of 300 cycles a second if it can be. */

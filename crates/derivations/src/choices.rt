@@ -20,28 +20,30 @@ const TIGHTEST: u8 = 10;
 pub fn choice(symbol: Symbol, next: &Token, after: &Token) -> Option<Production>
     ensures { result ≡ table.choice (symbol_of symbol) next.now after.now }
 {
-    match symbol {
-        Symbol::Source => source(next),
-        Symbol::Types => Some(types(next)),
-        Symbol::Head => head(next, after),
-        Symbol::More(role) => Some(more(role, next)),
-        Symbol::Parameters => Some(parameters(next)),
-        Symbol::ParameterTypes => Some(parameter_types(next)),
-        Symbol::FunctionBlock => function_block(next),
-        Symbol::Block => block(next),
-        Symbol::Declarations => Some(declarations(next)),
-        Symbol::Statements => Some(statements(next)),
-        Symbol::Statement => Some(statement(next)),
-        Symbol::ElsePart => Some(else_part(next)),
-        Symbol::Back => Some(back(next)),
-        Symbol::Expression => Some(expression(next, after)),
-        Symbol::Level(level) => Some(operators(level)),
-        Symbol::Tail(level) => Some(tail(level, next)),
-        Symbol::Unary => Some(unary(next)),
-        Symbol::Primary => primary(next, after),
-        Symbol::Arguments => Some(arguments(next)),
-        Symbol::MoreArguments => Some(more_arguments(next)),
-    }
+    // one production for all that are always there: each that an arm has of its own is blanked at each call
+    let production = match symbol {
+        Symbol::Source => return source(next),
+        Symbol::Head => return head(next, after),
+        Symbol::FunctionBlock => return function_block(next),
+        Symbol::Block => return block(next),
+        Symbol::Primary => return primary(next, after),
+        Symbol::Types => types(next),
+        Symbol::More(role) => more(role, next),
+        Symbol::Parameters => parameters(next),
+        Symbol::ParameterTypes => parameter_types(next),
+        Symbol::Declarations => declarations(next),
+        Symbol::Statements => statements(next),
+        Symbol::Statement => statement(next),
+        Symbol::ElsePart => else_part(next),
+        Symbol::Back => back(next),
+        Symbol::Expression => expression(next, after),
+        Symbol::Level(level) => operators(level),
+        Symbol::Tail(level) => tail(level, next),
+        Symbol::Unary => unary(next),
+        Symbol::Arguments => arguments(next),
+        Symbol::MoreArguments => more_arguments(next),
+    };
+    Some(production)
 }
 
 /// Returns the production of a file, or of the rest of it.
@@ -69,7 +71,7 @@ fn types(next: &Token) -> Production
         Token::Keyword(Keyword::Type) => {
             Production::of(&[AKeyword(Keyword::Type), Part(Symbol::Types)])
         }
-        _ => Production::of(&[]),
+        _ => Production::empty(),
     }
 }
 
@@ -113,7 +115,7 @@ fn more(role: Role, next: &Token) -> Production
             Naming(role),
             Part(Symbol::More(role)),
         ]),
-        _ => Production::of(&[]),
+        _ => Production::empty(),
     }
 }
 
@@ -126,7 +128,7 @@ fn parameters(next: &Token) -> Production
             Naming(Role::Parameter),
             Part(Symbol::More(Role::Parameter)),
         ]),
-        _ => Production::of(&[]),
+        _ => Production::empty(),
     }
 }
 
@@ -136,7 +138,7 @@ fn parameter_types(next: &Token) -> Production
 {
     match next {
         Token::Keyword(Keyword::Type) => declared(Role::Typed, Symbol::ParameterTypes),
-        _ => Production::of(&[]),
+        _ => Production::empty(),
     }
 }
 
@@ -196,7 +198,7 @@ fn declarations(next: &Token) -> Production
 {
     match next {
         Token::Keyword(Keyword::Type) => declared(Role::Local, Symbol::Declarations),
-        _ => Production::of(&[]),
+        _ => Production::empty(),
     }
 }
 
@@ -205,7 +207,7 @@ fn statements(next: &Token) -> Production
     ensures { (after : Token) → Some result ≡ table.choice table.Statements next.now after }
 {
     match next {
-        Token::Punctuator(Punctuator::CloseCurly) => Production::of(&[]),
+        Token::Punctuator(Punctuator::CloseCurly) => Production::empty(),
         _ => Production::of(&[Part(Symbol::Statement), Part(Symbol::Statements)]),
     }
 }
@@ -315,7 +317,7 @@ fn tail(level: u8, next: &Token) -> Production
     ensures { (after : Token) → Some result ≡ table.choice (table.Tail level) next.now after }
 {
     let Token::Punctuator(punctuator) = *next else {
-        return Production::of(&[]);
+        return Production::empty();
     };
     match operator_at(level, next) {
         Some(op) => Production::of(&[
@@ -324,7 +326,7 @@ fn tail(level: u8, next: &Token) -> Production
             Make(SemanticAction::Operate(op)),
             Part(Symbol::Tail(level)),
         ]),
-        None => Production::of(&[]),
+        None => Production::empty(),
     }
 }
 
@@ -434,7 +436,7 @@ fn arguments(next: &Token) -> Production
     ensures { (after : Token) → Some result ≡ table.choice table.Arguments next.now after }
 {
     match next {
-        Token::Punctuator(Punctuator::CloseRound) => Production::of(&[]),
+        Token::Punctuator(Punctuator::CloseRound) => Production::empty(),
         _ => Production::of(&[
             Part(Symbol::Expression),
             Make(SemanticAction::Pass),
@@ -454,7 +456,7 @@ fn more_arguments(next: &Token) -> Production
             Make(SemanticAction::Pass),
             Part(Symbol::MoreArguments),
         ]),
-        _ => Production::of(&[]),
+        _ => Production::empty(),
     }
 }
 

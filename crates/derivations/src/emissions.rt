@@ -1,9 +1,9 @@
 //! What a step of a derivation emits: actions, and the token that they come from.
 
 ghost use Rattle.std.specs.Prelude.{◌≡◌, ◌≤◌, length};
+ghost use Rattle.derivations.specs.declared.emissions.TheConstants.{MOST_ACTIONS};
 ghost use Rattle.grammar.specs.Actions.{code_length};
 
-use arrayvec::ArrayVec;
 use grammar::{Action, Profile};
 
 /// The most actions of a step: those of `v++`.
@@ -26,36 +26,32 @@ pub enum Origin {
 /// actions that have them, they are 0.
 #[derive(Drop)]
 pub struct Emission {
-    actions: ArrayVec<Action, MOST_ACTIONS>,
+    actions: &'static [Action],
     origin: Origin,
+    ghost few: { length actions.now ≤ MOST_ACTIONS },
 }
 
 impl Emission {
     /// Makes the emission of these actions, which come from this token.
-    pub(crate) fn of(actions: &[Action], origin: Origin) -> Emission
+    pub(crate) fn of(actions: &'static [Action], origin: Origin) -> Emission
         requires { length actions.now ≤ MOST_ACTIONS }
-        ensures actions { result.actions.items ≡ actions.now }
+        ensures actions { result.actions.now ≡ actions.now }
         ensures origin { result.origin ≡ origin }
     {
-        let mut emitted = ArrayVec::new();
-        let _ = emitted.try_extend_from_slice(actions);
-        Emission {
-            actions: emitted,
-            origin,
-        }
+        Emission { actions, origin }
     }
 
     /// Returns the actions, the first to be reported first.
     pub fn actions(&self) -> &[Action]
-        ensures value { result.now ≡ self.now.actions.items }
+        ensures value { result.now ≡ self.now.actions.now }
         ensures most { length result.now ≤ MOST_ACTIONS }
     {
-        self.actions.as_slice()
+        self.actions
     }
 
     /// Returns how many instructions the actions make in a profile.
     pub fn instructions(&self, profile: Profile) -> usize
-        ensures { result ≡ code_length profile self.now.actions.items }
+        ensures { result ≡ code_length profile self.now.actions.now }
     {
         let actions = self.actions();
         let mut made = 0usize;

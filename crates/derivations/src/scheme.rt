@@ -6,10 +6,12 @@ ghost use Rattle.grammar.specs.Grammar.{is_lexical_error};
 ghost use Rattle.grammar.specs.Scope.{no_names};
 ghost use Rattle.grammar_laws.specs.Emission as law;
 ghost use Rattle.derivations.specs.Scheme.{blank_emitted, blank_rule, is_on_rule, known_items, origin_of};
+ghost use Rattle.derivations.specs.Stacks.{items_of};
 ghost use Rattle.derivations.specs.Table.{action_of, item_of, symbol_of};
 
 use crate::choices::operator_at;
 use crate::emissions::{Emission, MOST_ACTIONS, Origin};
+use crate::steps::{Pending, two_in_front};
 use crate::symbols::{Item, Role, SemanticAction, Symbol};
 use grammar::{Action, Callee, Op, StoreOp, Var};
 use tokens::{Keyword, Punctuator, Token};
@@ -32,14 +34,14 @@ const BEGIN_FUNCTION: Action = Action::BeginFunction(0, 0);
 /// The end of any function.
 const END_FUNCTION: Action = Action::EndFunction(0);
 
-/// Returns what a step emits, by the item in front, the next token, and the two items after the one in front.
-pub(crate) fn emitted(front: Item, next: &Token, behind: [Option<Item>; 2]) -> Emission
-    ensures actions { result.actions.items ≡ blank_emitted (item_of front ∷ known_items behind) next.now }
+/// Returns what a step emits, by the item in front, the next token, and the items behind the one in front.
+pub(crate) fn emitted(front: Item, next: &Token, behind: &[Pending]) -> Emission
+    ensures actions { result.actions.now ≡ blank_emitted (item_of front ∷ items_of behind.now) next.now }
     ensures origin { is_lexical_error next.now ≡ false → result.origin ≡ origin_of (item_of front) }
 {
-    match (front, *next) {
+    match (front, next) {
         (_, Token::Fault(_)) => Emission::of(&[], Origin::Next),
-        (Item::Part(symbol), next) => Emission::of(on_choice(symbol, &next), Origin::Next),
+        (Item::Part(symbol), next) => Emission::of(on_choice(symbol, next), Origin::Next),
         (Item::Naming(Role::Called), Token::Name(_)) => {
             Emission::of(&[Action::BeginCall], Origin::Next)
         }
@@ -50,18 +52,18 @@ pub(crate) fn emitted(front: Item, next: &Token, behind: [Option<Item>; 2]) -> E
 }
 
 /// Returns what is emitted as a tree is made.
-fn making(action: SemanticAction, behind: [Option<Item>; 2]) -> Emission
-    ensures actions { result.actions.items ≡ blank_rule (action_of action) (known_items behind) }
+fn making(action: SemanticAction, behind: &[Pending]) -> Emission
+    ensures actions { result.actions.now ≡ blank_rule (action_of action) (items_of behind.now) }
     ensures origin { result.origin ≡ origin_of (table.Make (action_of action)) }
 {
     match action {
-        SemanticAction::Empty => Emission::of(on_body(behind), Origin::Chosen),
+        SemanticAction::Empty => Emission::of(on_body(two_in_front(behind)), Origin::Chosen),
         SemanticAction::Store(_) | SemanticAction::PostfixIncrement(_) => {
             Emission::of(on_rule(action), Origin::AfterChosen)
         }
         SemanticAction::Evaluate => Emission::of(on_rule(action), Origin::Passed),
         SemanticAction::Define => Emission::of(on_rule(action), Origin::Next),
-        SemanticAction::Operate(op) => Emission::of(&[Action::ApplyBinop(op)], Origin::Chosen),
+        SemanticAction::Operate(op) => Emission::of(applying(op), Origin::Chosen),
         SemanticAction::Negate
         | SemanticAction::Not
         | SemanticAction::Complement
@@ -74,6 +76,33 @@ fn making(action: SemanticAction, behind: [Option<Item>; 2]) -> Emission
         | SemanticAction::Repeat
         | SemanticAction::Zero
         | SemanticAction::GiveBack => Emission::of(on_rule(action), Origin::Chosen),
+    }
+}
+
+/// Returns what is emitted as a binary operator's tree is made.
+fn applying(op: Op) -> &'static [Action]
+    ensures value { result.now ≡ Action.ApplyBinop op ∷ [] }
+    ensures most { length result.now ≤ MOST_ACTIONS }
+{
+    match op {
+        Op::Or => &[Action::ApplyBinop(Op::Or)],
+        Op::And => &[Action::ApplyBinop(Op::And)],
+        Op::BitOr => &[Action::ApplyBinop(Op::BitOr)],
+        Op::BitXor => &[Action::ApplyBinop(Op::BitXor)],
+        Op::BitAnd => &[Action::ApplyBinop(Op::BitAnd)],
+        Op::Equal => &[Action::ApplyBinop(Op::Equal)],
+        Op::NotEqual => &[Action::ApplyBinop(Op::NotEqual)],
+        Op::Less => &[Action::ApplyBinop(Op::Less)],
+        Op::Greater => &[Action::ApplyBinop(Op::Greater)],
+        Op::LessOrEqual => &[Action::ApplyBinop(Op::LessOrEqual)],
+        Op::GreaterOrEqual => &[Action::ApplyBinop(Op::GreaterOrEqual)],
+        Op::ShiftLeft => &[Action::ApplyBinop(Op::ShiftLeft)],
+        Op::ShiftRight => &[Action::ApplyBinop(Op::ShiftRight)],
+        Op::Add => &[Action::ApplyBinop(Op::Add)],
+        Op::Subtract => &[Action::ApplyBinop(Op::Subtract)],
+        Op::Multiply => &[Action::ApplyBinop(Op::Multiply)],
+        Op::Divide => &[Action::ApplyBinop(Op::Divide)],
+        Op::Remainder => &[Action::ApplyBinop(Op::Remainder)],
     }
 }
 
@@ -100,7 +129,7 @@ fn on_choice(symbol: Symbol, next: &Token) -> &'static [Action]
     ensures value { result.now ≡ law.on_choice (symbol_of symbol) next.now no_names }
     ensures most { length result.now ≤ MOST_ACTIONS }
 {
-    match (symbol, *next) {
+    match (symbol, next) {
         (Symbol::FunctionBlock, Token::Punctuator(Punctuator::OpenCurly)) => { &[BEGIN_FUNCTION] }
         (Symbol::Statement, Token::Keyword(Keyword::While)) => &[Action::BeginWhile],
         (Symbol::Unary, Token::Punctuator(Punctuator::Minus)) => &[CONSTANT],

@@ -1,6 +1,6 @@
 //! The leftmost derivation of a source, step by step.
 
-ghost use Rattle.std.specs.Prelude.{◌≡◌, ◌≢◌, ◌+◌, ◌-◌, ◌++◌, ◌∷◌, [], ◌<◌, ◌≤◌, ◌^◌, ℕ, drop, option_map, length, map, slice_get, take, false, true, if◌then◌else◌};
+ghost use Rattle.std.specs.Prelude.{◌≡◌, ◌≢◌, ◌+◌, ◌-◌, ◌++◌, ◌∷◌, [], ◌<◌, ◌≤◌, ◌^◌, ℕ, drop, option_copied, option_map, length, map, slice_get, take, false, true, if◌then◌else◌};
 ghost use Rattle.grammar.specs.Grammar as table;
 ghost use Rattle.grammar.specs.Grammar.{is_lexical_error};
 ghost use Rattle.derivations.specs.Positions.{Mark, chosen_items, front_mark, mark, marks_after, nowhere, origin_at, passed_after, passes_with, position_from};
@@ -98,10 +98,10 @@ impl Automaton {
     }
 
     /// Returns the item in front, with the token at which its production was chosen.
-    fn front(&self) -> Option<Pending>
-        ensures { result ≡ front_of self.now.stack.items }
+    fn front(&self) -> Option<&Pending>
+        ensures { option_copied result ≡ front_of self.now.stack.items }
     {
-        self.stack.as_slice().last().copied()
+        self.stack.as_slice().last()
     }
 
     /// Does one step, by the next token and the one after it.
@@ -113,14 +113,15 @@ impl Automaton {
         let Some(pending) = self.front() else {
             return StepEnd::Done;
         };
-        match decided(pending.item, &next.token, &after.token) {
+        let item = pending.item;
+        match decided(item, &next.token, &after.token) {
             Move::Misfit => StepEnd::Misfit,
             Move::Replace(production) => {
-                self.enter(pending.item, next, after);
+                self.enter(item, next, after);
                 self.replace(&production, place_of(next), place_of(after))
             }
             Move::Pass(tokens) => {
-                self.leave(pending.item);
+                self.leave(item);
                 self.note(tokens, next);
                 self.pass(tokens)
             }
@@ -228,22 +229,14 @@ impl Automaton {
 
     /// Returns what the next step emits, by the translation scheme.
     pub(crate) fn emission(&self, next: &Token) -> Emission
-        ensures actions { result.actions.items ≡ blank_emitted (items_of self.now.stack.items) next.now }
+        ensures actions { result.actions.now ≡ blank_emitted (items_of self.now.stack.items) next.now }
         ensures origin { is_lexical_error next.now ≡ false
             → result.origin ≡ origin_at (items_of self.now.stack.items) }
     {
         match self.front() {
-            Some(pending) => emitted(pending.item, next, self.behind()),
+            Some(pending) => emitted(pending.item, next, before_last(self.stack.as_slice())),
             None => Emission::of(&[], Origin::Next),
         }
-    }
-
-    /// Returns the two items after the one in front.
-    fn behind(&self) -> [Option<Item>; 2]
-        ensures { known_items result ≡ take 2 (drop 1 (items_of self.now.stack.items)) }
-    {
-        let others = before_last(self.stack.as_slice());
-        [last_item(others), last_item(before_last(others))]
     }
 
     /// Returns the position of the token that what the next step emits comes from.
@@ -293,6 +286,13 @@ fn before_last(stack: &[Pending]) -> &[Pending]
     ensures { result.now ≡ take (length stack.now - 1) stack.now }
 {
     &stack[..stack.len().saturating_sub(1)]
+}
+
+/// Returns the two items in front of a stack, the next first.
+pub(crate) fn two_in_front(stack: &[Pending]) -> [Option<Item>; 2]
+    ensures { known_items result ≡ take 2 (items_of stack.now) }
+{
+    [last_item(stack), last_item(before_last(stack))]
 }
 
 /// Returns the last item of a stack.
@@ -367,12 +367,29 @@ impl<'a> Derivation<'a> {
     pub fn next(&self) -> Token
         ensures { result ≡ token_at self.now.tokens.now self.now.automaton.place }
     {
-        located_at(self.tokens, self.automaton.place).token
+        match self.next_located() {
+            Some(located) => located.token,
+            None => Token::End,
+        }
+    }
+
+    /// Returns the next token where it is, if one is left.
+    pub(crate) fn next_located(&self) -> Option<&'a Located>
+        ensures { option_copied result ≡ slice_get self.now.tokens.now self.now.automaton.place }
+    {
+        self.tokens.get(self.automaton.place)
     }
 
     /// Returns the item in front, and the token at which its production was chosen.
     pub fn front(&self) -> Option<Pending>
         ensures { result ≡ front_of self.now.automaton.stack.items }
+    {
+        self.automaton.front().copied()
+    }
+
+    /// Returns the item in front where it is.
+    pub(crate) fn front_pending(&self) -> Option<&Pending>
+        ensures { option_copied result ≡ front_of self.now.automaton.stack.items }
     {
         self.automaton.front()
     }
@@ -402,6 +419,19 @@ impl<'a> Derivation<'a> {
             (token_at self.old.tokens.now self.old.automaton.place)
             (token_at self.old.tokens.now (self.old.automaton.place + 1)) }
     {
+        let behind = self.automaton.place.saturating_add(1);
+        match (self.next_located(), self.tokens.get(behind)) {
+            (Some(next), Some(after)) => self.automaton.step(next, after),
+            _ => self.step_at_end(),
+        }
+    }
+
+    /// Does one step where fewer than two tokens are left. Apart from `step`, which copies no tokens.
+    fn step_at_end(&mut self) -> StepEnd
+        ensures { result ≢ StepEnd.Full → result ≡ outcome_of (front_of self.old.automaton.stack.items)
+            (token_at self.old.tokens.now self.old.automaton.place)
+            (token_at self.old.tokens.now (self.old.automaton.place + 1)) }
+    {
         let next = located_at(self.tokens, self.automaton.place);
         let after = located_at(self.tokens, self.automaton.place.saturating_add(1));
         self.automaton.step(&next, &after)
@@ -409,7 +439,10 @@ impl<'a> Derivation<'a> {
 
     /// Returns what the next step emits, by the translation scheme.
     pub fn emission(&self) -> Emission {
-        self.automaton.emission(&self.next())
+        match self.next_located() {
+            Some(located) => self.automaton.emission(&located.token),
+            None => self.automaton.emission(&Token::End),
+        }
     }
 }
 
@@ -427,9 +460,9 @@ fn located_at(tokens: &[Located], index: usize) -> Located
 fn fits(item: Item, next: &Token) -> bool
     ensures { result ≡ is_wanted (item_of item) next.now }
 {
-    match (item, *next) {
-        (Item::Exactly(wanted), Token::Punctuator(punctuator)) => punctuator == wanted,
-        (Item::AKeyword(wanted), Token::Keyword(word)) => word == wanted,
+    match (item, next) {
+        (Item::Exactly(wanted), Token::Punctuator(punctuator)) => *punctuator == wanted,
+        (Item::AKeyword(wanted), Token::Keyword(word)) => *word == wanted,
         (Item::Naming(_), Token::Name(_)) => true,
         (Item::Number, Token::Constant(_)) => true,
         (Item::Ending, Token::End) => true,

@@ -164,6 +164,15 @@ impl Model for Production {
 }
 
 impl Production {
+    /// Makes the production of no items, without a copy: where an operator may follow and none does, it is chosen.
+    pub(crate) fn empty() -> Production
+        ensures { result ≡ [] }
+    {
+        Production {
+            items: ArrayVec::new(),
+        }
+    }
+
     /// Makes the production of these items.
     pub(crate) fn of(items: &[Item]) -> Production
         requires { length items.now ≤ MOST_ITEMS }

@@ -1,8 +1,9 @@
 //! The walk along the derivation of a source: what each step comes upon, with what each name means at its token.
 
+use crate::choices::operator_at;
 use crate::locations::Located;
 use crate::steps::{Derivation, StepEnd};
-use crate::symbols::{Item, Role, SemanticAction};
+use crate::symbols::{Item, Role, SemanticAction, Symbol};
 use grammar::{Callee, Code, MOST_NESTED, Profile, Scope, Var, lexical_error_code};
 use tokens::{Keyword, Name, Token};
 
@@ -106,12 +107,16 @@ impl<'a> Walk<'a> {
         self.is_over
     }
 
-    /// Does a step, and returns what it came upon. At a token that doesn't fit, and at the end, it stays.
+    /// Does a step, and those behind it that only pass levels of operators, and returns what it came upon: these come upon
+    /// nothing. At a token that doesn't fit, and at the end, it stays.
     pub fn step(&mut self) -> Event {
         let event = self.coming();
         self.count();
         let were_too_many = self.has_too_many_levels();
-        let outcome = self.derivation.step();
+        let outcome = match self.derivation.step() {
+            StepEnd::Stepped => self.pass_levels(),
+            end => end,
+        };
         self.is_over = outcome != StepEnd::Stepped;
         let token = self.derivation.place();
         match outcome {
@@ -134,6 +139,31 @@ impl<'a> Walk<'a> {
         }
     }
 
+    /// Does the steps that only pass levels of operators, which are most of a source, and returns how the last one ended.
+    fn pass_levels(&mut self) -> StepEnd {
+        for _ in 0..u64::MAX {
+            if !self.is_at_level() {
+                break;
+            }
+            let outcome = self.derivation.step();
+            if outcome != StepEnd::Stepped {
+                return outcome;
+            }
+        }
+        StepEnd::Stepped
+    }
+
+    /// Reports whether the next step only passes a level of operators. A lexical error is no such step.
+    fn is_at_level(&self) -> bool {
+        let Some(pending) = self.derivation.front_pending() else {
+            return false;
+        };
+        match (pending.item, self.derivation.next_located()) {
+            (Item::Part(symbol), Some(located)) => passes_level(symbol, &located.token),
+            _ => false,
+        }
+    }
+
     /// Reports whether more levels are open than may be.
     fn has_too_many_levels(&self) -> bool {
         self.derivation.levels() > usize::from(MOST_NESTED)
@@ -141,21 +171,52 @@ impl<'a> Walk<'a> {
 
     /// Returns what the next step comes upon, if it fits.
     fn coming(&mut self) -> Event {
-        let Some(pending) = self.derivation.front() else {
+        let Some(pending) = self.derivation.front_pending() else {
             return Event::Done;
         };
+        let (item, chosen_at) = (pending.item, pending.chosen_at);
         let token = self.derivation.place();
-        match (pending.item, self.derivation.next()) {
-            (Item::Naming(role), Token::Name(name)) => match self.meaning(role, &name) {
-                Ok(meaning) => Event::Named { token, meaning },
-                Err(code) => Event::Refused { token, code },
-            },
-            (Item::Number, Token::Constant(value)) => Event::Number { token, value },
-            (Item::Make(SemanticAction::Define), _) => self.define(pending.chosen_at, token),
-            (Item::Make(action), _) => Event::Made {
+        match item {
+            Item::Naming(role) => self.named(role, token),
+            Item::Number => self.number(token),
+            Item::Make(SemanticAction::Define) => self.define(chosen_at, token),
+            Item::Make(action) => Event::Made {
                 action,
-                chosen_at: pending.chosen_at,
+                chosen_at,
                 token,
+            },
+            _ => Event::Passed,
+        }
+    }
+
+    /// Returns what the next step comes upon where it takes a name in this role.
+    fn named(&mut self, role: Role, token: usize) -> Event {
+        let Some(
+            Located {
+                token: Token::Name(name),
+                ..
+            },
+        ) = self.derivation.next_located()
+        else {
+            return Event::Passed;
+        };
+        match self.meaning(role, name) {
+            Ok(meaning) => Event::Named { token, meaning },
+            Err(code) => Event::Refused { token, code },
+        }
+    }
+
+    /// Returns what the next step comes upon where it takes a constant.
+    fn number(&self, token: usize) -> Event {
+        match self.derivation.next_located() {
+            Some(
+                Located {
+                    token: Token::Constant(value),
+                    ..
+                },
+            ) => Event::Number {
+                token,
+                value: *value,
             },
             _ => Event::Passed,
         }
@@ -215,6 +276,16 @@ impl<'a> Walk<'a> {
     fn count(&mut self) {
         let made = self.derivation.emission().instructions(self.profile);
         self.instructions = self.instructions.saturating_add(made);
+    }
+}
+
+/// Reports whether the production of a symbol goes into a level of operators, or past one of which no operator follows.
+fn passes_level(symbol: Symbol, next: &Token) -> bool {
+    match (symbol, next) {
+        (_, Token::Fault(_)) => false,
+        (Symbol::Level(_), _) => true,
+        (Symbol::Tail(level), next) => operator_at(level, next).is_none(),
+        _ => false,
     }
 }
 

@@ -123,7 +123,7 @@ fn is_printable(bytes: &[u8]) -> bool {
 
 /// Returns the index at which the value ends that begins at another one: of a `,` or `;` outside of its brackets, or of what
 /// stands in another line.
-fn value_end(tokens: &[Located], first: usize) -> usize {
+pub fn value_end(tokens: &[Located], first: usize) -> usize {
     let mut depth = 0usize;
     let line = line_from(tokens, first);
     for (number, located) in line.iter().enumerate() {

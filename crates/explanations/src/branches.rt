@@ -1,12 +1,18 @@
 //! Warnings about `if` and `while`: empty bodies, `=` in conditions, conditions that can't change, and indentation.
 
+use crate::chains::on_chain;
+use crate::counters::warn_of_counters;
 use crate::heads::behind_brackets;
 use crate::indices::token_at;
 use crate::meanings::Meaning;
+use crate::nearest::warn_of_least;
+use crate::rewriting::Rewrite;
 use crate::rows::warn_of_loop;
+use crate::steps::only_step;
 use crate::values::{holds, is_turned};
 use crate::variables::set_by;
 use crate::warnings::{Said, Subject, Warnings};
+use crate::ways::warn_of_way;
 use derivations::{Located, Node, NodeKind, SourceTree};
 use grammar::{Callee, Intrinsic, Op, StoreOp, Var};
 use tokens::{Keyword, Punctuator, Token};
@@ -26,10 +32,14 @@ pub fn warn_of_branch(out: &mut Warnings, subject: &Subject<'_>, index: usize, n
         && !is_in_brackets(tokens, condition.token)
         && !is_turned(tokens, equals, Punctuator::Not)
     {
-        out.tell(
-            equals,
-            "`=` sets the variable; to compare write `==`, or put it into brackets of its own",
-        );
+        out.warn(equals, on_equals(tokens, node.token, equals));
+    }
+    warn_of_least(out, subject, index, node);
+    if let Some(said) = on_bits(condition) {
+        out.warn(condition.token, said);
+    }
+    if let Some(words) = on_chain(subject, node) {
+        out.tell(condition.token, words);
     }
     if node.kind == NodeKind::While
         && let Some(said) = on_condition(subject.tree, index, node, value)
@@ -39,6 +49,40 @@ pub fn warn_of_branch(out: &mut Warnings, subject: &Subject<'_>, index: usize, n
     if node.kind == NodeKind::While {
         warn_of_waiting(out, subject, index, node, condition);
         warn_of_loop(out, subject, index, node, condition);
+        warn_of_counters(out, subject, index, node);
+        warn_of_way(out, subject, index, node, condition);
+    }
+}
+
+/// Returns what is said of a `=` in the condition behind a word.
+fn on_equals(tokens: &[Located], word: usize, equals: usize) -> Said {
+    let end = behind_brackets(tokens, word).unwrap_or(equals);
+    Said::Written(
+        "`=` sets the variable; to compare write `==`, or put it into brackets of its own",
+        Rewrite::Equal(equals, end.saturating_sub(1)),
+        "",
+    )
+}
+
+/// Returns what is said of a condition that turns or shifts bits.
+fn on_bits(condition: &Node) -> Option<Said> {
+    let (token, next) = (condition.token, condition.token.saturating_add(1));
+    match condition.kind {
+        NodeKind::Complement => Some(Said::Words(
+            "`~` turns each bit: to ask whether it isn't so write `!`",
+        )),
+        NodeKind::Binary(Op::ShiftRight) => Some(Said::Written(
+            "`>>` shifts bits: to compare write `>`",
+            Rewrite::Joined(token, next, ">"),
+            "",
+        )),
+        NodeKind::Binary(Op::ShiftLeft) => Some(Said::Written(
+            "`<<` shifts bits: to compare write `<`",
+            Rewrite::Joined(token, next, "<"),
+            "",
+        )),
+        // no other operator on bits looks like one of conditions
+        _ => None,
     }
 }
 
@@ -50,7 +94,16 @@ fn warn_of_waiting(
     node: &Node,
     condition: &Node,
 ) {
-    if is_missed(subject, node.second.saturating_sub(1), condition) {
+    if is_skipped(subject, node, condition) {
+        out.warn(
+            condition.token,
+            Said::Written(
+                "the steps pass this number without having it, so the loop never ends: write `<`",
+                Rewrite::Joined(condition.token, condition.token.saturating_add(1), "<"),
+                "",
+            ),
+        );
+    } else if is_missed(subject, node.second.saturating_sub(1), condition) {
         out.tell(
             condition.token,
             "perhaps the robot passes this value, and never has it exactly: write `<` or `>`",
@@ -60,6 +113,41 @@ fn warn_of_waiting(
             condition.token,
             "a robot at a wall stands still, and waits for ever: wait by its place, or by `speed() > 0`",
         );
+    }
+}
+
+/// Reports whether a loop goes on until a variable has a number that its steps pass: it is set to another one right before the
+/// loop, and goes on by the same number each time.
+fn is_skipped(subject: &Subject<'_>, node: &Node, condition: &Node) -> bool {
+    let tree = subject.tree;
+    let (Some(first), Some(to)) = (
+        tree.get(node.first),
+        subject.constants.get(node.second.saturating_sub(2)),
+    ) else {
+        return false;
+    };
+    let (NodeKind::Fetch(var), Some(from)) = (first.kind, set_before(subject, node, first.kind))
+    else {
+        return false;
+    };
+    let is_whole = condition.second == node.first.saturating_add(1);
+    match only_step(subject, node.first, var) {
+        Some(step) if is_whole && condition.kind == NodeKind::Binary(Op::NotEqual) => {
+            let way = to.saturating_sub(from);
+            step > 0 && way > 0 && way % step != 0
+        }
+        _ => false,
+    }
+}
+
+/// Returns the number to which the statement right before a loop sets the variable that a node reads.
+fn set_before(subject: &Subject<'_>, node: &Node, read: NodeKind) -> Option<i32> {
+    let store = node.first.checked_sub(2)?;
+    match subject.tree.get(store)?.kind {
+        NodeKind::Store(var, StoreOp::Set) if read == NodeKind::Fetch(var) => {
+            subject.constants.get(store)
+        }
+        _ => None,
     }
 }
 

@@ -1,15 +1,19 @@
 //! Warnings about calls: their arguments, what they answer, and those on the right of `&&` and `||`.
 
-use crate::indices::{is_name, token_at};
+use crate::aims::{on_answer, warn_of_aim, warn_of_place};
+use crate::heads::line_from;
+use crate::indices::{is_name, token_at, touches};
 use crate::meanings::Meaning;
-use crate::steps::{is_degree, leaves_gaps, only_value};
+use crate::rewriting::Rewrite;
+use crate::statements::{acts, is_asked};
+use crate::steps::{body_at, is_degree, leaves_gaps, only_value};
 use crate::warnings::{Said, Subject, Warnings};
 use derivations::{Body, Located, Node, NodeKind, SourceTree};
-use grammar::{Callee, Intrinsic, Op};
+use grammar::{Callee, Intrinsic, Op, StoreOp, Var};
 use tokens::{Punctuator, Token};
 
 /// How far a shot flies at most, in metres.
-const MOST_RANGE: i32 = 700;
+pub const MOST_RANGE: i32 = 700;
 
 /// The greatest speed that `drive` takes, in percent.
 const MOST_SPEED: i32 = 100;
@@ -19,6 +23,9 @@ const MOST_RESOLUTION: i32 = 10;
 
 /// A number that is great enough to be one of 100,000ths.
 const LEAST_PARTS: i32 = 7000;
+
+/// The greatest number that is taken for a power of a shot, and not for its range.
+const MOST_POWER: i32 = 5;
 
 /// The degrees of a whole circle.
 const CIRCLE: i32 = 360;
@@ -39,10 +46,12 @@ pub fn warn_of_call(
     if let Some(wanted) = parameters(tree, callee)
         && wanted != arguments
     {
-        out.warn(node.token, Said::Arguments(wanted, arguments));
+        warn_of_count(out, subject, node.token, wanted, arguments);
     } else if let Callee::Intrinsic(intrinsic) = callee {
+        warn_of_named_arguments(out, subject, index, node);
         warn_of_pair(out, subject, index, node, intrinsic);
         warn_of_look(out, subject, index, node, intrinsic);
+        warn_of_aim(out, subject, index, node, intrinsic);
     }
     if is_name(subject.tokens, node.token, b"main") {
         out.tell(
@@ -51,6 +60,7 @@ pub fn warn_of_call(
         );
     }
     if !subject.profile.short_circuit()
+        && matters(tree, callee)
         && let Some(words) = on_right_side(tree, index)
     {
         out.warn(node.token, Said::Named(words));
@@ -61,6 +71,72 @@ pub fn warn_of_call(
     {
         out.warn(node.token, Said::Named(words));
     }
+}
+
+/// Warns of a call of a token with fewer arguments than are wanted, or with more.
+fn warn_of_count(
+    out: &mut Warnings,
+    subject: &Subject<'_>,
+    token: usize,
+    wanted: usize,
+    given: usize,
+) {
+    if given > wanted && has_thousands(subject.tokens, token) {
+        out.tell(
+            token,
+            "a number has no `,` between thousands: write `100000`, as a `,` parts two arguments",
+        );
+    } else {
+        out.warn(token, Said::Arguments(wanted, given));
+    }
+}
+
+/// Reports whether a number with a `,` between thousands stands in the line of the token of an index, behind it.
+fn has_thousands(tokens: &[Located], index: usize) -> bool {
+    for (number, located) in line_from(tokens, index).iter().enumerate() {
+        let comma = index.saturating_add(number).saturating_add(1);
+        let group = comma.saturating_add(1);
+        let is_parted = matches!(located.token, Token::Constant(_))
+            && token_at(tokens, comma) == Token::Punctuator(Punctuator::Comma)
+            && matches!(token_at(tokens, group), Token::Constant(..=999));
+        if is_parted && touches(tokens, comma) && touches(tokens, group) {
+            return true;
+        }
+    }
+    false
+}
+
+/// Warns of each argument of the call of an index that sets a variable which nothing reads, as if it were a name.
+fn warn_of_named_arguments(out: &mut Warnings, subject: &Subject<'_>, index: usize, node: &Node) {
+    for at in node.first..index {
+        if let Some(argument) = subject.tree.get(at)
+            && let NodeKind::Store(var, StoreOp::Set) = argument.kind
+            && argument.above == Some(index)
+            && !is_read(subject.tree, at, var)
+        {
+            out.warn(
+                argument.token,
+                Said::Written(
+                    "this sets a variable, and nothing reads it: arguments go by their order, and have no names",
+                    Rewrite::Unassigned(node.token),
+                    "",
+                ),
+            );
+        }
+    }
+}
+
+/// Reports whether the function that the node of an index is in reads a variable.
+fn is_read(tree: &SourceTree, index: usize, var: Var) -> bool {
+    let Some(body) = body_at(tree, index) else {
+        return true;
+    };
+    for node in tree.within(body.first, body.end) {
+        if node.kind == NodeKind::Fetch(var) {
+            return true;
+        }
+    }
+    false
 }
 
 /// Returns how many parameters a function has. One that isn't defined before the source's fault has none that are known.
@@ -97,16 +173,29 @@ fn on_returns(subject: &Subject<'_>, number: u8) -> Option<&'static str> {
     found
 }
 
+/// Reports whether it matters that a call is made: it acts, looks for other robots, or is one of the file's that does more
+/// than answer. The robot's own state and numbers may be asked for at any time.
+fn matters(tree: &SourceTree, callee: Callee) -> bool {
+    match callee {
+        Callee::Function(number) => !is_asked(tree, number),
+        Callee::Intrinsic(intrinsic) => intrinsic == Intrinsic::Scan || acts(intrinsic),
+    }
+}
+
 /// Returns what is said of the node of an index that is on the right of `&&` or `||`, both of whose sides are always
 /// evaluated.
 fn on_right_side(tree: &SourceTree, index: usize) -> Option<&'static str> {
     for node in tree.within(index, tree.all().len()) {
         match node.kind {
             NodeKind::Binary(Op::And) if node.second <= index => {
-                return Some(" is called whatever the left side of `&&` is, in this profile");
+                return Some(
+                    " is called whatever the left side of `&&` is, in this profile: to call it only then, write an `if`",
+                );
             }
             NodeKind::Binary(Op::Or) if node.second <= index => {
-                return Some(" is called whatever the left side of `||` is, in this profile");
+                return Some(
+                    " is called whatever the left side of `||` is, in this profile: to call it only else, write an `if`",
+                );
             }
             // the sides of every other operator are meant to be evaluated
             _ => {}
@@ -149,39 +238,67 @@ fn warn_of_pair(
 ) {
     let last = index.saturating_sub(1);
     let before = subject.tree.first_of(last).saturating_sub(1);
-    let (Some(left), Some(right), Some((order, most, beyond))) = (
-        subject.tree.get(before),
-        subject.tree.get(last),
-        pair_of(intrinsic),
-    ) else {
+    let Some((order, most, beyond)) = pair_of(intrinsic) else {
         return;
     };
     let (first, second) = (only_value(subject, before), only_value(subject, last));
-    // their names say that they are in the wrong order, or their values
-    let is_swapped = is_named(subject.tokens, left, &OTHERS)
-        && is_named(subject.tokens, right, &DEGREES)
-        || on_degree(subject.meanings.get(before)).is_some()
-            && left.kind != right.kind
-            && is_looked_at(subject, index, right)
-        || may_be_swapped(most, first, second);
+    let is_swapped = are_swapped(subject, index, before) || may_be_swapped(most, first, second);
     if is_swapped {
-        out.tell(node.token, order);
+        out.warn(
+            node.token,
+            Said::Written(order, Rewrite::Exchanged(node.token), ""),
+        );
     } else if let Some(second) = second
         && second > most
     {
-        out.tell(node.token, beyond);
+        out.warn(node.token, on_great(intrinsic, node.token, beyond));
     } else if matches!(second, Some(..0)) {
-        out.tell(node.token, on_negative(intrinsic));
+        out.warn(node.token, on_negative(intrinsic, node.token));
+    } else if intrinsic == Intrinsic::Cannon && matches!(second, Some(1..=MOST_POWER)) {
+        out.tell(
+            node.token,
+            "a range is in metres: this shot bursts at the robot itself, and hurts it; write `cannon(degree, range)`",
+        );
     } else {
         warn_of_meanings(out, subject, index, node, intrinsic);
     }
 }
 
-/// Returns what is said of a second argument below 0.
-fn on_negative(intrinsic: Intrinsic) -> &'static str {
-    match intrinsic {
-        Intrinsic::Drive => "a speed is at least 0: to drive back turn the degree by 180",
-        _ => "this argument is at least 0",
+/// Reports whether the names of two arguments of a call of an index say that they are in the wrong order, or what they mean; the first
+/// one is the node of another index.
+fn are_swapped(subject: &Subject<'_>, index: usize, before: usize) -> bool {
+    let (Some(left), Some(right)) = (
+        subject.tree.get(before),
+        subject.tree.get(index.saturating_sub(1)),
+    ) else {
+        return false;
+    };
+    is_named(subject.tokens, left, &OTHERS) && is_named(subject.tokens, right, &DEGREES)
+        || on_degree(subject.meanings.get(before)).is_some()
+            && left.kind != right.kind
+            && is_looked_at(subject, index, right)
+        || matches!(left.kind, NodeKind::Constant(1..)) && is_looked_at(subject, index, right)
+}
+
+/// Returns what is said of a second argument that is too great, by the token of its call.
+fn on_great(intrinsic: Intrinsic, token: usize, words: &'static str) -> Said {
+    if intrinsic == Intrinsic::Scan {
+        Said::Written(words, Rewrite::Limited(token, "10"), "")
+    } else {
+        Said::Words(words)
+    }
+}
+
+/// Returns what is said of a second argument below 0, by the token of its call.
+fn on_negative(intrinsic: Intrinsic, token: usize) -> Said {
+    if intrinsic == Intrinsic::Drive {
+        Said::Written(
+            "a speed is never negative: to drive backwards turn the degree by 180",
+            Rewrite::Backwards(token),
+            "",
+        )
+    } else {
+        Said::Words("this argument is at least 0")
     }
 }
 
@@ -209,10 +326,16 @@ fn warn_of_meanings(
     {
         out.tell(right.token, on_same(intrinsic));
     }
+    if warn_of_place(out, subject, index, node, intrinsic) {
+        return;
+    }
     if let Some(words) = on_degree(subject.meanings.get(first))
         && let Some(argument) = subject.tree.get(first)
     {
-        out.tell(argument.token, words);
+        out.warn(
+            argument.token,
+            on_answer(subject, index, node.token, first, words),
+        );
     }
     if let Some(words) = on_other(intrinsic, subject.meanings.get(last))
         && let Some(argument) = subject.tree.get(last)
@@ -241,7 +364,9 @@ fn on_degree(meaning: Meaning) -> Option<&'static str> {
         Meaning::Speed => Some("this is a speed, and no degree"),
         Meaning::Damage => Some("this is a damage, and no degree"),
         Meaning::Coordinate => Some("this is a coordinate, and no degree"),
-        Meaning::Distance => Some("this comes from a coordinate, and is no degree"),
+        Meaning::Distance | Meaning::Reckoned => {
+            Some("this comes from a coordinate, and is no degree")
+        }
         // no other value surely is another one than a degree
         _ => None,
     }
@@ -289,15 +414,19 @@ fn warn_of_look(
     if intrinsic == Intrinsic::Atan
         && (is_bare_quotient(subject, index) || matches!(constants.get(last), Some(1..=99)))
     {
-        out.tell(
+        out.warn(
             node.token,
-            "`atan` takes 100,000ths: write `atan(100000 * y / x)`",
+            Said::Written(
+                "`atan` takes 100,000ths",
+                Rewrite::Multiplied(node.token),
+                "atan(100000 * y / x)",
+            ),
         );
     }
     if intrinsic == Intrinsic::Rand && matches!(constants.get(last), Some(..=1)) {
         out.tell(
             node.token,
-            "this is always 0: `rand(n)` is one of 0 to n - 1",
+            "this is always 0: `rand(n)` is one of 0 to n - 1, so a degree is `rand(360)`",
         );
     }
     if matches!(intrinsic, Intrinsic::Sin | Intrinsic::Cos | Intrinsic::Tan)
@@ -362,7 +491,7 @@ fn may_be_swapped(most: i32, first: Option<i32>, second: Option<i32>) -> bool {
 }
 
 /// Names that say a degree.
-static DEGREES: [&str; 7] = [
+pub static DEGREES: [&str; 7] = [
     "angle",
     "degree",
     "degrees",
@@ -373,7 +502,7 @@ static DEGREES: [&str; 7] = [
 ];
 
 /// Names that say the other argument.
-static OTHERS: [&str; 6] = ["range", "distance", "dist", "speed", "resolution", "res"];
+pub static OTHERS: [&str; 6] = ["range", "distance", "dist", "speed", "resolution", "res"];
 
 /// Reports whether a node is a variable with one of these names.
 fn is_named(tokens: &[Located], node: &Node, names: &[&str]) -> bool {

@@ -7,10 +7,13 @@ use grammar::{Callee, Intrinsic, Op};
 
 /// A comparison of a value with a number.
 #[derive(Clone, Copy)]
-struct Comparison {
-    value: NodeKind,
-    op: Op,
-    number: i32,
+pub struct Comparison {
+    /// The node of the value.
+    pub value: NodeKind,
+    /// How it is compared.
+    pub op: Op,
+    /// The number.
+    pub number: i32,
 }
 
 /// Returns what is said of a comparison of the random number of an index with a number, if it never holds.
@@ -32,6 +35,12 @@ pub fn on_chance(
         && !may_hold).then_some("`rand(n)` is one of 0 to n - 1: this is never so")
 }
 
+/// What is said of two comparisons of which one always holds.
+pub const BOTH_ALWAYS: &str = "one of both is always so: perhaps `&&` is meant";
+
+/// What is said of two comparisons that never hold at once.
+pub const BOTH_NEVER: &str = "both are never so at once: perhaps `||` is meant";
+
 /// Returns what is said of two comparisons of one value, on the sides of `&&` or `||`, if together they never hold, or always.
 pub fn on_both(subject: &Subject<'_>, op: Op, left: usize, right: usize) -> Option<&'static str> {
     let (first, second) = (compared(subject, left)?, compared(subject, right)?);
@@ -51,8 +60,8 @@ pub fn on_both(subject: &Subject<'_>, op: Op, left: usize, right: usize) -> Opti
         }
     }
     match op {
-        Op::Or if is_always => Some("one of both is always so: perhaps `&&` is meant"),
-        Op::And if is_never => Some("both are never so at once: perhaps `||` is meant"),
+        Op::Or if is_always => Some(BOTH_ALWAYS),
+        Op::And if is_never => Some(BOTH_NEVER),
         _ => None,
     }
 }
@@ -60,7 +69,7 @@ pub fn on_both(subject: &Subject<'_>, op: Op, left: usize, right: usize) -> Opti
 /// Returns the comparison that the node of an index is: of a variable, or of what a call without arguments answers.
 /// It isn't inlined, since the page's module is to be small.
 #[inline(never)]
-fn compared(subject: &Subject<'_>, index: usize) -> Option<Comparison> {
+pub fn compared(subject: &Subject<'_>, index: usize) -> Option<Comparison> {
     let node = subject.tree.get(index)?;
     let first = subject.tree.get(node.first)?;
     let number = subject.constants.get(index.saturating_sub(1))?;

@@ -141,15 +141,34 @@ pub fn add_swallowing(note: &mut Note, line: u32) {
     );
 }
 
-/// Reports whether a text has a line end, behind it a `{` or a `;`, and behind that the beginning of a comment.
+/// Reports whether a text has a line end, behind it a `{` or a `;`, and behind that the beginning of a comment; or a line
+/// that has something else before that beginning.
 fn has_code(text: &[u8]) -> bool {
     let Some(lines) = after(text, b"\n") else {
         return false;
     };
+    if begins_in_line(lines) {
+        return true;
+    }
     match after(lines, b"{").or(after(lines, b";")) {
         Some(behind) => after(behind, b"/*").is_some(),
         None => false,
     }
+}
+
+/// Reports whether one of these lines has the beginning of a comment, and before it anything but blanks and `*`.
+fn begins_in_line(lines: &[u8]) -> bool {
+    let (mut has_text, mut last) = (false, b' ');
+    for byte in lines {
+        match *byte {
+            b'\n' => has_text = false,
+            b'*' if last == b'/' && has_text => return true,
+            b' ' | b'\t' | b'\r' | b'*' | b'/' => {}
+            _ => has_text = true,
+        }
+        last = *byte;
+    }
+    false
 }
 
 /// Reports whether a `*/` follows a comment without a `/*` between, and a position is before the end of that `*/`.

@@ -1,9 +1,10 @@
 //! Constructs of other languages, a text of each language: what begins a construct, and what a robot writes instead.
 //!
 //! A line of a text is a row. Before its tabulator stand words and marks that begin constructs, with blanks between them. What
-//! follows on the same line stands behind a `'`: there `@` is any name or word, and `&` a blank. Of those that begin in the
+//! follows on the same line stands behind a `'`: there `@` is any name or word, `9` any number, and `&` a blank. Of those that begin in the
 //! same way the longer ones come first. Behind the tabulator stands what a robot writes. A `^` before that says that the head
-//! of the function that follows is a line to copy, and a `;` that the declaration of the name that follows is one. Words of C
+//! of the function that follows is a line to copy, a `;` that the declaration of the name that follows is one, and a `*` or a `+`
+//! that a loop is one, which counts the turns, or is a `for`. Words of C
 //! are those that this language refuses, and others. Texts are smaller in the page's module than rows of texts.
 
 /// The languages, and their constructs. Small letters stand for capital ones, too.
@@ -36,7 +37,8 @@ const C: &str =
     "#'define #'include\tthere is no `#define` and no `#include`: write the number, or use a variable
 #'if\tthere is nothing before the compiler: leave the line out
 for'(;;\twhat is repeated for ever stands in `while (1) { .. }`
-for\tthere is no `for`: write `i = 0; while (i < 9) { ..; i = i + 1; }`
+for\t+there is no `for`
+do'9\t*there is no `do`: what is done so often stands in a `while`
 do\tthere is no `do`: write `while (..) ..`
 break\tthere is no `break`: end the loop by its condition, or by `return`
 continue\tthere is no `continue`: put the rest of the loop into an `if`
@@ -61,7 +63,7 @@ void')\ta function without parameters has empty brackets: `main() {`
 void\t^leave `void` out
 enum\tthere is no `enum`: write the number, or use a variable
 inline'@\t^leave it out
-printf'( puts'(\ta robot writes nothing: leave the line out
+printf'( puts'(\ta robot writes nothing, and has no text: leave the line out
 scanf'(\ta robot reads nothing: leave the line out
 volatile'@\tleave `volatile` out
 sleep'(\tnothing waits by itself: a loop does, such as `while (speed() > 0) ;`
@@ -78,7 +80,7 @@ std\ta name stands alone: leave `std::` out
 :':\ta name stands alone: leave `::` out, with what is before it
 namespace'@\tleave it out: a robot is one file
 template\tleave it out: all values are whole numbers
-cout'<\ta robot writes nothing: leave the line out
+cout'<\ta robot writes nothing, and has no text: leave the line out
 nullptr\twrite 0
 virtual'@\t^leave it out
 delete'@\tthere are no objects: leave the line out";
@@ -90,7 +92,7 @@ public'@ private'@ protected'@\t^leave it out
 class'@\tthere are no classes: leave it out with its `{` and `}`; functions stand alone
 final'@\t;there are no constants with names: write the number, or use a variable
 new'@\tthere are no objects: leave the line out, or use several variables
-System\ta robot writes nothing: leave the line out
+System\ta robot writes nothing, and has no text: leave the line out
 package'@\ta robot is one file: leave the line out
 String'@\tthere is no text: all values are whole numbers
 boolean'@\t;all values are whole numbers
@@ -100,7 +102,7 @@ extends'@\tthere are no classes: leave it out
 Thread'.\tnothing waits by itself: a loop does, such as `while (speed() > 0) ;`";
 
 /// The constructs of C#.
-const C_SHARP: &str = "Console\ta robot writes nothing: leave the line out
+const C_SHARP: &str = "Console\ta robot writes nothing, and has no text: leave the line out
 string'@ $'\"\tthere is no text: all values are whole numbers
 foreach\tthere is no `foreach`: write `i = 0; while (i < 9) { ..; i = i + 1; }`
 readonly'@\t;there are no constants with names: write the number, or use a variable";
@@ -108,7 +110,7 @@ readonly'@\t;there are no constants with names: write the number, or use a varia
 /// The constructs of JavaScript.
 const JAVASCRIPT: &str = "function'@\t^a function begins with its name
 let'@ var'@\t;a declaration begins with `int`
-console alert'(\ta robot writes nothing: leave the line out
+console alert'(\ta robot writes nothing, and has no text: leave the line out
 Math\twhat it has stands alone here: `rand(360)`, `sqrt(9)`, `sin(45)`; all values are whole numbers
 async'@ await'@\tleave it out: a robot does one thing after the other
 export'@\tleave it out: a robot is one file
@@ -129,7 +131,7 @@ lambda'@\ta function has a name, and stands outside of others
 and\twrite `&&`
 or\twrite `||`
 not\twrite `!`
-print'(\ta robot writes nothing: leave the line out
+print'(\ta robot writes nothing, and has no text: leave the line out
 except raise'@\tnothing is thrown: leave it out
 math\twhat it has stands alone here: `sqrt(9)`, `sin(45)`, `atan(100000)`; all values are whole numbers
 __name__\tleave the line out: a robot begins in `main() {`
@@ -155,18 +157,19 @@ next'@\ta block ends with `}`, and counts itself: `i = i + 1;`
 rem'@\ta comment stands between `/*` and `*/`: `/* go east */`
 dim'@\t;a declaration begins with `int`
 sub'@\t^a function begins with its name
-print'\" print'@\ta robot writes nothing: leave the line out
+print'\" print'@\ta robot writes nothing, and has no text: leave the line out
 gosub'@ call'@\ta function is called by its name: `turn(90);`
 mod\tthe remainder is written `%`";
 
 /// The constructs of Scratch.
 const SCRATCH: &str = "forever\twhat is repeated for ever stands in `while (1) { .. }`
-repeat'(\twrite `n = 0; while (n < 10) { n = n + 1; .. }`
+repeat'( repeat'9\t*what is done so often stands in a `while`
 when'@\tleave the line out: a robot begins in `main() {`
 set'@\twrite `a = 5;`";
 
 /// The constructs of Ruby.
-const RUBY: &str = ".'times\twrite `n = 0; while (n < 10) { n = n + 1; .. }`
+const RUBY: &str =
+    ".'times loop'( loop'9 times'( times'9\t*what is done so often stands in a `while`
 elsif\twrite `else if`
 unless\twrite `if (!(..))`";
 
@@ -178,7 +181,7 @@ procedure'@\t^a function begins with its name
 program'@\tleave the line out: a robot begins in `main() {`
 repeat until\twrite `while (..) {`, with the condition turned round, and `}`
 div\ta quotient is written `/`
-writeln\ta robot writes nothing: leave the line out
+writeln\ta robot writes nothing, and has no text: leave the line out
 uses'@\ta robot is one file: leave the line out
 ('*&\ta comment stands between `/*` and `*/`: `/* go east */`";
 
@@ -186,10 +189,11 @@ uses'@\ta robot is one file: leave the line out
 const RUST: &str = "fn'@\t^a function begins with its name
 loop'{\twhat is repeated for ever stands in `while (1) { .. }`
 mut'@\tleave it out
-println\ta robot writes nothing: leave the line out";
+println\ta robot writes nothing, and has no text: leave the line out";
 
 /// The constructs of Kotlin.
 const KOTLIN: &str = "fun'@\t^a function begins with its name
+when'(\twrite `if (a == 1) ..; else if (a == 2) ..;`
 val'@\t;a declaration begins with `int`";
 
 /// The constructs of Lua.
@@ -199,7 +203,7 @@ const LUA: &str = "local'@\t;a declaration begins with `int`
 
 /// The constructs of PHP.
 const PHP: &str = "$'@\ta name has no `$`
-echo\ta robot writes nothing: leave the line out";
+echo\ta robot writes nothing, and has no text: leave the line out";
 
 /// The constructs of HTML.
 const HTML: &str = "<'!\ta comment stands between `/*` and `*/`: `/* go east */`";

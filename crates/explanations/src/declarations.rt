@@ -2,8 +2,8 @@
 
 use crate::indices::name_at;
 use arrayvec::ArrayVec;
-use derivations::{Event, Located, Meaning, Walk};
-use grammar::{MOST_NAMES, Profile};
+use derivations::{Located, Meaning};
+use grammar::MOST_NAMES;
 
 /// The declared variables of a source, by the indices of their names' tokens.
 #[derive(Drop)]
@@ -13,21 +13,12 @@ pub struct Declarations {
 }
 
 impl Declarations {
-    /// Finds them, up to the source's first fault if it has one.
-    pub fn of(tokens: &[Located], profile: Profile) -> Declarations {
-        let mut found = Declarations {
+    /// Begins without one.
+    pub(crate) fn new() -> Declarations {
+        Declarations {
             externals: ArrayVec::new(),
             hiding: ArrayVec::new(),
-        };
-        let mut walk = Walk::start(tokens, profile);
-        for _ in 0..u64::MAX {
-            match walk.step() {
-                Event::Named { token, meaning } => found.note(tokens, token, meaning),
-                Event::Refused { .. } | Event::Done => break,
-                Event::Passed | Event::Number { .. } | Event::Made { .. } => {}
-            }
         }
-        found
     }
 
     /// Returns the variables of the file.
@@ -41,7 +32,7 @@ impl Declarations {
     }
 
     /// Notes what a name declares.
-    fn note(&mut self, tokens: &[Located], token: usize, meaning: Meaning) {
+    pub(crate) fn note(&mut self, tokens: &[Located], token: usize, meaning: Meaning) {
         match meaning {
             Meaning::External => {
                 let _ = self.externals.try_push(token);
@@ -55,7 +46,7 @@ impl Declarations {
     }
 
     /// Reports whether a variable of the file has the name of a token.
-    fn hides(&self, tokens: &[Located], token: usize) -> bool {
+    pub fn hides(&self, tokens: &[Located], token: usize) -> bool {
         let name = name_at(tokens, token);
         for external in self.externals() {
             if name_at(tokens, *external) == name {

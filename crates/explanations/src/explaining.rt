@@ -4,17 +4,22 @@ ghost use Rattle.std.specs.Prelude.{◌≡◌, Err};
 ghost use Rattle.grammar.specs.Compiled.{compiled};
 ghost use Rattle.explanations.specs.Faults.{IsOn, first_line};
 
+use crate::arrows::on_arrows;
 use crate::carets::{add_marked, add_shown};
+use crate::chosen::on_chosen_values;
 use crate::comments::{is_unbegun, nested, swallowing};
+use crate::conditions::on_ended_conditions;
+use crate::declaring::{on_prototypes, on_reserved_names};
 use crate::foreign::foreign_at;
-use crate::hints::{
-    Hint, hint_on, on_arrows, on_ended_conditions, on_headed_colons, on_methods, on_prototypes,
-    on_reserved_names,
-};
+use crate::hints::Hint;
 use crate::letters::name_around;
 use crate::marks::on_character;
+use crate::members::on_members;
+use crate::misfits::{hint_on, on_headed_colons};
 use crate::misnamed::add_misnamed;
+use crate::named::on_named_arguments;
 use crate::notes::Note;
+use crate::remarks::on_remarks;
 use crate::scenes::Scene;
 use crate::searches::Search;
 use crate::sizes::add_sizes;
@@ -61,26 +66,34 @@ pub fn explain_left(
 ) -> Note
     ensures { IsOn diagnostic.now result.text.bytes }
 {
-    let mut search = Search::of(tokens, profile);
+    explain_found(source, &mut Search::of(tokens, profile), diagnostic)
+}
+
+/// Explains a fault of what is left of a source, as `explain_left` does, by a search along what is left that hasn't begun.
+/// The search is at the fault then, or behind it.
+pub fn explain_found(source: &[u8], search: &mut Search<'_>, diagnostic: &Diagnostic) -> Note
+    ensures { IsOn diagnostic.now result.text.bytes }
+{
     let index = search.find(diagnostic);
+    let tokens = search.tokens();
     let found = Found {
         source,
         tokens,
         index,
         met: tokens.get(index).copied().unwrap_or_default(),
         code: diagnostic.code,
-        profile,
+        profile: search.profile(),
     };
     let mut reason = Note::new();
     add_marked(&mut reason, found.source, found.met.start());
-    add_reason(&mut reason, &found, &search);
+    add_reason(&mut reason, &found, search);
     let mut note = head_of(diagnostic, found.met.column);
     note.add(reason.as_str());
     note
 }
 
 /// Adds what is known of a fault beside its position.
-fn add_reason(note: &mut Note, found: &Found<'_>, search: &Search<'_>) {
+fn add_reason(note: &mut Note, found: &Found<'_>, search: &mut Search<'_>) {
     match found.code {
         Code::SyntaxError | Code::ReservedWord | Code::BadCharacter => {
             add_misfit(note, found, search);
@@ -97,7 +110,7 @@ fn add_reason(note: &mut Note, found: &Found<'_>, search: &Search<'_>) {
         | Code::NestedTooDeeply
         | Code::TooManyVariables
         | Code::TooManyFunctions
-        | Code::TooMuchCode => add_limit(note, found),
+        | Code::TooMuchCode => add_limit(note, found, search),
     }
     if ends_lines_by_return(found.source) {
         note.add(
@@ -174,10 +187,12 @@ fn hint_for(found: &Found<'_>, scene: &Scene<'_>) -> Option<Hint> {
     if is_unbegun(found.source, found.met.start()) {
         return Some(Hint::Text("a comment begins with `/*`: it is missing before this text"));
     }
-    if let Some(hint) = on_prototypes(scene)
+    if let Some(hint) = on_remarks(found.source, found.met.start())
+        .or(on_prototypes(scene))
         .or(on_reserved_names(scene))
         .or(on_ended_conditions(scene))
         .or(on_arrows(scene))
+        .or(on_members(scene))
     {
         return Some(hint);
     }
@@ -185,7 +200,10 @@ fn hint_for(found: &Found<'_>, scene: &Scene<'_>) -> Option<Hint> {
         return Some(Hint::Foreign(foreign));
     }
     match found.code {
-        Code::BadCharacter => match on_headed_colons(scene).or(on_methods(scene)) {
+        Code::BadCharacter => match on_headed_colons(scene)
+            .or(on_named_arguments(scene))
+            .or(on_chosen_values(scene))
+        {
             Some(hint) => Some(hint),
             None => Some(Hint::Text(on_character(found, scene)?)),
         },
@@ -202,7 +220,7 @@ pub fn add_met(note: &mut Note, found: &Found<'_>) {
 }
 
 /// Adds the limit that a source exceeds.
-fn add_limit(note: &mut Note, found: &Found<'_>) {
+fn add_limit(note: &mut Note, found: &Found<'_>, search: &mut Search<'_>) {
     note.add("  hint: ");
     match found.code {
         Code::CommentNotClosed => note.add("the comment that begins here has no `*/`"),
@@ -223,7 +241,7 @@ fn add_limit(note: &mut Note, found: &Found<'_>) {
             u64::from(MOST_SOURCE_BYTES),
             " bytes",
         ),
-        Code::TooMuchCode => add_sizes(note, found),
+        Code::TooMuchCode => add_sizes(note, found, search),
         _ => add_greatest_count(note, found.code),
     }
     note.push('\n');

@@ -4,6 +4,7 @@ use crate::assigning::add_declaration;
 use crate::constructs::LANGUAGES;
 use crate::heads::add_head;
 use crate::notes::Note;
+use crate::rewriting::{Rewrite, add_written};
 use crate::scenes::Scene;
 use crate::spelling::is_same_but_for_case;
 use crate::texts::{MOST_PARTS, parted};
@@ -12,6 +13,12 @@ use derivations::{Item, Located};
 use grammar::store_operator;
 use std::str;
 use tokens::{Name, Punctuator, Token};
+
+/// A loop that counts turns.
+const COUNTED: &str = "n = 0; while (n < 10) { n = n + 1; .. }";
+
+/// A loop for a `for`.
+const STEPPED: &str = "i = 0; while (i < 9) { ..; i = i + 1; }";
 
 /// A construct that a source has: what is said of it, the number of its language, and the index of its token.
 #[derive(Clone, Copy)]
@@ -41,6 +48,12 @@ impl Foreign {
         } else if let Some(words) = self.says.strip_prefix(';') {
             note.add(words);
             add_declaration(note, source, tokens, behind);
+        } else if let Some(words) = self.says.strip_prefix('*') {
+            note.add(words);
+            add_written(note, source, tokens, Rewrite::Counted(index), COUNTED);
+        } else if let Some(words) = self.says.strip_prefix('+') {
+            note.add(words);
+            add_written(note, source, tokens, Rewrite::For(index), STEPPED);
         } else {
             note.add(self.says);
         }
@@ -191,6 +204,7 @@ fn begins_so(text: &[u8], wanted: &[u8]) -> bool {
         };
         match mark {
             b'@' => return byte.is_ascii_alphabetic() || *byte == b'_',
+            b'9' => return byte.is_ascii_digit(),
             b'&' if matches!(byte, b' ' | b'\t') => {}
             _ if byte == mark => {}
             _ => return false,

@@ -12,6 +12,9 @@ use tokens::{Keyword, Punctuator, Token};
 pub fn on_character(found: &Found<'_>, scene: &Scene<'_>) -> Option<&'static str> {
     let (source, met) = (found.source, &found.met);
     match source.get(met.start()).copied().unwrap_or(0) {
+        b'`' if source.get(met.start()..).unwrap_or(&[]).starts_with(b"```") => Some(
+            "three backquotes are the marks of a chat around code, and no part of it: leave the line out",
+        ),
         b'"' | b'\'' if scene.kinds.statement || scene.is_outside() => Some(
             "there is no text and no string: a comment stands between `/*` and `*/`",
         ),
@@ -26,9 +29,6 @@ pub fn on_character(found: &Found<'_>, scene: &Scene<'_>) -> Option<&'static str
         ),
         b'[' | b']' => Some("there are no arrays and no lists: use several variables"),
         b'?' => Some("there is no `?:`: write `if (..) a = ..; else a = ..;`"),
-        b':' if names_argument(scene) => Some(
-            "an argument has no name: it goes by its place, as in `drive(degree, speed)`",
-        ),
         b':' if ends_label(scene) => Some(
             "there are no labels: what is repeated for ever stands in `while (1) { .. }`",
         ),
@@ -85,16 +85,6 @@ fn follows_test(found: &Found<'_>) -> bool {
 fn ends_label(scene: &Scene<'_>) -> bool {
     let before = scene.index.saturating_sub(1);
     scene.name(before).is_some() && scene.chosen_at() == before
-}
-
-/// Reports whether a name that begins an argument is right before the token that doesn't fit.
-fn names_argument(scene: &Scene<'_>) -> bool {
-    let name = scene.index.saturating_sub(1);
-    let begins = matches!(
-        scene.token(name.saturating_sub(1)),
-        Token::Punctuator(Punctuator::OpenRound | Punctuator::Comma)
-    );
-    begins && scene.name(name).is_some() && scene.fits_mark(Punctuator::Comma)
 }
 
 /// Reports whether a number is right before the first byte of a fault's token, or a digit right behind it.

@@ -30,8 +30,10 @@ pub enum Meaning {
     Damage,
     /// What `loc_x` or `loc_y` answers.
     Coordinate,
-    /// How far two coordinates are apart, or a coordinate that something was added to.
+    /// How far two coordinates are apart, or a coordinate that a number was added to.
     Distance,
+    /// What is reckoned from a coordinate: something else was added to it, or it is one of several such values.
+    Reckoned,
     /// Several things, or another one.
     Mixed,
 }
@@ -43,6 +45,8 @@ impl Meaning {
             self
         } else if self == Meaning::Open {
             other
+        } else if self.is_place() && other.is_place() {
+            Meaning::Reckoned
         } else {
             Meaning::Mixed
         }
@@ -50,10 +54,14 @@ impl Meaning {
 
     /// Returns what the sum or the difference of two values means.
     fn plus(self, other: Meaning) -> Meaning {
-        if self.is_place() && other.is_place_or_number()
+        if self == Meaning::Reckoned || other == Meaning::Reckoned {
+            Meaning::Reckoned
+        } else if self.is_place() && other.is_place_or_number()
             || other.is_place() && self.is_place_or_number()
         {
             Meaning::Distance
+        } else if self.is_place() || other.is_place() {
+            Meaning::Reckoned
         } else if self.is_range() && other.is_number() || other.is_range() && self.is_number() {
             Meaning::Farther
         } else {
@@ -61,9 +69,12 @@ impl Meaning {
         }
     }
 
-    /// Reports whether it is a coordinate, or how far two are apart.
-    fn is_place(self) -> bool {
-        matches!(self, Meaning::Coordinate | Meaning::Distance)
+    /// Reports whether it is a coordinate, or comes from one.
+    pub fn is_place(self) -> bool {
+        matches!(
+            self,
+            Meaning::Coordinate | Meaning::Distance | Meaning::Reckoned
+        )
     }
 
     /// Reports whether it is that or a number.

@@ -28,9 +28,15 @@ y gety posy ypos positiony locationy ycoord\tthe call is `loc_y()`
 health getdamage life lives hitpoints energy gethealth getenergy armor armour hp\tthe call is `damage()`
 getspeed velocity getvelocity\tthe call is `speed()`
 random rnd randint randrange getrandom\tthe call is `rand(limit)`
-print printf println echo log debug say write writeln display draw cout cin endl puts\ta robot writes nothing
+print printf println echo log debug say write writeln display draw cout cin endl puts\ta robot writes nothing, and has no text
 wait sleep delay pause yield donothing\tnothing waits by itself: a loop does, such as `while (speed() > 0) ;`
-abs fabs pow min max sign round floor ceil exp atan2 hypot normalize\tit isn't there: write it as a function of the file
+abs fabs absolute\t`abs` isn't there: write `if (a < 0) a = -a;`, or a function of the file
+min minimum\t`min` isn't there: write `if (b < a) a = b;`, or a function of the file
+max maximum\t`max` isn't there: write `if (b > a) a = b;`, or a function of the file
+pow power\tthere are no powers: multiply, as `a * a`, or write a function of the file
+round floor ceil trunc parseint toint\tall values are whole numbers: leave it out, as a quotient is one
+atan2 hypot\tit isn't there: write it as a function of the file, by `atan(100000 * y / x)` or `sqrt(x * x + y * y)`
+sign exp normalize clamp\tit isn't there: write it as a function of the file
 heading getheading gunheading getgunheading getdirection getangle bearing getbearing facing\ta robot isn't told where it heads: keep the degree in a variable
 distance dist getdistance distanceto\t`scan(degree, resolution)` answers how far a robot is; else write it as a function of the file
 time clock gettime gettick ticks millis now\tnothing tells the time: count the turns of a loop
@@ -116,7 +122,19 @@ fn add_first(note: &mut Note, tokens: &[Located], defined: &[usize], name: &Name
         if let Some(first) = tokens.get(*index)
             && first.token == Token::Name(*name)
         {
-            return note.count("it is defined on line ", u64::from(first.line), " already");
+            note.count("it is defined on line ", u64::from(first.line), " already");
+            if name.has_bytes(b"main") {
+                note.add(
+                    ": a robot has only one `main`, and does one thing after the other in its loop",
+                );
+            } else {
+                note.add(
+                    ": one name is one function, whatever its parameters, so give this one another name: write `",
+                );
+                note.add(text_of(name));
+                note.add("2`");
+            }
+            return;
         }
     }
     note.add("it is defined already");
@@ -127,7 +145,7 @@ fn on_parameter(found: &Found<'_>) -> &'static str {
     if ends_in_brackets(before(found)) {
         "the list has this name twice"
     } else {
-        "the list in the brackets hasn't this name; locals are declared behind the `{`"
+        "this is not a parameter: the list in the brackets hasn't it; locals are declared after the `{`"
     }
 }
 
@@ -177,7 +195,12 @@ fn add_perhaps(note: &mut Note, name: &str) {
 
 /// Returns the hint on a name that beginners use.
 pub fn on_used(name: &Name) -> Option<&'static str> {
-    said_of(USED, name.as_bytes())
+    on_used_bytes(name.as_bytes())
+}
+
+/// Returns the hint on a name that beginners use, by its bytes.
+pub fn on_used_bytes(name: &[u8]) -> Option<&'static str> {
+    said_of(USED, name)
 }
 
 /// Returns the name of the first intrinsic function that may be meant by another name.

@@ -115,6 +115,29 @@ impl Reach {
     }
 }
 
+/// Reports whether each run that comes through the node of an index comes to a later one, if it ends no body between: each branch
+/// and each loop that has the first in its body has the second one in the same body.
+pub fn is_straight(tree: &SourceTree, first: usize, second: usize) -> bool {
+    for node in tree.within(first, second) {
+        let is_test = matches!(node.kind, NodeKind::If | NodeKind::IfElse | NodeKind::While);
+        if is_test && node.second <= first {
+            return false;
+        }
+    }
+    !parts(tree, first, second)
+}
+
+/// Reports whether some `if` has one node in its first branch, and a later one in its second.
+fn parts(tree: &SourceTree, first: usize, second: usize) -> bool {
+    for node in tree.within(second, tree.all().len()) {
+        let is_between = node.second <= first && first < node.third && node.third <= second;
+        if node.kind == NodeKind::IfElse && is_between {
+            return true;
+        }
+    }
+    false
+}
+
 /// Reports whether the node of an index is marked.
 fn has(marks: &Marks, index: usize) -> bool {
     marks.get(index) == Some(&true)

@@ -82,7 +82,7 @@ fn turns_fast(subject: &Subject<'_>, index: usize) -> bool {
 }
 
 /// Returns the degree and the speed of the statement of an index, if it is a `drive` and both are known.
-fn driven(subject: &Subject<'_>, index: usize) -> Option<(i32, i32)> {
+pub fn driven(subject: &Subject<'_>, index: usize) -> Option<(i32, i32)> {
     let call = index.checked_sub(1)?;
     if !is_call_of(subject.tree, index, Intrinsic::Drive) {
         return None;

@@ -3,9 +3,9 @@
 use crate::explaining::Found;
 use crate::indices::name_at;
 use crate::notes::Note;
+use crate::searches::Search;
 use crate::told::text_of;
 use arrayvec::ArrayVec;
-use derivations::{Event, Meaning, Walk};
 use grammar::MOST_NAMES;
 
 /// The most functions that are named.
@@ -19,41 +19,36 @@ struct Size {
 }
 
 /// Adds how many instructions a source has, by how many these pass the profile's limit, and those of its largest
-/// functions, the largest first. Behind a further fault nothing is counted.
-pub fn add_sizes(note: &mut Note, found: &Found<'_>) {
-    let mut sizes: ArrayVec<Size, MOST_NAMES> = ArrayVec::new();
-    let mut walk = Walk::start(found.tokens, found.profile);
-    let mut before = 0;
-    for _ in 0..u64::MAX {
-        match walk.step() {
-            Event::Named {
-                token,
-                meaning: Meaning::Begins(_),
-            } => {
-                before = walk.instructions();
-                let _ = sizes.try_push(Size {
-                    token,
-                    instructions: 0,
-                });
-            }
-            _ if walk.is_over() => break,
-            _ => {}
-        }
-        if let Some(size) = sizes.as_mut_slice().last_mut() {
-            size.instructions = walk.instructions().saturating_sub(before);
-        }
-    }
+/// functions, the largest first. The search has found the fault. Behind a further fault nothing is counted.
+pub fn add_sizes(note: &mut Note, found: &Found<'_>, search: &mut Search<'_>) {
+    let made = search.go_on();
     let (all, most) = (
-        walk.instructions() as u64,
+        search.instructions() as u64,
         u64::from(found.profile.instructions()),
     );
     note.count("the code has ", all, " instructions, ");
     note.count("", all.saturating_sub(most), " more than the ");
     note.count("", most, " of this profile: ");
+    let mut sizes = sizes_of(search, made);
     let sizes = sizes.as_mut_slice();
     sizes.sort_unstable_by_key(|size| (usize::MAX - size.instructions, size.token));
     add_largest(note, found, sizes);
     note.add("; leave some out, or make a function of what is repeated");
+}
+
+/// Returns how much code each function has that a search came upon, the last first, by how many instructions are made up to
+/// the end of that.
+fn sizes_of(search: &Search<'_>, made: usize) -> ArrayVec<Size, MOST_NAMES> {
+    let mut sizes = ArrayVec::new();
+    let mut end = made;
+    for (token, entry) in search.defined().iter().zip(search.entries()).rev() {
+        let _ = sizes.try_push(Size {
+            token: *token,
+            instructions: end.saturating_sub(*entry),
+        });
+        end = *entry;
+    }
+    sizes
 }
 
 /// Adds the instructions of the first of these functions.

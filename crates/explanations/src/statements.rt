@@ -1,6 +1,7 @@
 //! Warnings about statements that are an expression: without effect, or a `drive` that is replaced at once.
 
 use crate::indices::{before, follows};
+use crate::rewriting::Rewrite;
 use crate::variables::set_by;
 use crate::warnings::{Said, Subject, Warnings};
 use derivations::{Located, Node, NodeKind, SourceTree};
@@ -13,12 +14,14 @@ pub fn warn_of_statement(out: &mut Warnings, subject: &Subject<'_>, index: usize
     let tree = subject.tree;
     let below = tree.within(node.first, index);
     if !have_effect(below) {
-        let words = if is_declared(subject.tokens, node.token) {
-            "this statement has no effect: perhaps a `,` is meant before it, and not a `;`"
+        let said = if is_declared(subject.tokens, node.token) {
+            Said::Words(
+                "this statement has no effect: perhaps a `,` is meant before it, and not a `;`",
+            )
         } else {
             on_no_effect(tree, index)
         };
-        out.tell(node.token, words);
+        out.warn(node.token, said);
     } else if let Some(call) = tree.get(index.saturating_sub(1))
         && let NodeKind::Call(Callee::Function(number), _) = call.kind
         && is_asked(tree, number)
@@ -46,63 +49,85 @@ pub fn warn_of_statement(out: &mut Warnings, subject: &Subject<'_>, index: usize
 
 /// Reports whether a statement begins right behind a declaration in one line, as if it went on.
 fn is_declared(tokens: &[Located], begin: usize) -> bool {
-    let Some(semicolon) = before(tokens, begin) else {
+    let (Some(semicolon), Some(first)) = (before(tokens, begin), tokens.get(begin)) else {
         return false;
     };
-    let mut is_declaring = false;
-    for located in tokens.get(..begin).unwrap_or(&[]) {
-        if located.line == semicolon.line {
-            is_declaring = match located.token {
-                Token::Keyword(Keyword::Type) => true,
-                Token::Name(_) | Token::Punctuator(Punctuator::Comma | Punctuator::Semicolon) => {
-                    is_declaring
-                }
-                _ => false,
-            };
+    semicolon.token == Token::Punctuator(Punctuator::Semicolon)
+        && matches!(first.token, Token::Name(_))
+        && first.line == semicolon.line
+        && ends_list(tokens.get(..begin).unwrap_or(&[]), first.line)
+}
+
+/// Reports whether tokens end with a type word on this line and names behind it, with commas and semicolons between them.
+fn ends_list(tokens: &[Located], line: u32) -> bool {
+    for located in tokens.iter().rev() {
+        match located.token {
+            _ if located.line != line => return false,
+            Token::Name(_) | Token::Punctuator(Punctuator::Comma | Punctuator::Semicolon) => {}
+            _ => return located.token == Token::Keyword(Keyword::Type),
         }
     }
-    let is_ended = semicolon.token == Token::Punctuator(Punctuator::Semicolon);
-    let is_on_line = match tokens.get(begin) {
-        Some(first) => first.line == semicolon.line && matches!(first.token, Token::Name(_)),
-        None => false,
-    };
-    is_declaring && is_ended && is_on_line
+    false
 }
 
 /// Returns what is said of the statement of an index, which has no effect.
-fn on_no_effect(tree: &SourceTree, index: usize) -> &'static str {
+fn on_no_effect(tree: &SourceTree, index: usize) -> Said {
     let Some(node) = tree.get(index.saturating_sub(1)) else {
-        return "this statement has no effect";
+        return Said::Words("this statement has no effect");
     };
     let left = match tree.get(node.second.saturating_sub(1)) {
         Some(left) => left.kind,
         None => node.kind,
     };
     match (node.kind, left) {
-        (
-            NodeKind::Binary(
-                Op::Equal | Op::Less | Op::LessOrEqual | Op::Greater | Op::GreaterOrEqual,
-            ),
-            NodeKind::Fetch(_),
-        ) => { "this only compares, and has no effect: to set a variable write `=`" }
-        (NodeKind::Binary(Op::Add), NodeKind::Fetch(_)) => {
-            "this statement has no effect: perhaps `a = a + 20` is meant"
+        (NodeKind::Binary(op), NodeKind::Fetch(_)) => on_bare(op, node.token),
+        (NodeKind::Call(Callee::Intrinsic(intrinsic), given), _) => {
+            on_question(intrinsic, given, node.token)
         }
-        (NodeKind::Call(Callee::Intrinsic(Intrinsic::Scan), _), _) => {
-            "this statement has no effect: keep the answer, as in `r = scan(d, 10);`"
-        }
-        (NodeKind::Call(Callee::Intrinsic(Intrinsic::Speed), 1..), _) => {
-            "this statement has no effect: a speed is set by `drive(degree, speed)`"
-        }
-        (NodeKind::Call(Callee::Intrinsic(Intrinsic::LocX | Intrinsic::LocY), 1..), _) => {
-            "this statement has no effect: a robot comes to a place by `drive(degree, speed)`"
-        }
-        _ => "this statement has no effect",
+        _ => Said::Words("this statement has no effect"),
+    }
+}
+
+/// Returns what is said of an operator on a variable that is a statement.
+fn on_bare(op: Op, token: usize) -> Said {
+    match op {
+        Op::Equal => Said::Written(
+            "this only compares, and has no effect: to set a variable write `=`",
+            Rewrite::Joined(token, token.saturating_add(1), "="),
+            "",
+        ),
+        Op::Less | Op::LessOrEqual | Op::Greater | Op::GreaterOrEqual => Said::Words(
+            "this only compares, and has no effect: to set a variable write `=`",
+        ),
+        Op::Add => Said::Written(
+            "this statement has no effect, as nothing keeps the sum",
+            Rewrite::Grown(token),
+            "a = a + 20",
+        ),
+        _ => Said::Words("this statement has no effect"),
+    }
+}
+
+/// Returns what is said of a question that is a statement.
+fn on_question(intrinsic: Intrinsic, given: usize, token: usize) -> Said {
+    match intrinsic {
+        Intrinsic::Scan => Said::Written(
+            "this statement has no effect: keep the answer",
+            Rewrite::Answered(token),
+            "r = scan(d, 10);",
+        ),
+        Intrinsic::Speed if given > 0 => Said::Words(
+            "this statement has no effect: a speed is set by `drive(degree, speed)`",
+        ),
+        Intrinsic::LocX | Intrinsic::LocY if given > 0 => Said::Words(
+            "this statement has no effect: a robot comes to a place by `drive(degree, speed)`",
+        ),
+        _ => Said::Words("this statement has no effect"),
     }
 }
 
 /// Reports whether the function of a number answers something, and does nothing else.
-fn is_asked(tree: &SourceTree, number: u8) -> bool {
+pub fn is_asked(tree: &SourceTree, number: u8) -> bool {
     for body in tree.bodies() {
         if body.number == number {
             let nodes = tree.within(body.first, body.end);
@@ -182,7 +207,7 @@ fn has_effect(node: &Node) -> bool {
 
 /// Reports whether an intrinsic function does more than answer. `rand` takes one of the random numbers, which are in a
 /// row.
-fn acts(intrinsic: Intrinsic) -> bool {
+pub fn acts(intrinsic: Intrinsic) -> bool {
     matches!(
         intrinsic,
         Intrinsic::Cannon | Intrinsic::Drive | Intrinsic::Rand

@@ -103,6 +103,37 @@ fn step_of(tree: &SourceTree, constants: &Constants, body: &Body, var: Var) -> O
     least
 }
 
+/// Returns the step by which the function that the node of an index is in changes a variable, if there is one alone.
+pub fn only_step(subject: &Subject<'_>, index: usize, var: Var) -> Option<i32> {
+    let body = body_at(subject.tree, index)?;
+    let mut count: usize = 0;
+    for node in subject.tree.within(body.first, body.end) {
+        if set_by(node) == Some(var) {
+            count = count.saturating_add(1);
+        }
+    }
+    if count != 2 {
+        return None;
+    }
+    step_of(subject.tree, subject.constants, body, var)
+}
+
+/// Reports whether the node of an index changes a variable by a number that isn't 0.
+pub fn steps_on(subject: &Subject<'_>, index: usize, var: Var) -> bool {
+    let Some(node) = subject.tree.get(index) else {
+        return false;
+    };
+    let value = index.saturating_sub(1);
+    let step = match node.kind {
+        NodeKind::PrefixIncrement(..) | NodeKind::PostfixIncrement(..) => Some(1),
+        NodeKind::Store(_, StoreOp::Add | StoreOp::Subtract) => subject.constants.get(value),
+        NodeKind::Store(_, StoreOp::Set) => sum_of(subject.tree, subject.constants, value, var),
+        // no other node changes it by a number
+        _ => None,
+    };
+    !matches!(step, None | Some(0))
+}
+
 /// Returns what is added to a variable in the sum of an index, of which a remainder may be taken.
 fn sum_of(tree: &SourceTree, constants: &Constants, index: usize, var: Var) -> Option<i32> {
     let node = tree.get(index)?;

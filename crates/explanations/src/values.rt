@@ -1,16 +1,22 @@
 //! Warnings about operators and assignments that probably aren't meant as they are written.
 
-use crate::chances::{on_both, on_chance};
+use crate::chances::{BOTH_ALWAYS, BOTH_NEVER, on_both, on_chance};
 use crate::indices::{is_name, token_at, touches};
 use crate::meanings::Meaning;
+use crate::renewals::warn_of_old_reading;
+use crate::rewriting::Rewrite;
 use crate::steps::is_degree;
 use crate::warnings::{Meant, Said, Subject, Warnings};
+use crate::ways::on_haste;
 use derivations::{Located, Node, NodeKind};
 use grammar::{Callee, Intrinsic, Op, StoreOp, Var};
 use tokens::{Punctuator, Token};
 
 /// What sine, cosine and tangent are multiplied by.
 const PARTS: u32 = 100_000;
+
+/// The most factors of a product beside one that are looked at.
+const MOST_FACTORS: u8 = 6;
 
 /// Warns of the operator of a node's index.
 pub fn warn_of_operator(
@@ -26,25 +32,16 @@ pub fn warn_of_operator(
     ) else {
         return;
     };
-    let left_index = node.second.saturating_sub(1);
-    let words = on_sides(op, left, right)
-        .or(on_values(op, left_value, right_value))
-        .or(on_parts(op, left, right, left_value, right_value))
-        .or(on_bounds(op, subject.meanings.get(left_index), right_value))
-        .or(on_bounds(
-            turned(op),
-            subject.meanings.get(index.saturating_sub(1)),
-            left_value,
-        ))
-        .or(on_quotient(op, subject.meanings.get(left_index), right_value))
-        .or(on_circle(subject, op, node, right_value))
-        .or(on_chance(subject, op, left_index, right_value))
-        .or(on_both(subject, op, left_index, index.saturating_sub(1)));
-    if let Some(words) = words {
-        out.tell(node.token, words);
+    warn_of_old_reading(out, subject, index, node, op);
+    if let Some(said) = on_sides(op, left, right, node.token) {
+        out.warn(node.token, said);
+    } else if let Some(words) = on_operation(subject, op, index, node) {
+        out.warn(node.token, with_sign(words, node.token));
+    } else if op == Op::Remainder && is_itself(left_value, right_value) {
+        out.warn(node.token, Said::Grouped);
     }
     if is_masked(subject, op, node, left, right) {
-        out.tell(right.token, "this is compared first: write `(a & b) == c`");
+        out.warn(right.token, on_masked(node.token));
     }
     if op == Op::Multiply && !subject.constants.has(PARTS as i32) {
         warn_of_parts(out, subject.tokens, left);
@@ -52,39 +49,89 @@ pub fn warn_of_operator(
     }
 }
 
-/// Returns what is said of an operator by what its two sides are.
-fn on_sides(op: Op, left: &Node, right: &Node) -> Option<&'static str> {
+/// Returns what is said of the operator of an index by the values of its sides, or by what they mean.
+fn on_operation(subject: &Subject<'_>, op: Op, index: usize, node: &Node) -> Option<&'static str> {
+    let (left_index, right_index) = (node.second.checked_sub(1)?, index.checked_sub(1)?);
+    let (left, left_value) = subject.valued(left_index)?;
+    let (right, right_value) = subject.valued(right_index)?;
+    on_values(op, left_value, right_value)
+        .or(on_parts(op, left, right, left_value, right_value))
+        .or(on_bounds(op, subject.meanings.get(left_index), right_value))
+        .or(on_bounds(turned(op), subject.meanings.get(right_index), left_value))
+        .or(on_product(subject, op, index))
+        .or(on_shot(op, left, right_value))
+        .or(on_quotient(op, subject.meanings.get(left_index), right_value))
+        .or(on_circle(subject, op, node, right_value))
+        .or(on_chance(subject, op, left_index, right_value))
+        .or(on_both(subject, op, left_index, right_index))
+        .or(on_haste(subject, op, left_index, right_index))
+        .or(on_haste(subject, op, right_index, left_index))
+}
+
+/// Returns what is said of a comparison that comes before a sign on bits of a token.
+fn on_masked(token: usize) -> Said {
+    Said::Written(
+        "this is compared first",
+        Rewrite::Masked(token),
+        "(a & b) == c",
+    )
+}
+
+/// Returns some words on an operator of a token, with how two comparisons are joined otherwise.
+fn with_sign(words: &'static str, token: usize) -> Said {
+    if words == BOTH_ALWAYS {
+        Said::Written(words, Rewrite::Both(token, "&&"), "")
+    } else if words == BOTH_NEVER {
+        Said::Written(words, Rewrite::Both(token, "||"), "")
+    } else {
+        Said::Words(words)
+    }
+}
+
+/// Returns what is said of an operator by what its two sides are, and by its token.
+fn on_sides(op: Op, left: &Node, right: &Node, token: usize) -> Option<Said> {
     match (op, left.kind, right.kind) {
-        (_, NodeKind::Binary(inner), _) if is_order(op) && is_order(inner) => Some(
-            "this compares the answer of the comparison before it, 0 or 1: write `a < b && b < c`",
-        ),
-        (_, NodeKind::Not, _) if is_order(op) => {
-            Some("this compares the answer of `!`, 0 or 1: write `!(a < b)`")
-        }
-        (Op::BitXor, _, NodeKind::Constant(2..=9)) => {
-            Some("`^` is no power: it is the exclusive or of bits; multiply instead, as `a * a`")
-        }
-        (Op::Or, NodeKind::Binary(Op::Equal), NodeKind::Constant(1..)) => {
-            Some("the right side is always true: write `a == 5 || a == 10`")
-        }
+        (_, NodeKind::Binary(inner), _) if is_order(op) && is_order(inner) => Some(Said::Written(
+            "this compares the answer of the comparison before it, 0 or 1",
+            Rewrite::Compared(token),
+            "a < b && b < c",
+        )),
+        (_, NodeKind::Not, _) if is_order(op) => Some(Said::Written(
+            "this compares the answer of `!`, 0 or 1",
+            Rewrite::Negated(token),
+            "!(a < b)",
+        )),
+        (Op::BitXor, _, NodeKind::Constant(2..=9)) => Some(Said::Written(
+            "`^` is no power: it is the exclusive or of bits; multiply instead",
+            Rewrite::Squared(token, token.saturating_add(1)),
+            "a * a",
+        )),
+        (Op::Or, NodeKind::Binary(Op::Equal), NodeKind::Constant(1..)) => Some(Said::Written(
+            "the right side is always true",
+            Rewrite::Either(token),
+            "a == 5 || a == 10",
+        )),
         // no other operator is often meant in another way
         _ => None,
     }
 }
 
-/// Returns what is said of an operator by the values of its two sides: of a quotient that is 0 though neither is, of a
-/// remainder that changes nothing, and of a result that has more than 32 bits.
+/// Reports whether the remainder of a number by another one is that number.
+fn is_itself(left: Option<i32>, right: Option<i32>) -> bool {
+    match (left, right) {
+        (Some(left), Some(right)) => 0 < left && left < right,
+        _ => false,
+    }
+}
+
+/// Returns what is said of an operator by the values of its two sides: of a quotient that is 0 though neither is, and of a
+/// result that has more than 32 bits.
 fn on_values(op: Op, left: Option<i32>, right: Option<i32>) -> Option<&'static str> {
     let (left, right) = (i64::from(left?), i64::from(right?));
     let whole = match op {
         Op::Divide if left != 0 && left.unsigned_abs() < right.unsigned_abs() => {
             return Some(
                 "both are whole numbers, and so is the quotient: it is 0; multiply before you divide",
-            );
-        }
-        Op::Remainder if 0 < left && left < right => {
-            return Some(
-                "`%` comes before `+`, so this remainder is the number before it: write `(a + b) % c`",
             );
         }
         Op::Add => left.saturating_add(right),
@@ -169,8 +216,58 @@ fn on_bounds(op: Op, meaning: Meaning, value: Option<i32>) -> Option<&'static st
         (Meaning::Coordinate, true) => Some(
             "a coordinate is at least 0 and at most 999: this is always so",
         ),
+        (Meaning::Range, true) => Some(
+            "a range is 0 if nobody is there, and never more than 1414 metres: this is always so",
+        ),
+        (Meaning::Speed, true) => Some("a speed is at least 0 and at most 100: this is always so"),
+        (Meaning::Damage, true) => Some(
+            "the damage is at least 0, and at most 99 while the robot lives: this is always so",
+        ),
         _ => None,
     }
+}
+
+/// Returns what is said of a product that may pass the greatest number, if its left side doesn't.
+fn on_product(subject: &Subject<'_>, op: Op, index: usize) -> Option<&'static str> {
+    let node = subject.tree.get(index)?;
+    let left = most_of(subject, node.second.checked_sub(1)?, MOST_FACTORS)?;
+    let whole = most_of(subject, index, MOST_FACTORS)?;
+    let greatest = i64::from(i32::MAX);
+    (op == Op::Multiply
+        && subject.constants.get(index).is_none()
+        && left <= greatest
+        && whole > greatest).then_some(
+        "this product may pass the greatest number, 2147483647: divide before it is multiplied further",
+    )
+}
+
+/// Returns the most that the product of an index may be, if that is known, and more than any number in it.
+fn most_of(subject: &Subject<'_>, index: usize, depth: u8) -> Option<i64> {
+    if let Some(value) = subject.constants.get(index) {
+        return Some(i64::from(value).saturating_abs());
+    }
+    let node = subject.tree.get(index)?;
+    match (node.kind, subject.meanings.get(index)) {
+        (NodeKind::Binary(Op::Multiply), _) if depth > 0 => {
+            let left = most_of(subject, node.second.checked_sub(1)?, depth - 1)?;
+            let right = most_of(subject, index.checked_sub(1)?, depth - 1)?;
+            Some(left.saturating_mul(right))
+        }
+        (_, Meaning::Parts) => Some(i64::from(PARTS)),
+        (_, meaning) => Some(i64::from(meaning.bounds()?.1)),
+    }
+}
+
+/// Returns what is said of a comparison of what `cannon` answers with a number, if it never holds.
+fn on_shot(op: Op, left: &Node, value: Option<i32>) -> Option<&'static str> {
+    let is_shot = matches!(
+        left.kind,
+        NodeKind::Call(Callee::Intrinsic(Intrinsic::Cannon), _)
+    );
+    let never = !holds(op, 0, value?)? && !holds(op, 1, value?)?;
+    (is_shot && never).then_some(
+        "`cannon` answers 1 if it fired, and else 0: this never holds; a hit isn't answered",
+    )
 }
 
 /// Returns what is said of a quotient of what is meant so by a number, if it is always 0.
@@ -285,12 +382,13 @@ fn may_have_parts(tokens: &[Located]) -> bool {
 }
 
 /// Returns what is said of an assignment that sets back what a step changed.
-fn on_old_value(step: StoreOp) -> &'static str {
-    if step == StoreOp::Add {
-        "this sets the old value back: write `a++` alone"
-    } else {
-        "this sets the old value back: write `a--` alone"
-    }
+fn on_old_value(step: StoreOp, token: usize) -> Said {
+    let sign = if step == StoreOp::Add { "++" } else { "--" };
+    Said::Written(
+        "this sets the old value back, so it stands alone",
+        Rewrite::Stepped(token, sign),
+        sign,
+    )
 }
 
 /// Warns of an assignment with `=-` or `=!`, and of one that sets back what `++` or `--` changed.
@@ -307,7 +405,16 @@ pub fn warn_of_store(
         && changed == var
         && op == StoreOp::Set
     {
-        out.tell(node.token, on_old_value(step));
+        out.warn(node.token, on_old_value(step, node.token));
+    }
+    if op == StoreOp::Set
+        && let Some(right) = subject.tree.get(index.saturating_sub(1))
+        && right.kind == NodeKind::Fetch(var)
+    {
+        out.tell(
+            node.token,
+            "this sets the variable to itself: nothing changes",
+        );
     }
     if op == StoreOp::Set
         && let Some(value) = subject.constants.get(index.saturating_sub(1))
@@ -318,12 +425,66 @@ pub fn warn_of_store(
             Said::Variable(" is another degree", Meant::Used),
         );
     }
-    let equals = node.token.saturating_add(1);
-    if is_turned(subject.tokens, equals, Punctuator::Minus) {
-        out.tell(equals, "`=-` sets the negative; perhaps `-=` is meant");
+    if op == StoreOp::Set && sets_answer(subject, index) {
+        out.warn(node.token, on_set_answer(node.token));
     }
-    if is_turned(subject.tokens, equals, Punctuator::Not) {
-        out.tell(equals, "`=!` sets 1 or 0; perhaps `!=` is meant");
+    warn_of_turned(out, subject.tokens, node.token.saturating_add(1));
+}
+
+/// Warns of a `=-` or a `=!` whose `=` is the token of an index.
+fn warn_of_turned(out: &mut Warnings, tokens: &[Located], equals: usize) {
+    for (sign, words, meant) in &TURNED {
+        if is_turned(tokens, equals, *sign) {
+            let next = equals.saturating_add(2);
+            out.warn(
+                equals,
+                Said::Written(words, Rewrite::Joined(equals, next, meant), ""),
+            );
+        }
+    }
+}
+
+/// Signs that stand behind a `=` with nothing between, what is said, and what is meant.
+static TURNED: [(Punctuator, &str, &str); 2] = [
+    (
+        Punctuator::Minus,
+        "`=-` sets the negative; perhaps `-=` is meant",
+        "-=",
+    ),
+    (
+        Punctuator::Not,
+        "`=!` sets 1 or 0; perhaps `!=` is meant",
+        "!=",
+    ),
+];
+
+/// Returns what is said of an assignment of a token that sets the answer of a comparison.
+fn on_set_answer(token: usize) -> Said {
+    Said::Written(
+        "this sets the answer of the comparison, 0 or 1",
+        Rewrite::Kept(token),
+        "(r = scan(d, 10)) > 40",
+    )
+}
+
+/// Reports whether the assignment of an index sets the answer of a comparison of what a call answers, and is itself a part
+/// of an expression.
+fn sets_answer(subject: &Subject<'_>, index: usize) -> bool {
+    let tree = subject.tree;
+    let Some(comparison) = tree.get(index.saturating_sub(1)) else {
+        return false;
+    };
+    let is_called = match tree.get(comparison.second.saturating_sub(1)) {
+        Some(left) => matches!(left.kind, NodeKind::Call(..)),
+        None => false,
+    };
+    match comparison.kind {
+        NodeKind::Binary(op) => {
+            is_called
+                && (is_order(op) || matches!(op, Op::Equal | Op::NotEqual))
+                && tree.is_used(index)
+        }
+        _ => false,
     }
 }
 

@@ -2,12 +2,14 @@
 //! that mean another variable.
 
 use crate::indices::{is_name, name_at};
+use crate::keeping::warn_of_kept;
 use crate::misnamed::{may_mean, on_used};
+use crate::rewriting::Rewrite;
 use crate::spelling::is_same_but_for_case;
 use crate::warnings::{Meant, Said, Subject, Warnings};
 use derivations::{Body, Located, Node, NodeKind, SourceTree};
 use grammar::{MOST_NAMES, Var, intrinsic_named};
-use tokens::Name;
+use tokens::{Keyword, Name, Punctuator, Token};
 
 /// The first read and the first setting of a function's variable, by the indices of their nodes.
 #[derive(Clone, Copy, Default)]
@@ -25,16 +27,34 @@ pub fn warn_of_variables(out: &mut Warnings, subject: &Subject<'_>) {
         warn_of_body(out, subject, body);
     }
     for body in subject.tree.bodies() {
-        warn_of_copies(out, subject.tree, body);
+        warn_of_copies(out, subject, body);
     }
     for token in subject.declarations.hiding() {
-        out.warn(
-            *token,
-            Said::Named(
-                " is a variable of the function alone: it hides that of the file, so leave its `int` out here",
-            ),
-        );
+        if !is_parameter(subject.tokens, *token) {
+            out.warn(
+                *token,
+                Said::Named(
+                    " is a variable of the function alone: it hides that of the file, so leave its `int` out here",
+                ),
+            );
+        }
     }
+}
+
+/// Reports whether the name of a token stands among a function's parameters or their types: before the function's `{`.
+fn is_parameter(tokens: &[Located], token: usize) -> bool {
+    for located in tokens.get(token..).unwrap_or(&[]) {
+        match located.token {
+            Token::Punctuator(Punctuator::OpenCurly) => return true,
+            Token::Name(_)
+            | Token::Keyword(Keyword::Type)
+            | Token::Punctuator(
+                Punctuator::Comma | Punctuator::Semicolon | Punctuator::CloseRound,
+            ) => {}
+            _ => return false,
+        }
+    }
+    false
 }
 
 /// Warns of the variables of a function.
@@ -42,6 +62,12 @@ fn warn_of_body(out: &mut Warnings, subject: &Subject<'_>, body: &Body) {
     let uses = uses_of(subject.tree, body);
     for (number, own) in uses.iter().enumerate() {
         let is_parameter = number < body.parameters;
+        if let Some(set) = own.set
+            && !is_parameter
+            && warn_of_kept(out, subject, body, number, set)
+        {
+            continue;
+        }
         match (own.read, own.set) {
             (None, Some(set)) => {
                 let token = token_of(subject.tree, set);
@@ -71,7 +97,8 @@ fn warn_of_body(out: &mut Warnings, subject: &Subject<'_>, body: &Body) {
 }
 
 /// Warns of each assignment to a parameter that nothing reads afterwards.
-fn warn_of_copies(out: &mut Warnings, tree: &SourceTree, body: &Body) {
+fn warn_of_copies(out: &mut Warnings, subject: &Subject<'_>, body: &Body) {
+    let tree = subject.tree;
     for index in body.first..body.end {
         if let Some(node) = tree.get(index)
             && let NodeKind::Store(Var::Local(number), _) = node.kind
@@ -79,10 +106,23 @@ fn warn_of_copies(out: &mut Warnings, tree: &SourceTree, body: &Body) {
             && !tree.is_used(index)
             && !is_read_behind(tree, body, index, number)
         {
-            out.tell(
-                node.token,
-                "this sets a copy: what the caller has stays as it is; give the value back by `return`",
-            );
+            if subject.declarations.hides(subject.tokens, node.token) {
+                out.warn(
+                    node.token,
+                    Said::Named(
+                        " is a parameter here, and hides the variable of the file: give one of them another name",
+                    ),
+                );
+            } else {
+                out.warn(
+                    node.token,
+                    Said::Written(
+                        "this sets a copy: what the caller has stays as it is; give the value back by `return`",
+                        Rewrite::Returned(node.token, node.token.saturating_add(1)),
+                        "",
+                    ),
+                );
+            }
         }
     }
 }
@@ -136,8 +176,7 @@ fn meant_as_set(subject: &Subject<'_>, uses: &Uses, token: usize) -> Meant {
 fn meant_as_read(subject: &Subject<'_>, uses: &Uses, token: usize) -> Meant {
     match (meant(subject, uses, token), name_at(subject.tokens, token)) {
         (Meant::Nothing, Some(name)) if is_function(subject, &name) => Meant::Call,
-        (Meant::Nothing, Some(name))
-            if name.as_bytes().len() > 2 && is_elsewhere(subject, token, &name) => {
+        (Meant::Nothing, Some(name)) if is_elsewhere(subject, token, &name) => {
             Meant::Words("; that of another function is another one: declare it outside of both")
         }
         (Meant::Nothing, Some(_)) => Meant::Used,
@@ -151,7 +190,9 @@ fn meant(subject: &Subject<'_>, uses: &Uses, token: usize) -> Meant {
         return Meant::Nothing;
     };
     if is_declared_below(subject, token, &name) {
-        return Meant::Words("; the variable of the file is declared further down only");
+        return Meant::Words(
+            "; the variable of the file is declared further down only: move that above",
+        );
     }
     match near_variable(subject, uses, token, &name) {
         Some(other) => Meant::Name(other),

@@ -1,18 +1,20 @@
 //! The warnings about a source that compiles, or about what stands before the fault of one that doesn't.
 
+use crate::aims::{add_thrown, add_turned};
 use crate::branches::warn_of_branch;
 use crate::calls::warn_of_call;
 use crate::comments::{add_swallowing, warn_of_comments};
 use crate::constants::Constants;
 use crate::declarations::Declarations;
 use crate::flow::{warn_of_main, warn_of_recursion, warn_of_uncalled};
-use crate::indices::{name_at, token_at};
+use crate::indices::{is_name, name_at, token_at};
 use crate::meanings::Meanings;
 use crate::misnamed::on_used;
 use crate::notes::Note;
 use crate::reach::Reach;
+use crate::rewriting::{Rewrite, add_written};
 use crate::rows::warn_of_row;
-use crate::searches::fault_token;
+use crate::searches::{Search, declared};
 use crate::statements::warn_of_statement;
 use crate::told::text_of;
 use crate::values::{warn_of_operator, warn_of_store};
@@ -68,6 +70,14 @@ pub enum Said {
     Swallowing(u32),
     /// That the variable of this name's token never changes in a loop.
     Unchanged(usize),
+    /// That the remainder is that of the number before it alone, and what is meant.
+    Grouped,
+    /// That the degree of a shot has changed since the look, at the token of an index.
+    Turned(usize),
+    /// That the range is thrown away that the scan of a token answers.
+    Thrown(usize),
+    /// These words, how it is written, and an example of that.
+    Written(&'static str, Rewrite, &'static str),
 }
 
 /// What may be meant by the name of a variable.
@@ -123,9 +133,18 @@ impl Warning {
                 note.add(words);
                 self.add_meant(&mut note, tokens, meant);
             }
-            Said::Arguments(wanted, given) => add_arguments(&mut note, wanted, given),
+            Said::Arguments(wanted, given) => {
+                add_arguments(&mut note, tokens, self.token, wanted, given);
+            }
+            Said::Written(words, rewrite, example) => {
+                note.add(words);
+                add_written(&mut note, &[], tokens, rewrite, example);
+            }
             Said::Swallowing(line) => add_swallowing(&mut note, line),
             Said::Unchanged(name) => add_unchanged(&mut note, tokens, name),
+            Said::Turned(token) => add_turned(&mut note, tokens, token),
+            Said::Thrown(scan) => add_thrown(&mut note, tokens, self.token, scan),
+            Said::Grouped => add_grouped(&mut note, tokens, self.token),
         }
         note.push('\n');
         note
@@ -184,19 +203,48 @@ fn add_unchanged(note: &mut Note, tokens: &[Located], token: usize) {
     }
 }
 
+/// Adds that the remainder of a `%`, the token of an index, is that of the number before it alone, and what is meant.
+fn add_grouped(note: &mut Note, tokens: &[Located], percent: usize) {
+    note.add("`%` comes before `+`, so this remainder is the number before it: write `(");
+    let first = percent.saturating_sub(3);
+    match (
+        name_at(tokens, first),
+        token_at(tokens, percent.saturating_sub(2)),
+        token_at(tokens, percent.saturating_sub(1)),
+        token_at(tokens, percent.saturating_add(1)),
+    ) {
+        (
+            Some(name),
+            Token::Punctuator(Punctuator::Plus),
+            Token::Constant(more),
+            Token::Constant(whole),
+        ) => {
+            note.add(text_of(&name));
+            note.count(" + ", u64::from(more), ")");
+            note.count(" % ", u64::from(whole), "`");
+        }
+        _ => note.add("a + b) % c`"),
+    }
+}
+
 /// Adds how many arguments a function takes, and how many it is given.
-fn add_arguments(note: &mut Note, wanted: usize, given: usize) {
+fn add_arguments(note: &mut Note, tokens: &[Located], call: usize, wanted: usize, given: usize) {
     match wanted {
         0 => note.add(" takes no arguments"),
         1 => note.add(" takes 1 argument"),
         _ => note.count(" takes ", wanted as u64, " arguments"),
     }
     note.count(", and is given ", given as u64, "");
-    note.add(if given < wanted {
-        ": those that lack are 0"
-    } else {
+    note.add(if given >= wanted {
         ": the others are dropped"
+    } else if is_name(tokens, call, b"rand") {
+        ": it is 0 then, and so this is always 0"
+    } else {
+        ": those that lack are 0"
     });
+    if wanted > 0 {
+        add_written(note, &[], tokens, Rewrite::Filled(call, wanted, given), "");
+    }
 }
 
 /// The warnings about a source.
@@ -230,9 +278,12 @@ impl Warnings {
         self.warn(token, Said::Words(words));
     }
 
-    /// Warns of the nodes of a source.
+    /// Warns of the nodes of a source, as long as more warnings are taken.
     fn warn_of_nodes(&mut self, subject: &Subject<'_>) {
         for (index, node) in subject.tree.all().iter().enumerate() {
+            if self.list.is_full() {
+                return;
+            }
             self.warn_of_node(subject, index, node);
         }
     }
@@ -280,7 +331,8 @@ impl Warnings {
 /// Finds the warnings about a source that compiles by this profile; the tokens are the source's. Those after the first
 /// thousand that are found are left out.
 pub fn warnings_of(source: &[u8], tokens: &[Located], profile: Profile) -> Warnings {
-    warnings_up_to(source, tokens, profile, tokens.len())
+    let declarations = declared(tokens, profile);
+    warnings_up_to(source, tokens, profile, &declarations, tokens.len())
 }
 
 /// Finds the warnings about what stands before the fault of a source, which `compile` found by the same profile; the
@@ -292,13 +344,22 @@ pub fn warnings_before(
     profile: Profile,
     fault: &Diagnostic,
 ) -> Warnings {
-    warnings_up_to(source, tokens, profile, fault_token(tokens, profile, fault))
+    let mut search = Search::of(tokens, profile);
+    let end = search.find(fault);
+    warnings_up_to(source, tokens, profile, search.declarations(), end)
 }
 
-/// Finds the warnings about the tokens of a source before the one of an index, which is that of its fault if it has one.
+/// Finds the warnings about the tokens of a source before the one of an index, which is that of its fault if it has one, by
+/// the variables that it declares up to there.
 /// It isn't inlined, since the page's module is to be small.
 #[inline(never)]
-pub fn warnings_up_to(source: &[u8], tokens: &[Located], profile: Profile, end: usize) -> Warnings {
+pub fn warnings_up_to(
+    source: &[u8],
+    tokens: &[Located],
+    profile: Profile,
+    declarations: &Declarations,
+    end: usize,
+) -> Warnings {
     let tree = SourceTree::of(tokens, profile);
     let constants = Constants::of(&tree);
     let subject = Subject {
@@ -308,7 +369,7 @@ pub fn warnings_up_to(source: &[u8], tokens: &[Located], profile: Profile, end: 
         constants: &constants,
         meanings: &Meanings::of(&tree, &constants),
         reach: &Reach::of(&tree, &constants),
-        declarations: &Declarations::of(tokens, profile),
+        declarations,
     };
     let mut warnings = Warnings {
         list: ArrayVec::new(),

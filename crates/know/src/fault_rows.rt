@@ -12,17 +12,18 @@ use crate::places::token_of_note;
 use crate::rows::{Subject, add_position, add_range, begin_row};
 use crate::token_rows::end_of;
 use derivations::{Located, locate};
-use explanations::{explain_left, warnings_of, warnings_up_to};
+use explanations::{Declarations, Search, explain_found, warnings_up_to};
 use grammar::Diagnostic;
 use recovery::{MOST_FAULTS, Rest};
 use std::alloc::AllocError;
 use tools::{Draft, Object, Text};
 
 /// Adds the rows of the warnings about a source: about what stands before its fault, which is at the token of an index, if
-/// it has one.
+/// it has one. The variables are those that it declares up to there.
 pub fn add_warnings(
     text: &mut Draft,
     subject: &Subject<'_>,
+    declarations: &Declarations,
     fault: Option<usize>,
 ) -> Result<(), AllocError> {
     let Subject {
@@ -31,10 +32,8 @@ pub fn add_warnings(
         profile,
         ..
     } = *subject;
-    let warnings = match fault {
-        Some(index) => warnings_up_to(source, tokens, profile, index),
-        None => warnings_of(source, tokens, profile),
-    };
+    let end = fault.unwrap_or(tokens.len());
+    let warnings = warnings_up_to(source, tokens, profile, declarations, end);
     let mut from = 0;
     for warning in warnings.list() {
         let note = warning.note(tokens);
@@ -104,24 +103,26 @@ pub fn add_first(text: &mut Draft, subject: &Subject<'_>, fault: &Diagnostic, in
     text.add("\n");
 }
 
-/// Adds the row of the first fault of a source, at the token of an index.
+/// Adds the row of the first fault of a source, at the token of an index, by a search along the source that hasn't begun.
 pub fn add_first_fault(
     text: &mut Draft,
     subject: &Subject<'_>,
+    search: &mut Search<'_>,
     fault: &Diagnostic,
     index: usize,
 ) -> Result<(), AllocError>
     requires { compiled subject.now.profile subject.now.source.now ≡ Err fault.now }
 {
-    add_fault(text, subject, subject.source, subject.tokens, fault, index)
+    add_fault(text, subject, subject.source, search, fault, index)
 }
 
-/// Adds the row of the first fault of what is left of a source, which has these bytes and tokens, at the token of an index.
+/// Adds the row of the first fault of what is left of a source, which has these bytes, at the token of an index, by a search
+/// along its tokens that hasn't begun.
 fn add_fault(
     text: &mut Draft,
     subject: &Subject<'_>,
     left: &[u8],
-    tokens: &[Located],
+    search: &mut Search<'_>,
     fault: &Diagnostic,
     index: usize,
 ) -> Result<(), AllocError> {
@@ -131,7 +132,8 @@ fn add_fault(
         profile,
         ..
     } = *subject;
-    let note = explain_left(source, tokens, profile, fault);
+    let note = explain_found(source, search, fault);
+    let tokens = search.tokens();
     let hint = said(note.as_str(), HINT);
     let trouble = Trouble {
         tokens,
@@ -189,7 +191,8 @@ pub fn add_later_faults(
         let index = fault_index(alloc, rest.bytes(), tokens, profile, &next)?;
         place = place_of(tokens, index);
         if number < MOST_FAULTS {
-            add_fault(text, subject, rest.bytes(), tokens, &next, index)?;
+            let mut search = Search::of(tokens, profile);
+            add_fault(text, subject, rest.bytes(), &mut search, &next, index)?;
             lines = rest.leave_out_at(tokens, index)?;
         }
     }

@@ -7,7 +7,7 @@ use crate::notes_read::{behind, quoted};
 use crate::repairs::{Faulty, compiles, edited, gets_further};
 use crate::rows::Subject;
 use derivations::Located;
-use grammar::{Diagnostic, Profile};
+use grammar::{Code, Diagnostic, Profile};
 use std::alloc::{AllocError, Global};
 use std::str;
 use tokens::{Punctuator, Token};
@@ -60,6 +60,10 @@ pub fn fix_of_fault<'a>(
 ) -> Result<Option<Fix>, AllocError>
     ensures { IfOk result (λ found. IfSome found (Repairs profile source.now fault.now)) }
 {
+    // (what can be put in or left out makes no code short enough)
+    if fault.code == Code::TooMuchCode {
+        return Ok(None);
+    }
     let faulty = Faulty {
         source,
         profile,

@@ -33,6 +33,7 @@ use crate::rows::{Subject, begin_row};
 use crate::token_rows::add_tokens;
 use crate::walkable::walkable;
 use derivations::{Located, compile, locate};
+use explanations::{Search, declared};
 use grammar::{Diagnostic, ParseFault, Profile};
 use recovery::located_past_faults;
 use std::alloc::{AllocError, Global};
@@ -100,7 +101,8 @@ fn tell(rt: &HostRuntime, source: &[u8], profile: Profile) -> Result<(), Fault> 
 /// Writes all rows on a source that compiles.
 fn tell_compiled(rt: &HostRuntime, subject: &Subject<'_>) -> Result<(), Fault> {
     let mut text = Draft::new(rt.alloc());
-    add_warnings(&mut text, subject, None)?;
+    let declarations = declared(subject.tokens, subject.profile);
+    add_warnings(&mut text, subject, &declarations, None)?;
     write(rt, &mut text)?;
     let left_out = LeftOut::nothing(rt.alloc(), subject.source)?;
     tell_names(rt, subject, &left_out)?;
@@ -123,8 +125,9 @@ fn tell_faulty(rt: &HostRuntime, subject: &Subject<'_>, fault: &Diagnostic) -> R
     let index = fault_index(alloc, source, tokens, profile, fault)?;
     add_first(&mut text, subject, fault, index);
     write(rt, &mut text)?;
-    add_first_fault(&mut text, subject, fault, index)?;
-    add_warnings(&mut text, subject, Some(index))?;
+    let mut search = Search::of(tokens, profile);
+    add_first_fault(&mut text, subject, &mut search, fault, index)?;
+    add_warnings(&mut text, subject, search.declarations(), Some(index))?;
     let left_out = add_later_faults(&mut text, subject, index)?;
     write(rt, &mut text)?;
     tell_names(rt, subject, &left_out)?;

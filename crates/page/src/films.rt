@@ -12,7 +12,6 @@ use crate::stretches::Stretch;
 use arena::{Arena, MOST_BURSTS};
 use code::{Cause, Intrinsic};
 use derivations::SourcePositions;
-use series::MOST_CYCLES;
 use std::str;
 use watching::{
     Camera, Event, Exchange, FILM_COLUMNS, FilmRows, Listener, Pilot, Place, Stance, Turn,
@@ -169,23 +168,6 @@ impl<'a> Film<'a> {
         }
     }
 
-    /// Writes and keeps a missile that a robot fires: refused shots are left out.
-    fn shoot(&mut self, turn: Turn, question: Exchange, arena: &Arena)
-        requires inside { turn.robot < length arena.now.robots }
-        requires cycle { turn.cycle ≤ MOST_CYCLES }
-        ensures { kept_by self.new.camera.rows ≡ kept_by self.old.camera.rows }
-    {
-        if question.reply == 0 {
-            return;
-        }
-        let Turn { cycle, robot } = turn;
-        let arguments = question.arguments;
-        self.camera
-            .shoot(cycle, robot, arguments, question.reply, arena);
-        let place = Place::of(arena, robot);
-        self.keep(FiredMissile::new(robot, cycle, place, arguments));
-    }
-
     /// Keeps a missile that is fired, in the place of one that has burst: of each robot two are in the air at most.
     fn keep(&mut self, missile: FiredMissile)
         ensures { self.new.camera ≡ self.old.camera }
@@ -212,14 +194,17 @@ impl Watcher for Film<'_> {
 
     fn turn(&mut self, _: Turn, _: &Pilot<'_>) {}
 
+    /// Films a question, but for a refused shot; keeps a missile that is fired.
     fn asked(&mut self, turn: Turn, _: &Pilot<'_>, question: Exchange, arena: &Arena) {
-        let Turn { cycle, robot } = turn;
-        match question.intrinsic {
-            Intrinsic::Cannon => self.shoot(turn, question, arena),
-            Intrinsic::Scan => self
-                .camera
-                .scan(cycle, robot, question.arguments, question.reply),
-            _ => {}
+        let is_shot = question.intrinsic == Intrinsic::Cannon;
+        if is_shot && question.reply == 0 {
+            return;
+        }
+        self.camera.ask(turn, question, arena);
+        if is_shot {
+            let Turn { cycle, robot } = turn;
+            let place = Place::of(arena, robot);
+            self.keep(FiredMissile::new(robot, cycle, place, question.arguments));
         }
     }
 

@@ -8,7 +8,7 @@ use crate::requests::{Form, Task};
 use crate::rows::{Rows, add_event};
 use crate::tellers::Teller;
 use arena::{Arena, MOST_ROBOTS};
-use code::{Cause, Intrinsic};
+use code::Cause;
 use notes::Sources;
 use tools::Fault;
 use watching::{
@@ -98,13 +98,7 @@ impl Watcher for Events<'_> {
         if let Some(insides) = &mut self.insides {
             insides.hear(turn, question);
         }
-        let Turn { cycle, robot } = turn;
-        let (arguments, reply) = (question.arguments, question.reply);
-        match question.intrinsic {
-            Intrinsic::Cannon => self.camera.shoot(cycle, robot, arguments, reply, arena),
-            Intrinsic::Scan => self.camera.scan(cycle, robot, arguments, reply),
-            _ => {}
-        }
+        self.camera.ask(turn, question, arena);
     }
 
     fn restarts(&mut self, turn: Turn, pilot: &Pilot<'_>, cause: Cause) {

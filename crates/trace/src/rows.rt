@@ -1,6 +1,7 @@
 //! Rows of fields with tabs between them, on standard output.
 
-ghost use Rattle.std.specs.Prelude.{◌≡◌, is_ok};
+ghost use Rattle.std.specs.Prelude.{◌≡◌, ◌&&◌, is_ok};
+ghost use Rattle.trace.specs.Spans.{is_in_span};
 
 use std::alloc::AllocError;
 use tools::{Draft, Fault, Output, Span, Text};
@@ -45,7 +46,10 @@ impl<'a> Rows<'a> {
     }
 
     /// Notes that memory was refused, if it was.
-    pub fn note(&mut self, done: Result<(), AllocError>) {
+    pub fn note(&mut self, done: Result<(), AllocError>)
+        ensures film { self.new.is_film ≡ self.old.is_film }
+        ensures span { self.new.span ≡ self.old.span }
+    {
         self.state = self.state.and(done.map_err(Fault::from));
     }
 
@@ -72,6 +76,8 @@ impl<'a> Rows<'a> {
 }
 
 impl Listener for Rows<'_> {
+    ghost shows = { λ rows cycle robot. rows.is_film && is_in_span rows.span cycle robot };
+
     /// Adds a row of an event, if its cycle and its robot are in the span.
     fn tell(&mut self, cycle: u32, robot: usize, event: &Event<'_>) {
         if self.span.has(cycle, robot) {

@@ -3,6 +3,7 @@ mod Marks
 mod Keeping
 pub mod KnownHits
 pub mod KnownHeard
+pub mod KnownRuns
 pub mod KnownSights
 pub mod Hitting
 pub mod Telling

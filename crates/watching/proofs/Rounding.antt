@@ -1,7 +1,8 @@
 -- The least round number that isn't too small.
 use Rattle.std.proofs.Common.{◌≡◌, ℕ, zero, suc, ◌+◌, ◌*◌, ◌/◌, ◌^◌, ◌<◌, ◌≤◌, refl, ap, arith, inl, inr}
 use Rattle.std.proofs.lemmas.Bool.{cases_eq, cases_lt}
-use Rattle.watching.specs.Rounds.{AreTooMany, IsFirstOf, IsTooSmall, round_number, times}
+use Rattle.std.proofs.Math.Nat.{div-lt_iff_lt-mul}
+use Rattle.watching.specs.Rounds.{AreTooMany, IsFirstOf, IsRound, IsTooSmall, round_number, times}
 
 -- round numbers grow
 grows : (k : ℕ) → round_number k < round_number (suc k)
@@ -107,6 +108,20 @@ least_of_all cycles most power spacing j within is small first k few = elim (cas
   | inl before ↦ let here = small k before in absurd (omega (arith, here, few))
   | inr behind ↦ first_behind cycles most power spacing j k within is behind few first
 ]
+
+-- it is a round number, in the cycles that a match may have
+pub is_round : (cycles most power spacing j : ℕ) → 1 ≤ most → cycles ≤ 1000000000 → j ≤ 9 → power ≡ round_number (3 * j)
+    → IsFirstOf power cycles most spacing → IsRound spacing
+is_round cycles most power spacing j some short within is (inl one) = (3 * j, omega (arith, one, is))
+is_round cycles most power spacing j some short within is (inr (inl (one, two))) =
+    let least = fits j within in (suc (3 * j), omega (arith, twice j, is, two, least))
+is_round cycles most power spacing j some short within is (inr (inr (one, two, five))) =
+    elim (cases_lt (power * 5) 4294967296) [
+      | inl low ↦ (suc (suc (3 * j)), omega (arith, five_times j, is, five, low))
+      | inr high ↦
+          let once : cycles / power < 2 = (div-lt_iff_lt-mul (omega (arith, high))).1 (omega (arith, high, short)) in
+          absurd (omega (arith, one, once, some))
+    ]
 
 -- and past the tenth power no number of 32 bits is greater
 pub none_left : (cycles most spacing : ℕ) → spacing < 2 ^ 32 → AreSmall cycles most 30 → (k : ℕ)

@@ -15,5 +15,6 @@ pub mod Moments
 pub mod Hits
 pub mod KnownHits
 pub mod KnownHeard
+pub mod KnownRuns
 pub mod KnownSights
 pub mod Searches

@@ -7,6 +7,9 @@ round_number (suc zero) = 2
 round_number (suc (suc zero)) = 5
 round_number (suc (suc (suc k))) = 10 * round_number k
 
+abbrev pub IsRound : ℕ → Type 0
+IsRound n = (k : ℕ) × (n ≡ round_number k)
+
 -- a multiple, in 32 bits
 abbrev pub times : (power n : ℕ) → ℕ
 times power n = min (power * n) (2 ^ 32 - 1)

@@ -1,9 +1,9 @@
 //! Events of a match: the kind of each, and what is said of it.
 
-ghost use Rattle.std.specs.Prelude.{◌≡◌, ◌≤◌, ◌++◌, ◌∷◌, ℕ, List, [], codes, length, map, pos};
+ghost use Rattle.std.specs.Prelude.{◌≡◌, ◌≤◌, ◌++◌, ◌∷◌, ℕ, Bool, true, List, [], codes, length, map, pos};
 ghost use Rattle.arena.specs.Field as field;
 ghost use Rattle.arena.specs.Representing.{RepresentsField};
-ghost use Rattle.watching.specs.Heard.{Heard, heard_of, update_heard};
+ghost use Rattle.watching.specs.Heard.{Heard, heard_of, stance_numbers, update_heard};
 ghost use Rattle.watching.specs.Losses.{loss_numbers, loss_word, number_of};
 
 use crate::runs::Stance;
@@ -67,7 +67,10 @@ impl<'a> Event<'a> {
     }
 
     /// Makes the event that a robot is at a place: its place, heading, speed and damage.
-    pub fn stance(kind: &'static str, stance: &Stance) -> Event<'a> {
+    pub fn stance(kind: &'static str, stance: &Stance) -> Event<'a>
+        ensures kind { result.kind.now ≡ kind.now }
+        ensures fields { result.fields.items ≡ map Field.Number (stance_numbers stance.now) }
+    {
         let (x, y) = (i32::from(stance.x), i32::from(stance.y));
         let (heading, speed) = (i32::from(stance.heading), i32::from(stance.speed));
         Event::of_numbers(kind, &[x, y, heading, speed, i32::from(stance.damage)])
@@ -104,23 +107,28 @@ impl<'a> Event<'a> {
 
 /// Takes the events of a match, one by one. `heard` says whether it may have been told these, in this order: each call
 /// tells it one more. It holds always for a listener of which nothing is to be proved. `keeps` has numbers of it that no
-/// call changes, as where it writes to.
+/// call changes, as where it writes to. Nor does a call change what `shows` says: of which robot in which cycle a film
+/// has the way and the scans.
 pub trait Listener {
     ghost heard: { Self → List Heard → Type 0 } = { λ _ _. Unit {0} };
 
     ghost keeps: { Self → List ℕ } = { λ _. [] };
 
+    ghost shows: { Self → ℕ → ℕ → Bool } = { λ _ _ _. true };
+
     /// Takes an event of a robot in a cycle.
     fn tell(&mut self, cycle: u32, robot: usize, event: &Event<'_>)
         ensures heard { (events : List Heard) → heard self.old events
             → heard self.new (events ++ heard_of cycle robot event.now ∷ []) }
-        ensures kept { keeps self.new ≡ keeps self.old };
+        ensures kept { keeps self.new ≡ keeps self.old }
+        ensures shown { shows self.new ≡ shows self.old };
 
     /// Takes what the update does that follows this cycle: the bursts, and what each robot loses.
     fn tell_update(&mut self, cycle: u32, arena: &Arena)
         ensures heard { (events : List Heard) (f : field.Field) → RepresentsField arena.now f
             → length f.robots ≤ MOST_ROBOTS → heard self.old events → heard self.new (events ++ update_heard cycle f) }
         ensures kept { keeps self.new ≡ keeps self.old }
+        ensures shown { shows self.new ≡ shows self.old }
     {
         let due = arena.due();
         let bursts = due.as_slice();

@@ -1,9 +1,9 @@
 //! Runs: pieces of a robot's way that are straight, at constant speed. Of each run a film has its two ends alone.
 
-ghost use Rattle.std.specs.Prelude.{◌≡◌, ◌<◌, Some, None, true, false, is_some, length};
+ghost use Rattle.std.specs.Prelude.{◌≡◌, ◌<◌, Some, None, true, false, length, if◌then◌else◌};
 ghost use Rattle.arena.specs.Field.{Field, robot_at};
 ghost use Rattle.arena.specs.Representing.{RepresentsField};
-ghost use Rattle.watching.specs.Runs.{is_alike, is_even, stance_of, way_of};
+ghost use Rattle.watching.specs.Runs.{end_of, is_alike, is_even, is_even_to, news_of, run_after, stance_of, way_kept, way_of};
 
 use arena::Arena;
 
@@ -110,13 +110,8 @@ impl Run {
     /// Goes on to where the robot is after the next update. Returns what the film shows of it: nothing while the robot
     /// goes on straight at constant speed, and its damage doesn't change.
     pub fn go_on(&mut self, stance: Stance) -> News
-        ensures last { self.new.last ≡ Some stance }
-        ensures first { self.old.last ≡ None → result.begin ≡ Some stance }
-        ensures changed { (last : Stance) → self.old.last ≡ Some last → is_alike last stance ≡ false
-            → result.begin ≡ Some stance }
-        ensures end { (last : Stance) → self.old.last ≡ Some last → is_alike last stance ≡ false
-            → self.old.is_told ≡ false → result.end ≡ Some last }
-        ensures told { self.new.is_told ≡ is_some result.begin }
+        ensures run { self.new ≡ run_after self.old stance }
+        ensures news { result ≡ news_of self.old stance }
     {
         let last = self.last;
         match last {
@@ -128,15 +123,15 @@ impl Run {
     /// Goes on to a place with the same heading, speed and damage: another run begins at the last one if the way is
     /// not as before.
     fn go_straight(&mut self, last: &Stance, stance: Stance) -> News
-        ensures last { self.new.last ≡ Some stance }
-        ensures goes_on { (way : Displacement) → self.old.way ≡ Some way → is_even way (way_of last.now stance) ≡ true
-            → result.end ≡ None }
-        ensures breaks { (way : Displacement) → self.old.way ≡ Some way → is_even way (way_of last.now stance) ≡ false
-            → self.old.is_told ≡ false → result.end ≡ self.old.last }
-        ensures way { (way : Displacement) → self.old.way ≡ Some way → is_even way (way_of last.now stance) ≡ false
-            → self.new.way ≡ Some (way_of last.now stance) }
-        ensures untold { self.new.is_told ≡ false }
-        ensures same { result.begin ≡ None }
+        ensures run { self.new ≡ record {
+          last = Some stance;
+          way = Some (way_kept self.old.way (way_of last.now stance));
+          is_told = false;
+        } }
+        ensures news { result ≡ record {
+          end = if is_even_to self.old.way (way_of last.now stance) then None else end_of self.old;
+          begin = None;
+        } }
     {
         let way = last.way_to(&stance);
         let before = self.way;
@@ -153,10 +148,8 @@ impl Run {
 
     /// Ends the run, and begins another one here.
     fn begin_anew(&mut self, stance: Stance) -> News
-        ensures last { self.new.last ≡ Some stance }
-        ensures told { result.begin ≡ Some stance }
-        ensures end { self.old.is_told ≡ false → result.end ≡ self.old.last }
-        ensures shown { self.new.is_told ≡ true }
+        ensures run { self.new ≡ record { last = Some stance; way = None; is_told = true } }
+        ensures news { result ≡ record { end = end_of self.old; begin = Some stance } }
     {
         let end = self.end();
         self.last = Some(stance);
@@ -170,8 +163,7 @@ impl Run {
 
     /// Returns where the run ends so far, if the film doesn't have it yet.
     pub fn end(&self) -> Option<Stance>
-        ensures told { self.now.is_told ≡ true → result ≡ None }
-        ensures untold { self.now.is_told ≡ false → result ≡ self.now.last }
+        ensures { result ≡ end_of self.now }
     {
         if self.is_told { None } else { self.last }
     }

@@ -1,10 +1,11 @@
 //! The scales of the picture: where a place or a cycle is drawn, and how faint what is old.
 
 ghost use Rattle.std.specs.Prelude.{◌≡◌, ℕ, ◌+◌, ◌-◌, ◌*◌, ◌/◌, ◌≤◌, IfSome, None, min, max};
-ghost use Rattle.watching.specs.Rounds.{AreTooMany, IsFirstOf, round_number};
+ghost use Rattle.watching.specs.Rounds.{AreTooMany, IsFirstOf, IsRound, round_number};
 
 use crate::places::Place;
 use arena::LAST_METRE;
+use settings::MOST_CYCLES;
 
 /// The space on each side of the field, in units of the picture: a unit is a metre.
 pub const MARGIN: u32 = 50;
@@ -81,6 +82,7 @@ pub fn mark_spacing(cycles: u32, most: u32) -> u32
     ensures some { 1 ≤ result }
     ensures few { cycles / result ≤ most }
     ensures least { (k : ℕ) → cycles / round_number k ≤ most → result ≤ round_number k }
+    ensures round { cycles ≤ MOST_CYCLES → IsRound result }
 {
     let mut power = 1u32;
     for _ in 0..10u32 {

@@ -7,12 +7,14 @@ use Rattle.watching.proofs.events.Listener.tell_update.Goals as goal
 pub loop-robot-init : goal.loop-robot-init
 loop-robot-init g c = record {
   kept = search rules;
+  shown = search rules;
   heard = λ events f stands few heard. none_lost (g.Self.Listener.heard c.loop-burst.self) events c.args.cycle f heard;
 }
 
 pub loop-robot-preserved : goal.loop-robot-preserved
 loop-robot-preserved g c = record {
   kept = search rules;
+  shown = search rules;
   heard = λ events f stands few heard.
       let n = c.loop-robot.robot in
       let losses = c.as_slice-parts.result.now in

@@ -7,6 +7,7 @@ use Rattle.watching.proofs.events.Listener.tell_update.Given as goal
 abbrev pub invariant-loop-burst : goal.invariant-loop-burst
 invariant-loop-burst g l = record {
   kept : g.Self.Listener.keeps l.self ≡ g.Self.Listener.keeps l.initial.self;
+  shown : g.Self.Listener.shows l.self ≡ g.Self.Listener.shows l.initial.self;
   heard : (events : List Heard) → g.Self.Listener.heard l.initial.self events
       → g.Self.Listener.heard l.self (events ++ map (burst_heard l.cycle) (take l.burst-index l.bursts));
 }
@@ -14,6 +15,7 @@ invariant-loop-burst g l = record {
 abbrev pub invariant-loop-robot : goal.invariant-loop-robot
 invariant-loop-robot g l = record {
   kept : g.Self.Listener.keeps l.self ≡ g.Self.Listener.keeps l.initial.self;
+  shown : g.Self.Listener.shows l.self ≡ g.Self.Listener.shows l.initial.self;
   heard : (events : List Heard) (f : Field) → RepresentsField l.arena f → length f.robots ≤ 4
       → g.Self.Listener.heard l.initial.self events
       → g.Self.Listener.heard l.self (events ++ losses_heard l.cycle f l.robot);
@@ -22,6 +24,7 @@ invariant-loop-robot g l = record {
 abbrev pub invariant-loop-loss : goal.invariant-loop-loss
 invariant-loop-loss g l = record {
   kept : g.Self.Listener.keeps l.self ≡ g.Self.Listener.keeps l.initial.self;
+  shown : g.Self.Listener.shows l.self ≡ g.Self.Listener.shows l.initial.self;
   heard : (events : List Heard) → g.Self.Listener.heard l.initial.self events
       → g.Self.Listener.heard l.self (events ++ map (loss_heard l.cycle l.robot) (take l.loss-index l.parts));
 }

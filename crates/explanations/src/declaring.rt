@@ -1,0 +1,122 @@
+//! Hints on declarations: of functions, of parameters and of variables.
+
+use crate::heads::behind_brackets;
+use crate::hints::{Hint, by_layout};
+use crate::scenes::Scene;
+use derivations::{Item, Role};
+use tokens::{Keyword, Name, Punctuator, Token};
+
+/// Returns the hint on a declaration of a function, which has no block.
+pub fn on_prototypes(scene: &Scene<'_>) -> Option<Hint> {
+    let is_type = matches!(
+        scene.met(),
+        Token::Keyword(Keyword::Type | Keyword::Refused)
+    );
+    if !scene.is_outside() || !is_type {
+        return None;
+    }
+    let name = scene.head()?;
+    let behind = behind_brackets(scene.tokens, name)?;
+    let is_ended = scene.token(behind) == Token::Punctuator(Punctuator::Semicolon);
+    is_ended.then_some(Hint::Text(
+        "a function that is defined further down needs no declaration: leave the line out",
+    ))
+}
+
+/// Returns the hint on a reserved word that a variable is declared by.
+pub fn on_reserved_names(scene: &Scene<'_>) -> Option<Hint> {
+    let is_name = scene.follows(&Token::Keyword(Keyword::Type))
+        || scene.follows_mark(Punctuator::Comma) && !scene.kinds.expression && !is_in_list(scene);
+    let ends = matches!(
+        scene.token(scene.index.saturating_add(1)),
+        Token::Punctuator(Punctuator::Comma | Punctuator::Semicolon | Punctuator::Equals)
+    );
+    (scene.is_word(Keyword::Refused) && is_name && ends).then_some(Hint::Text(
+        "this word is reserved: give the variable another name",
+    ))
+}
+
+/// Returns the hint on declarations: with values, of parameters in their list, and after statements.
+pub fn on_declarations(scene: &Scene<'_>) -> Option<Hint> {
+    if scene.is_mark(Punctuator::Equals) && declares(scene) {
+        return Some(Hint::Declaration(
+            "a declaration gives no value",
+            scene.index.saturating_sub(1),
+        ));
+    }
+    if !scene.is_word(Keyword::Type) {
+        return None;
+    }
+    if scene.is_outside() && is_in_list(scene) {
+        let head = scene.head().unwrap_or(scene.index);
+        return Some(Hint::Head("a list of parameters has names alone", head));
+    }
+    if scene.kinds.statement {
+        let words =
+            "declarations stand at the beginning of their block, before its statements: move it up, or leave it out, as a variable needs none";
+        return Some(by_layout(scene.so_far(), true, "", Hint::Text(words)));
+    }
+    if scene.follows_mark(Punctuator::Comma) && !scene.kinds.expression {
+        return Some(Hint::Text("one `int` is enough: write `int a, b;`"));
+    }
+    None
+}
+
+/// Returns the hint on names of a declaration: with a digit in front, with a `-` in them, and without a `,` between
+/// them.
+pub fn on_declared_names(scene: &Scene<'_>) -> Option<Hint> {
+    let is_number = matches!(scene.met(), Token::Constant(_));
+    if is_number && scene.is_outside() && scene.fits(&Token::End) {
+        return Some(Hint::Text("a line has no number: what is done stands in `main() { .. }`"));
+    }
+    if is_number && scene.fits(&Token::Name(Name::new())) && !scene.kinds.expression {
+        return Some(Hint::Text(if is_in_list(scene) {
+            "a list of parameters has names alone; a call stands inside of a function"
+        } else {
+            "a name begins with a letter or `_`, not with a digit"
+        }));
+    }
+    if !declares(scene) {
+        return None;
+    }
+    if scene.is_mark(Punctuator::Minus) {
+        return Some(Hint::Text("a name has letters, digits and `_` alone"));
+    }
+    let is_on_line = scene.before()?.line == scene.line(scene.index);
+    if scene.name(scene.index).is_some() && is_on_line {
+        return Some(Hint::Text("a `,` may be missing before it"));
+    }
+    None
+}
+
+/// Returns the hint on two names side by side in the place of a declaration: the first is a type of another language.
+pub fn on_own_types(scene: &Scene<'_>) -> Option<Hint> {
+    let before = scene.index.checked_sub(1)?;
+    let ends = matches!(
+        scene.token(scene.index.saturating_add(1)),
+        Token::Punctuator(Punctuator::Equals | Punctuator::Semicolon)
+    );
+    let (first, _) = (scene.name(before)?, scene.name(scene.index)?);
+    let is_on_line = scene.line(before) == scene.line(scene.index);
+    if !ends || !is_on_line || scene.chosen_at() != before || !scene.is_lone(&first) {
+        return None;
+    }
+    Some(Hint::Declaration(
+        "there are no types of your own, and a declaration begins with `int`",
+        scene.index,
+    ))
+}
+
+/// Reports whether a declaration is just ended by a semicolon.
+fn declares(scene: &Scene<'_>) -> bool {
+    let chosen_at = scene.chosen_at();
+    let is_typed = scene.token(chosen_at) == Token::Keyword(Keyword::Type);
+    let before = scene.token(chosen_at.saturating_sub(1));
+    let is_external = scene.is_outside() && before == Token::Keyword(Keyword::Type);
+    scene.wants(Punctuator::Semicolon) && (is_typed || is_external)
+}
+
+/// Reports whether the next token is in a list of parameters.
+pub fn is_in_list(scene: &Scene<'_>) -> bool {
+    scene.wants(Punctuator::CloseRound) || scene.wants_item(Item::Naming(Role::Parameter))
+}

@@ -1,0 +1,125 @@
+//! Warnings about ways: a loop that waits for a coordinate which the robot's degree doesn't lead to, and a coordinate that is
+//! compared with what it was before the field has moved.
+
+use crate::rows::driven;
+use crate::warnings::{Subject, Warnings};
+use derivations::{Node, NodeKind};
+use grammar::{Callee, Intrinsic, Op, StoreOp};
+
+/// The most nodes between two questions that are asked too soon after each other: each takes a cycle at least, and the field
+/// moves every 15 cycles.
+const MOST_SOON: usize = 12;
+
+/// Warns of the loop of an index that waits for a coordinate, and before or in which the robot drives to one known degree alone
+/// that doesn't lead there.
+pub fn warn_of_way(
+    out: &mut Warnings,
+    subject: &Subject<'_>,
+    index: usize,
+    node: &Node,
+    condition: &Node,
+) {
+    let Some((asked, grows)) = waited_for(subject, node, condition) else {
+        return;
+    };
+    let Some(degree) = only_degree(subject, index, node) else {
+        return;
+    };
+    let way = match asked {
+        Intrinsic::LocX => way_east(degree),
+        _ => way_east(degree.saturating_sub(90)),
+    };
+    if way != grows {
+        out.tell(
+            condition.token,
+            "this never comes, as the robot's degree doesn't lead there: 0 is east, 90 north, 180 west and 270 south",
+        );
+    }
+}
+
+/// Returns the coordinate that a loop waits for, and whether it is to grow (1) or to become less (-1).
+fn waited_for(subject: &Subject<'_>, node: &Node, condition: &Node) -> Option<(Intrinsic, i32)> {
+    let NodeKind::Call(Callee::Intrinsic(asked), 0) = subject.tree.get(node.first)?.kind else {
+        return None;
+    };
+    let NodeKind::Binary(op) = condition.kind else {
+        return None;
+    };
+    let is_whole = condition.second == node.first.saturating_add(1)
+        && subject.constants.get(node.second.checked_sub(2)?).is_some()
+        && matches!(asked, Intrinsic::LocX | Intrinsic::LocY);
+    match op {
+        Op::Less | Op::LessOrEqual if is_whole => Some((asked, 1)),
+        Op::Greater | Op::GreaterOrEqual if is_whole => Some((asked, -1)),
+        // no other comparison waits for a side
+        _ => None,
+    }
+}
+
+/// Returns the only degree to which the robot drives in the loop of an index, or right before it if the loop calls nothing.
+fn only_degree(subject: &Subject<'_>, index: usize, node: &Node) -> Option<i32> {
+    let mut only = None;
+    for (place, below) in subject.tree.within(node.second, index).iter().enumerate() {
+        let statement = node.second.saturating_add(place).saturating_add(1);
+        match below.kind {
+            NodeKind::Call(Callee::Function(_), _) => return None,
+            NodeKind::Call(Callee::Intrinsic(Intrinsic::Drive), _) => {
+                let (degree, speed) = driven(subject, statement)?;
+                if only.is_some() || speed <= 0 {
+                    return None;
+                }
+                only = Some(degree);
+            }
+            // no other call changes the way
+            _ => {}
+        }
+    }
+    match (only, driven(subject, node.first.checked_sub(1)?)) {
+        (None, Some((degree, speed))) if speed > 0 => Some(degree),
+        (None, _) => None,
+        (found, _) => found,
+    }
+}
+
+/// Returns whether a robot with a degree goes east (1), west (-1), or neither (0).
+fn way_east(degree: i32) -> i32 {
+    match degree.rem_euclid(360) {
+        90 | 270 => 0,
+        91..=269 => -1,
+        _ => 1,
+    }
+}
+
+/// Returns what is said of a comparison, for equality, of the coordinate that the node of an index asks for with a variable that
+/// was set to it just before.
+pub fn on_haste(subject: &Subject<'_>, op: Op, asked: usize, kept: usize) -> Option<&'static str> {
+    let tree = subject.tree;
+    let (question, answer) = (tree.get(asked)?.kind, tree.get(kept)?.kind);
+    let NodeKind::Fetch(var) = answer else {
+        return None;
+    };
+    let is_place = matches!(
+        question,
+        NodeKind::Call(Callee::Intrinsic(Intrinsic::LocX | Intrinsic::LocY), 0)
+    );
+    if !is_place || !matches!(op, Op::Equal | Op::NotEqual) {
+        return None;
+    }
+    for step in 1..MOST_SOON {
+        let at = asked.checked_sub(step)?;
+        let node = tree.get(at)?;
+        let is_set = node.kind == NodeKind::Store(var, StoreOp::Set);
+        if is_set && tree.get(at.checked_sub(1)?)?.kind == question {
+            return Some(
+                "the field moves every 15 cycles, and this is asked too soon after it was kept: wait in a loop between",
+            );
+        }
+        let is_other = is_set
+            || node.kind == NodeKind::While
+            || matches!(node.kind, NodeKind::Call(Callee::Function(_), _));
+        if is_other {
+            return None;
+        }
+    }
+    None
+}
