@@ -13,7 +13,7 @@ import {Keeping} from "./keeping.js";
 import {battleOf, isBattle, linkedMoment} from "./links.js";
 import {Places} from "./places.js";
 import {Playing, tell} from "./playing.js";
-import {later} from "./replays.js";
+import {Screen, later} from "./replays.js";
 import {DatabaseShelf, Keeper, LocalShelf} from "./shelves.js";
 import {NEW_SOURCE, Store} from "./store.js";
 import {callOf, wishOf} from "./watching.js";
@@ -72,15 +72,18 @@ function levels(samples) {
 }
 
 class Page {
-    /** What the page has first: its battle, and the match that is watched. */
-    constructor(runner, data, keeper) {
+    /**
+     * What the page has first: its battle, and the match that is watched. `runner` calls the engine, `keeper` keeps, and `screen` shows
+     * films in one of the `places`.
+     */
+    constructor({data, runner, keeper, places, screen}) {
         this.data = data;
         this.keeper = keeper;
         const known = [...data.robots, ...data.steps].map(({source}) => source);
         const most = keeper.database ? MOST_BYTES : MOST_LOCAL_BYTES;
         this.store = new Store({keeper, known, newKey, now: Date.now, most});
-        this.places = new Places({write: () => this.focusEditor(), watch: () => this.playing.focus()});
-        this.playing = new Playing(this.store, runner, this.places, () => this.workbench?.compileAll());
+        this.places = places;
+        this.playing = new Playing(this.store, runner, places, screen, () => this.workbench?.compileAll());
         this.keeping = new Keeping(this.store, keeper, moment => this.playing.watchMoment(moment));
         this.listen();
     }
@@ -203,12 +206,15 @@ export async function make(module) {
     // the module is compiled in its worker meanwhile
     const newCaller = () => new Caller(address, module);
     const runner = newCaller();
+    const places = new Places({write: () => page.focusEditor(), watch: () => page.playing.focus()});
+    const screen = new Screen(byId("film"), places);
     if (isLikelyFirst()) {
         runner.askAhead(...callOf(wishOf(firstBattle(data.robots, null), {number: FIRST_MATCH, cycle: 0})));
+        screen.prepare();
     }
     const [battle, keeper] = await Promise.all([battleOf(location.hash), keeperOf()]);
     const kept = await keeper.load();
-    const page = new Page(runner, data, keeper);
+    const page = new Page({data, runner, keeper, places, screen});
     page.store.take(kept);
     // seen when each press is heard
     byId("main").hidden = false;

@@ -68,13 +68,14 @@ export class Playing {
      * @param {import("./store.js").Store} store
      * @param {import("./calling.js").Caller} runner
      * @param {import("./places.js").Places} places
+     * @param {Screen} screen
      */
-    constructor(store, runner, places, reprofiled) {
+    constructor(store, runner, places, screen, reprofiled) {
         this.store = store;
         this.runner = runner;
         this.places = places;
         this.reprofiled = reprofiled;
-        this.screen = new Screen(byId("film"), places);
+        this.screen = screen;
         this.filming = new Filming(this.screen, tellWatched);
         this.inside = new Inside(this.screen, runner, this);
         this.report = new Report(byId("report"), number => this.watch(new Wish(this.reported, number, 0)));
@@ -103,6 +104,8 @@ export class Playing {
             // the film's frame is loaded while the engine starts
             this.places.go("watch");
             this.screen.prepare();
+        } else {
+            this.screen.leave();
         }
         try {
             await this.runner.call("ready");

@@ -44,7 +44,17 @@ function end() {
     return globalThis.watched;
 }
 
-Object.assign(globalThis, {CROBOTS: {player: PLAYER}, films, screen, said, watch, end});
+/** How much higher the frame is than its film, when it has followed it: it does that when the browser has laid the film out, or after ten seconds. */
+async function rise() {
+    const {defaultView, documentElement} = document.getElementById("film").contentDocument;
+    const high = () => defaultView.innerHeight - documentElement.offsetHeight;
+    for (let turn = 0; turn < 500 && !(high() >= 0 && high() <= 2); turn++) {
+        await new Promise(done => setTimeout(done, 20));
+    }
+    return high();
+}
+
+Object.assign(globalThis, {CROBOTS: {player: PLAYER}, films, screen, said, watch, end, rise});
 """
 PART = """\
 cycle robot kind a b c d e
@@ -103,7 +113,7 @@ class Framed:
             seen.append(self._clock())
             heading = "Match 3: a.r and <b>.r"
             wrong += [] if seen == ["cycle 165 of 300", heading, heading, "false", "cycle 180 of 300"] else [f"{width}: {seen}"]
-            high = self._inside("it.defaultView.innerHeight - it.documentElement.offsetHeight")
+            high = self._value("rise()")
             wrong += [] if 0 <= high <= 2 else [f"{width}: the frame is {high} points higher than its film"]
         return wrong
 

@@ -1,4 +1,4 @@
-//! What is known of a robot: the room that it needs, and what its functions and the turns of its loops take.
+//! What is known of a robot: the room that it needs at most, and what its functions and the turns of its loops take.
 
 ghost use Rattle.std.specs.Prelude.{◌≡◌, ◌++◌, ◌<◌, ◌∷◌, [], IfErr, IfOk, Ok, Some, length, map};
 ghost use Rattle.room.specs.Bounds.{IsRefusedSource};
@@ -22,7 +22,7 @@ use trees::TreeMaker;
 pub struct Facts {
     /// The profile that it is compiled by.
     pub profile: Profile,
-    /// The room that it needs.
+    /// The room that it needs at most.
     pub bound: Bound,
     /// The functions that call one another where it needs most: most frames, if only of these its profile gives too
     /// few, and else most words.

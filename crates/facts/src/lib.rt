@@ -1,5 +1,5 @@
-//! What is known of a robot before it fights, and how it is written: the room that it needs, and what its functions and
-//! the turns of its loops take.
+//! What is known of a robot before it fights, and how it is written: the room that it needs at most, and what its
+//! functions and the turns of its loops take.
 #![tactic(auto)]
 
 mod chains;

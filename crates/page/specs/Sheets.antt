@@ -1,5 +1,6 @@
 -- The text of a sheet.
-use Rattle.std.specs.Prelude.{ℕ, ◌<◌, ◌≤◌, List, Some, false, map, take, if◌then◌else◌, nat_le}
+use Rattle.std.specs.Prelude.{◌≡◌, ◌⊎◌, ◌++◌, ℕ, ◌<◌, ◌≤◌, List, Some, false, map, take, if◌then◌else◌, nat_le}
+use Rattle.std.specs.List.{concat}
 use Rattle.sinks.specs.Portions.{Portions, SinkState}
 use Rattle.page.specs.declared.sheets.SheetBlock.{SheetBlock}
 use Rattle.page.specs.declared.sheets.Sheet.{Sheet}
@@ -11,6 +12,10 @@ bytes_of frame = take frame.size frame.bytes
 -- the text, frame by frame
 abbrev pub told : Sheet → List (List ℕ)
 told sheet = map bytes_of (take sheet.used sheet.frames)
+
+-- and as one text
+abbrev pub text_on : Sheet → List ℕ
+text_on sheet = concat (told sheet)
 
 -- what a sheet took as a device; it need not take a put whole
 abbrev pub contents_of : Sheet → Portions
@@ -28,6 +33,16 @@ refused sheet = if nat_le most_frames sheet.used then sheet.failures else 0
 pub record IsFull (sheet : Sheet) : Type 0 where
   pub used : most_frames ≤ sheet.used
   pub refused : 0 < sheet.failures
+
+-- a text was added to a sheet: it stands behind what stood there, unless the sheet is full, and a full one stays so
+pub record Adds (before after : Sheet) (text : List ℕ) : Type 0 where
+  pub full : IsFull before → IsFull after
+  pub told : IsFull after ⊎ (text_on after ≡ text_on before ++ text)
+
+-- some text was
+pub record AddsSome (before after : Sheet) : Type 0 where
+  pub text : List ℕ
+  pub adds : Adds before after text
 
 abbrev pub written_of : Sheet → SinkState
 written_of sheet = record { portions = contents_of sheet; failures = refused sheet }

@@ -2,6 +2,7 @@
 //! what its loops take.
 
 ghost use Rattle.page.specs.Explaining.{Explains, ExplainsRobots};
+ghost use Rattle.page.specs.Sheets.{Adds, AddsSome};
 
 use crate::endings::Ending;
 use crate::loop_turns::tell_turns;
@@ -28,7 +29,7 @@ pub enum Topic {
 /// for each warning, up to the first fault, or a row for each loop; and the first fault.
 #[tactic(auto, using(crate::proofs::ExplainingLemmas::explained))]
 pub fn explain_robot(order: &Order, robots: &[RobotFile], topic: Topic, sheet: &mut Sheet) -> Ending
-    ensures { ExplainsRobots order.now robots.now result }
+    ensures { ExplainsRobots order.now robots.now result sheet.new }
 {
     sheet.clear();
     let Some(settings) = settings_of(order, Mode::Listing, robots) else {
@@ -43,7 +44,7 @@ pub fn explain_robot(order: &Order, robots: &[RobotFile], topic: Topic, sheet: &
 
 /// Explains a source on a blank sheet.
 fn explain_source(profile: Profile, source: &[u8], topic: Topic, sheet: &mut Sheet) -> Ending
-    ensures { Explains profile source.now result }
+    ensures { Explains profile source.now result sheet.new }
 {
     let mut tokens = Tokens::new();
     if !locate_in(&mut tokens, source) {
@@ -76,7 +77,9 @@ fn explain_source(profile: Profile, source: &[u8], topic: Topic, sheet: &mut She
 }
 
 /// Writes warnings about a source, a line each.
-fn tell_warnings(warnings: &Warnings, tokens: &[Located], sheet: &mut Sheet) {
+fn tell_warnings(warnings: &Warnings, tokens: &[Located], sheet: &mut Sheet)
+    ensures { AddsSome sheet.old sheet.new }
+{
     for warning in warnings.list() {
         let note = warning.note(tokens);
         tell(note.as_str(), sheet);
@@ -84,7 +87,9 @@ fn tell_warnings(warnings: &Warnings, tokens: &[Located], sheet: &mut Sheet) {
 }
 
 /// Writes a text.
-fn tell(text: &str, sheet: &mut Sheet) {
+fn tell(text: &str, sheet: &mut Sheet)
+    ensures { Adds sheet.old sheet.new text.now }
+{
     let mut rest = text.as_bytes();
     for _ in 0..text.len() {
         let (part, behind) = rest.split_at(rest.len().min(FRAME_BYTES));

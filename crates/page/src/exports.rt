@@ -144,7 +144,7 @@ pub extern "C" fn places(
 /// 16,384 tokens, or the sheet is full.
 #[unsafe(no_mangle)]
 pub extern "C" fn explain(order: &Order, robots: &[RobotFile], text: &mut Sheet) -> u32
-    ensures { EndsWith (λ ending. ExplainsRobots order.now robots.now ending) result }
+    ensures { EndsWith (λ ending. ExplainsRobots order.now robots.now ending text.new) result }
 {
     explain_robot(order, robots, Topic::Warnings, text).code()
 }
@@ -154,7 +154,7 @@ pub extern "C" fn explain(order: &Order, robots: &[RobotFile], text: &mut Sheet)
 /// `crobots-bounds`. Answers as `explain` does.
 #[unsafe(no_mangle)]
 pub extern "C" fn turns(order: &Order, robots: &[RobotFile], text: &mut Sheet) -> u32
-    ensures { EndsWith (λ ending. ExplainsRobots order.now robots.now ending) result }
+    ensures { EndsWith (λ ending. ExplainsRobots order.now robots.now ending text.new) result }
 {
     explain_robot(order, robots, Topic::Turns, text).code()
 }

@@ -1,7 +1,8 @@
 //! Sheets: what a run writes, kept in memory that the caller lends.
 
-ghost use Rattle.std.specs.Prelude.{◌≡◌, [], true, false};
-ghost use Rattle.page.specs.Sheets.{IsFull, refused, told, written_of};
+ghost use Rattle.std.specs.Prelude.{◌≡◌, ◌<◌, ◌≤◌, ◌++◌, [], length, true, false, IfOk, OnErr};
+ghost use Rattle.sinks.specs.Puts.{CanFail, TakesPortion, failed_once_more};
+ghost use Rattle.page.specs.Sheets.{Adds, IsFull, refused, text_on, told, written_of};
 
 use series::Sink;
 use tokens::DeviceFault;
@@ -64,15 +65,19 @@ impl Sheet {
 
     /// Adds bytes, up to 255: to the last frame if that has room. A sheet that was full takes no more, and so do no
     /// bytes.
-    pub(crate) fn add(&mut self, bytes: &[u8]) {
+    pub(crate) fn add(&mut self, bytes: &[u8])
+        ensures { length bytes.now ≤ FRAME_BYTES → Adds self.old self.new bytes.now }
+    {
         if !bytes.is_empty() && !self.is_full() && !self.fill(bytes) {
-            let _ = self.put(bytes);
+            let _ = self.put_frame(bytes);
         }
     }
 
     /// Adds bytes to the last frame. Answers whether that had room for all of them.
     fn fill(&mut self, bytes: &[u8]) -> bool
         ensures failures { self.new.failures ≡ self.old.failures }
+        ensures used { self.new.used ≡ self.old.used }
+        ensures filled { result ≡ true → text_on self.new ≡ text_on self.old ++ bytes.now }
         ensures refused { result ≡ false → self.new ≡ self.old }
     {
         let used = self.used as usize;
@@ -89,12 +94,17 @@ impl Sheet {
         frame.size = end as u8;
         true
     }
-}
 
-impl Sink for Sheet {
-    ghost written = { written_of };
-
-    fn put(&mut self, bytes: &[u8]) -> Result<usize, DeviceFault> {
+    /// Puts bytes into a frame of their own, up to 255 of them; fails if no frame is free.
+    fn put_frame(&mut self, bytes: &[u8]) -> Result<usize, DeviceFault>
+        requires nonempty { 0 < length bytes.now }
+        requires countable { CanFail (written_of self.old) }
+        ensures takes { IfOk result (TakesPortion (written_of self.old) (written_of self.new) bytes.now) }
+        ensures whole { length bytes.now ≤ FRAME_BYTES
+            → IfOk result (λ _. text_on self.new ≡ text_on self.old ++ bytes.now) }
+        ensures fails { OnErr result (written_of self.new ≡ failed_once_more (written_of self.old)) }
+        ensures full { OnErr result (IsFull self.new) }
+    {
         let used = self.used as usize;
         if used >= FRAMES {
             self.failures += 1;
@@ -107,5 +117,13 @@ impl Sink for Sheet {
         self.used += 1;
         self.failures = 0;
         Ok(size)
+    }
+}
+
+impl Sink for Sheet {
+    ghost written = { written_of };
+
+    fn put(&mut self, bytes: &[u8]) -> Result<usize, DeviceFault> {
+        self.put_frame(bytes)
     }
 }

@@ -22,7 +22,7 @@ use trees::TreeMaker;
 /// What is known of a robot before it fights.
 #[derive(Clone, Copy, PartialEq, Eq)]
 pub struct Bound {
-    /// The room that it needs, or none if no room is enough: a function can come back to itself.
+    /// The room that it needs at most, or none if no room is enough: a function can come back to itself.
     pub need: Option<Room>,
     /// Whether its profile gives that room. Then it restarts only where `main` returns.
     pub has_room: bool,

@@ -1,0 +1,71 @@
+-- Texts that are added to a sheet.
+use Rattle.std.proofs.Common.{◌≡◌, ◌⊎◌, ◌<◌, ◌≤◌, ◌+◌, ◌-◌, ◌∙◌, inl, inr, ℕ, List, [], ◌∷◌, ◌++◌, false, map, refl, sym, ap, append_assoc, arith, length, take, set, get_or, nat_le}
+use Rattle.std.specs.List.{concat}
+use Rattle.std.proofs.lemmas.Bool.Decides.{nat_tests}
+use Rattle.std.proofs.lemmas.List.{append-nil, take_more, take_more_set}
+use Rattle.page.specs.declared.sheets.Sheet.{Sheet}
+use Rattle.page.specs.declared.sheets.SheetBlock.{SheetBlock}
+use Rattle.page.specs.Sheets.{Adds, AddsSome, IsFull, bytes_of, most_frames, refused, text_on}
+
+-- the text of frames, with one more behind them
+one_more : (frames : List SheetBlock) (frame : SheetBlock)
+    → concat (map bytes_of (frames ++ frame ∷ [])) ≡ concat (map bytes_of frames) ++ bytes_of frame
+one_more [] frame = append-nil (bytes_of frame)
+one_more (first ∷ frames) frame =
+    ap (λ (rest : List ℕ). bytes_of first ++ rest) (one_more frames frame)
+    ∙ sym (append_assoc (bytes_of first) (concat (map bytes_of frames)) (bytes_of frame))
+
+-- the last frame gets more bytes
+pub last_filled : (frames : List SheetBlock) (n : ℕ) (frame before : SheetBlock) (bytes : List ℕ)
+    → n < length frames → get_or frames n before ≡ before → bytes_of frame ≡ bytes_of before ++ bytes
+    → concat (map bytes_of (take (n + 1) (set frames n frame))) ≡ concat (map bytes_of (take (n + 1) frames)) ++ bytes
+last_filled frames n frame before bytes inside here more =
+    ap (λ (fs : List SheetBlock). concat (map bytes_of fs)) (take_more_set frames n frame inside)
+    ∙ one_more (take n frames) frame
+    ∙ ap (λ (last : List ℕ). concat (map bytes_of (take n frames)) ++ last) more
+    ∙ sym (append_assoc (concat (map bytes_of (take n frames))) (bytes_of before) bytes)
+    ∙ ap (λ (all : List ℕ). all ++ bytes) (sym (ap (λ (fs : List SheetBlock). concat (map bytes_of fs))
+    (take_more frames n before inside ∙ ap (λ (f : SheetBlock). take n frames ++ f ∷ []) here)
+    ∙ one_more (take n frames) before))
+
+-- a frame more has bytes
+pub next_put : (frames : List SheetBlock) (n : ℕ) (frame : SheetBlock) (bytes : List ℕ)
+    → n < length frames → bytes_of frame ≡ bytes
+    → concat (map bytes_of (take (n + 1) (set frames n frame))) ≡ concat (map bytes_of (take n frames)) ++ bytes
+next_put frames n frame bytes inside is =
+    ap (λ (fs : List SheetBlock). concat (map bytes_of fs)) (take_more_set frames n frame inside)
+    ∙ one_more (take n frames) frame
+    ∙ ap (λ (last : List ℕ). concat (map bytes_of (take n frames)) ++ last) is
+
+-- a sheet that refuses nothing isn't full
+pub not_full : (sheet : Sheet) → refused sheet ≡ 0 → IsFull sheet → ⊥
+not_full sheet none full = grind (arith, nat_tests, full.used, full.refused)
+
+-- nothing is added
+pub adds_nothing : (sheet : Sheet) → Adds sheet sheet []
+adds_nothing sheet = record { full = λ full. full; told = inr (sym (append-nil (text_on sheet))) }
+
+-- a text is added, and another one
+told_both : (before between after : Sheet) (first second : List ℕ)
+    → (IsFull between → IsFull after)
+    → IsFull between ⊎ (text_on between ≡ text_on before ++ first)
+    → IsFull after ⊎ (text_on after ≡ text_on between ++ second)
+    → IsFull after ⊎ (text_on after ≡ text_on before ++ (first ++ second))
+told_both before between after first second stays (inl full) there = inl (stays full)
+told_both before between after first second stays (inr here) (inl full) = inl full
+told_both before between after first second stays (inr here) (inr there) =
+    inr (there ∙ ap (λ (text : List ℕ). text ++ second) here ∙ append_assoc (text_on before) first second)
+
+pub adds_both : (before between after : Sheet) (first second : List ℕ)
+    → Adds before between first → Adds between after second → Adds before after (first ++ second)
+adds_both before between after first second here there = record {
+  full = λ full. there.full (here.full full);
+  told = told_both before between after first second there.full here.told there.told;
+}
+
+pub adds_some_both : (before between after : Sheet) (second : List ℕ)
+    → AddsSome before between → Adds between after second → AddsSome before after
+adds_some_both before between after second here there = record {
+  text = here.text ++ second;
+  adds = adds_both before between after here.text second here.adds there;
+}
