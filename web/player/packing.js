@@ -1,4 +1,5 @@
 // Unpacks what a page carries: texts that were deflated and written in base 64, and films.
+import {bytesOfBase64} from "./base64.js";
 
 const WORDED = new Set(["name", "restart", "source", "line", "asked"]);
 
@@ -20,19 +21,9 @@ export async function bytesOf(stream, most = Infinity) {
     }
 }
 
-/** Returns the bytes of a text in base 64, of either alphabet. */
-function toBytes(text) {
-    const binary = atob(text.replaceAll("-", "+").replaceAll("_", "/"));
-    const bytes = new Uint8Array(binary.length);
-    for (let at = 0; at < bytes.length; at += 1) {
-        bytes[at] = binary.charCodeAt(at);
-    }
-    return bytes;
-}
-
 /** Returns the bytes that a text in base 64 packs, if they aren't more than `most`. */
 export function unpacked(text, most = Infinity) {
-    const packed = new Blob([toBytes(text)]).stream();
+    const packed = new Blob([bytesOfBase64(text)]).stream();
     return bytesOf(packed.pipeThrough(new DecompressionStream("deflate-raw")), most);
 }
 
