@@ -6,19 +6,20 @@ use Rattle.std.specs.Prelude.{pos, ◌&&◌, Option, Some, None, IsTrue, is_some
 use Rattle.grammar.specs.declared.resolved_names.Callee.TheVariants as callee
 use Rattle.arith.specs.declared.operators.Op.TheVariants as op
 use Rattle.grammar.specs.declared.actions.Action.{Action}
-use Rattle.grammar.specs.declared.actions.Action.TheVariants.{PushConstant, FetchVariable, StoreVariable, ApplyBinop}
-use Rattle.grammar.specs.declared.actions.Action.TheVariants.{LogicMiddle, BeginCall, EndCall, IfTest, ElsePart, EndIf}
-use Rattle.grammar.specs.declared.actions.Action.TheVariants.{BeginWhile, WhileTest, EndWhile, GiveBack, Chop}
+use Rattle.grammar.specs.declared.actions.Action.TheVariants.{PushConstant, FetchVariable, ApplyBinop}
+use Rattle.grammar.specs.declared.actions.Action.TheVariants.{EndCall, EndIf}
+use Rattle.grammar.specs.declared.actions.Action.TheVariants.{WhileTest, EndWhile, Chop}
 use Rattle.grammar.specs.declared.actions.Action.TheVariants.{BeginFunction, EndFunction}
 use Rattle.grammar.specs.Actions.{expr_actions, body_actions, function_actions, last_return}
 use Rattle.grammar.specs.Beginning.{IsReportable, AreReportable, IsBeginning}
 use Rattle.grammar.specs.Derivation.{Definition}
 use Rattle.grammar.specs.Beginning.{definitions_actions}
 use Rattle.grammar.specs.Following.{InFunction, Opened, open_count, few_open, follow, follow_all, then_follow, is_number, is_var_numbered, is_callee_numbered, only_on}
-use Rattle.grammar.specs.Nesting.{nesting, body_nesting, right_side}
+use Rattle.grammar.specs.Nesting.{body_nesting, right_side}
 use Rattle.grammar.specs.Laws.Origins.{origin_of, ends_in_return}
 use Rattle.grammar.specs.Resolved.{InBody}
 use Rattle.grammar.specs.Tree.{Expr, Constant, Binary, Call, NoMore, Argument, Body, Done, ExpressionStatement, IfStatement, IfElseStatement, While, Return, join}
+use Rattle.grammar.specs.NameLimits.{most_names}
 use Rattle.grammar.proofs.FollowingLaws.{Leads, chain, definition_leads}
 use Rattle.grammar.proofs.Unfinished.{Context, InFun, InFirst, InSecond, InLoop, Hole, Statement, Test, Behind, RightSide, Arguments, open_hole, context_actions, hole_actions, context_count, hole_count, ExprFits, BodyFits, ContextFits, HoleFits, fits-join, body_actions-join}
 use Rattle.grammar.proofs.UnfinishedSteps.{IsWithin, Steps, number_is, step}
@@ -72,11 +73,11 @@ begins_with xs ys b =
 count_fits : (p : Context) → ContextFits p → context_count p ≤ 200
 count_fits (InFun n k b) fits = omega arith
 count_fits (InFirst c b outer) fits =
-    let few : 1 + context_count outer + body_nesting b ≤ 200 = fits.2.few in omega (arith, few)
+    omega (arith, fits.2.few)
 count_fits (InSecond c t b outer) fits =
-    let few : 1 + context_count outer + body_nesting b ≤ 200 = fits.3.few in omega (arith, few)
+    omega (arith, fits.3.few)
 count_fits (InLoop c b outer) fits =
-    let few : 1 + context_count outer + body_nesting b ≤ 200 = fits.2.few in omega (arith, few)
+    omega (arith, fits.2.few)
 
 record Closes (acts : List Action) : Type 0 where
   definition : Definition
@@ -103,7 +104,7 @@ definition_actions : (n k v : ℕ) (b : Body) →
 definition_actions n k v b =
     ap (λ (m : ℕ). BeginFunction n k ∷ (body_actions b ++ (last_return ++ EndFunction m ∷ []))) (length-replicate v [])
 
-definition_reported : (n k v : ℕ) (b : Body) → n < 64 → k ≤ v → v ≤ 64 → BodyFits 0 b →
+definition_reported : (n k v : ℕ) (b : Body) → n < most_names → k ≤ v → v ≤ most_names → BodyFits 0 b →
     IsReportable (definition n k v b)
 definition_reported n k v b h l m f =
     let long : length {A = List ℕ} (replicate v []) ≡ v = length-replicate v [] in
@@ -126,27 +127,20 @@ close_context (InFun n k b) s fits more = record {
 }
 close_context (InFirst c b outer) s fits more =
     let both : BodyFits (1 + context_count outer) (join b s) = fits-join (1 + context_count outer) b s fits.2 more in
-    let few_test : context_count outer + nesting c ≤ 200 = fits.1.few in
-    let few : 1 + context_count outer + body_nesting (join b s) ≤ 200 = both.few in
     closes_with (EndIf ∷ []) _ _ (rw (body_actions-join b s) (simp append_assoc refl))
     (close_context outer (IfStatement c (join b s) Done) fits.0
-    (record { names = (fits.1.names, both.names, tt); few = omega (arith, few_test, few) }))
+    (record { names = (fits.1.names, both.names, tt); few = omega (arith, fits.1.few, both.few) }))
 close_context (InSecond c t b outer) s fits more =
     let both : BodyFits (1 + context_count outer) (join b s) = fits-join (1 + context_count outer) b s fits.3 more in
-    let few_test : context_count outer + nesting c ≤ 200 = fits.1.few in
-    let few_first : 1 + context_count outer + body_nesting t ≤ 200 = fits.2.few in
-    let few : 1 + context_count outer + body_nesting (join b s) ≤ 200 = both.few in
     closes_with (EndIf ∷ []) _ _ (rw (body_actions-join b s) (simp append_assoc refl))
     (close_context outer (IfElseStatement c t (join b s) Done) fits.0
     (record
-    { names = (fits.1.names, fits.2.names, both.names, tt); few = omega (arith, few_test, few_first, few) }))
+    { names = (fits.1.names, fits.2.names, both.names, tt); few = omega (arith, fits.1.few, fits.2.few, both.few) }))
 close_context (InLoop c b outer) s fits more =
     let both : BodyFits (1 + context_count outer) (join b s) = fits-join (1 + context_count outer) b s fits.2 more in
-    let few_test : 1 + context_count outer + nesting c ≤ 200 = fits.1.few in
-    let few : 1 + context_count outer + body_nesting (join b s) ≤ 200 = both.few in
     closes_with (EndWhile ∷ []) _ _ (rw (body_actions-join b s) (simp append_assoc refl))
     (close_context outer (While c (join b s) Done) fits.0
-    (record { names = (fits.1.names, both.names, tt); few = omega (arith, few_test, few) }))
+    (record { names = (fits.1.names, both.names, tt); few = omega (arith, fits.1.few, both.few) }))
 
 abbrev zero : Expr
 zero = Constant (pos 0)
@@ -154,32 +148,25 @@ zero = Constant (pos 0)
 -- a value in a hole
 close_value : (h : Hole) (e : Expr) → HoleFits h → ExprFits (hole_count h) e → Closes (hole_actions h ++ expr_actions e)
 close_value (Statement p) e fits f =
-    let few : context_count p + nesting e ≤ 200 = f.few in
     closes_with (Chop ∷ []) _ _ (append_assoc (context_actions p) (expr_actions e) (Chop ∷ []))
-    (close_context p (ExpressionStatement e Done) fits (record { names = (f.names, tt); few = omega (arith, few) }))
+    (close_context p (ExpressionStatement e Done) fits (record { names = (f.names, tt); few = omega (arith, f.few) }))
 close_value (Test p) e fits f =
-    let few : 1 + context_count p + nesting e ≤ 200 = f.few in
     closes_with (WhileTest ∷ EndWhile ∷ []) _ _ (simp append_assoc refl)
-    (close_context p (While e Done Done) fits.0 (record { names = (f.names, tt, tt); few = omega (arith, few) }))
+    (close_context p (While e Done Done) fits.0 (record { names = (f.names, tt, tt); few = omega (arith, f.few) }))
 close_value (Behind l h) e fits f =
-    let few_left : hole_count h + nesting l ≤ 200 = fits.1.few in
-    let few_right : 0 + hole_count h + nesting e ≤ 200 = f.few in
     closes_with (ApplyBinop op.Add ∷ []) _ _ (simp append_assoc refl)
     (close_value h (Binary op.Add l e) fits.0
-    (record { names = (fits.1.names, f.names); few = omega (arith, few_left, few_right) }))
+    (record { names = (fits.1.names, f.names); few = omega (arith, fits.1.few, f.few) }))
 close_value (RightSide o l h) e fits f =
     let one : right_side o ≡ 1 = rw fits.2 refl in
-    let few_left : hole_count h + nesting l ≤ 200 = fits.1.few in
-    let few_right : 1 + (0 + hole_count h) + nesting e ≤ 200 = f.few in
     closes_with (ApplyBinop o ∷ []) _ (hole_actions h ++ expr_actions (Binary o l e))
     (rw fits.2 (simp append_assoc refl))
     (close_value h (Binary o l e) fits.0
-    (record { names = (fits.1.names, f.names); few = omega (arith, few_left, few_right, one) }))
+    (record { names = (fits.1.names, f.names); few = omega (arith, fits.1.few, f.few, one) }))
 close_value (Arguments h) e fits f =
-    let few : 1 + hole_count h + nesting e ≤ 200 = f.few in
     closes_with (EndCall (callee.Function 0) ∷ []) _ _ (simp append_assoc refl)
     (close_value h (Call (callee.Function 0) (Argument e NoMore)) fits.0
-    (record { names = (omega arith, (f.names, tt)); few = omega (arith, few) }))
+    (record { names = (omega arith, (f.names, tt)); few = omega (arith, f.few) }))
 
 close_zero : (h : Hole) → HoleFits h → hole_count h ≤ 200 → Closes (hole_actions h)
 close_zero h fits few =
@@ -260,11 +247,12 @@ made_begins acts o m = by m.held m.actions m.fits
 -- A function begins and is finished.
 
 pub begin_makes : (n k : ℕ) (q : Opened) → follow (BeginFunction n k) [] ≡ Some q →
-    ((n < 64) × (k ≤ 64)) × (InFunction k false ∷ [] ≡ q)
-begin_makes n k q e = by (nat_lt n 64) (nat_le k 64) refl refl e
+    ((n < most_names) × (k ≤ most_names)) × (InFunction k false ∷ [] ≡ q)
+begin_makes n k q e = by (nat_lt n most_names) (nat_le k most_names) refl refl e
   where
-    by : (a b : Bool) → nat_lt n 64 ≡ a → nat_le k 64 ≡ b → only_on (a && b) (InFunction k false ∷ []) ≡ Some q →
-        ((n < 64) × (k ≤ 64)) × (InFunction k false ∷ [] ≡ q)
+    by : (a b : Bool) → nat_lt n most_names ≡ a → nat_le k most_names ≡ b →
+        only_on (a && b) (InFunction k false ∷ []) ≡ Some q →
+        ((n < most_names) × (k ≤ most_names)) × (InFunction k false ∷ [] ≡ q)
     by true true f g h = ((grind (arith, nat_tests), grind (arith, nat_tests)), cc)
     by true false f g h = absurd (cc)
     by false b f g h = absurd (cc)
@@ -272,15 +260,15 @@ begin_makes n k q e = by (nat_lt n 64) (nat_le k 64) refl refl e
 pub record FinishesBy (v k : ℕ) (o q : Opened) (last : Bool) : Type 0 where
   pub returned : last ≡ true
   pub parameters : k ≤ v
-  pub variables : v ≤ 64
+  pub variables : v ≤ most_names
   pub nothing : [] ≡ q
 
 pub finish_makes : (v k : ℕ) (last : Bool) (q : Opened) → follow (EndFunction v) (InFunction k last ∷ []) ≡ Some q →
     FinishesBy v k (InFunction k last ∷ []) q last
 finish_makes v k false q e = absurd (cc)
-finish_makes v k true q e = by (nat_le k v) (nat_le v 64) refl refl e
+finish_makes v k true q e = by (nat_le k v) (nat_le v most_names) refl refl e
   where
-    by : (a b : Bool) → nat_le k v ≡ a → nat_le v 64 ≡ b → only_on (a && b) [] ≡ Some q →
+    by : (a b : Bool) → nat_le k v ≡ a → nat_le v most_names ≡ b → only_on (a && b) [] ≡ Some q →
         FinishesBy v k (InFunction k true ∷ []) q true
     by true true f g h =
         record
@@ -293,32 +281,24 @@ record Before (b : Body) : Type 0 where
   body : Body
   is : b ≡ join body (Return (Constant (pos 0)) Done)
 
+-- they are before statements that begin with another one
+behind : (before : Bool) (b rest : Body) (f : Body → Body) → b ≡ f rest →
+    ((x y : Body) → f (join x y) ≡ join (f x) y) →
+    ((rest ≡ Done) × (false ≡ true)) ⊎ Before rest → ((b ≡ Done) × (before ≡ true)) ⊎ Before b
+behind before b rest f e joins (inl p) = absurd (let no : false ≡ true = p.1 in cc)
+behind before b rest f e joins (inr s) =
+    inr (record { body = f s.body; is = e ∙ ap f s.is ∙ joins s.body (Return (Constant (pos 0)) Done) })
+
 last_return_of : (before : Bool) (b : Body) → ends_in_return before b ≡ true → ((b ≡ Done) × (before ≡ true)) ⊎ Before b
 last_return_of before Done h = inl (refl, h)
-last_return_of before (ExpressionStatement e rest) h = by (last_return_of false rest h)
-  where
-    by : ((rest ≡ Done) × (false ≡ true)) ⊎ Before rest →
-        ((ExpressionStatement e rest ≡ Done) × (before ≡ true)) ⊎ Before (ExpressionStatement e rest)
-    by (inl p) = absurd (let no : false ≡ true = p.1 in cc)
-    by (inr s) = inr (record { body = ExpressionStatement e s.body; is = ap (ExpressionStatement e) s.is })
-last_return_of before (IfStatement c t rest) h = by (last_return_of false rest h)
-  where
-    by : ((rest ≡ Done) × (false ≡ true)) ⊎ Before rest →
-        ((IfStatement c t rest ≡ Done) × (before ≡ true)) ⊎ Before (IfStatement c t rest)
-    by (inl p) = absurd (let no : false ≡ true = p.1 in cc)
-    by (inr s) = inr (record { body = IfStatement c t s.body; is = ap (IfStatement c t) s.is })
-last_return_of before (IfElseStatement c t u rest) h = by (last_return_of false rest h)
-  where
-    by : ((rest ≡ Done) × (false ≡ true)) ⊎ Before rest →
-        ((IfElseStatement c t u rest ≡ Done) × (before ≡ true)) ⊎ Before (IfElseStatement c t u rest)
-    by (inl p) = absurd (let no : false ≡ true = p.1 in cc)
-    by (inr s) = inr (record { body = IfElseStatement c t u s.body; is = ap (IfElseStatement c t u) s.is })
-last_return_of before (While c t rest) h = by (last_return_of false rest h)
-  where
-    by : ((rest ≡ Done) × (false ≡ true)) ⊎ Before rest →
-        ((While c t rest ≡ Done) × (before ≡ true)) ⊎ Before (While c t rest)
-    by (inl p) = absurd (let no : false ≡ true = p.1 in cc)
-    by (inr s) = inr (record { body = While c t s.body; is = ap (While c t) s.is })
+last_return_of before (ExpressionStatement e rest) h =
+    behind before _ rest (ExpressionStatement e) refl (λ x y. refl) (last_return_of false rest h)
+last_return_of before (IfStatement c t rest) h =
+    behind before _ rest (IfStatement c t) refl (λ x y. refl) (last_return_of false rest h)
+last_return_of before (IfElseStatement c t u rest) h =
+    behind before _ rest (IfElseStatement c t u) refl (λ x y. refl) (last_return_of false rest h)
+last_return_of before (While c t rest) h =
+    behind before _ rest (While c t) refl (λ x y. refl) (last_return_of false rest h)
 last_return_of before (Return e rest) h = by (last_return_of (is_number 0 (origin_of e)) rest h)
   where
     by : ((rest ≡ Done) × (is_number 0 (origin_of e) ≡ true)) ⊎ Before rest →
@@ -333,7 +313,8 @@ before_last b h = by (last_return_of false b h)
     by (inl p) = absurd (let no : false ≡ true = p.1 in cc)
     by (inr s) = s
 
-names_front : (b s : Body) → InBody 64 64 64 (join b s) → InBody 64 64 64 b
+names_front : (b s : Body) → InBody most_names most_names most_names (join b s) →
+    InBody most_names most_names most_names b
 names_front Done s h = tt
 names_front (ExpressionStatement e rest) s h = (h.0, names_front rest s h.1)
 names_front (IfStatement c t rest) s h = (h.0, h.1, names_front rest s h.2)
@@ -442,13 +423,7 @@ nothing_makes : (a : Action) (q : Opened) (acts : List Action) (ds : List Defini
     definitions_actions ds ++ [] ≡ acts → AreReportable ds → follow a [] ≡ Some q → Makes (acts ++ a ∷ []) q
 nothing_makes (BeginFunction n k) q acts ds e reported is = begun n k q acts ds e reported is
 nothing_makes (EndFunction v) q acts ds e reported is = absurd (cc)
-nothing_makes (PushConstant x) q acts ds e reported is = absurd (nothing_then (PushConstant x) q tt is)
-nothing_makes (FetchVariable v) q acts ds e reported is = absurd (nothing_then (FetchVariable v) q tt is)
-nothing_makes (StoreVariable v o) q acts ds e reported is = absurd (nothing_then (StoreVariable v o) q tt is)
-nothing_makes (ApplyBinop o) q acts ds e reported is = absurd (nothing_then (ApplyBinop o) q tt is)
-nothing_makes (LogicMiddle o) q acts ds e reported is = absurd (nothing_then (LogicMiddle o) q tt is)
-nothing_makes (EndCall f) q acts ds e reported is = absurd (nothing_then (EndCall f) q tt is)
-nothing_makes a q acts ds e reported is = absurd (cc)
+nothing_makes a q acts ds e reported is = absurd (nothing_then a q tt is)
 
 hole_makes : (a : Action) (h : Hole) (q : Opened) (acts : List Action) (ds : List Definition) →
     definitions_actions ds ++ hole_actions h ≡ acts → AreReportable ds → HoleFits h → hole_count h ≤ 200 →
@@ -457,36 +432,8 @@ hole_makes (BeginFunction n k) h q acts ds e reported fits least is small = absu
 hole_makes (EndFunction v) (Statement (InFun n k b)) q acts ds e reported fits least is small =
     finished n k v b q acts ds e reported fits is
 hole_makes (EndFunction v) h q acts ds e reported fits least is small = absurd (cc)
-hole_makes (PushConstant x) h q acts ds e reported fits least is small =
-    within_makes (PushConstant x) h q acts ds e reported small (step (PushConstant x) h q fits least is small tt)
-hole_makes (FetchVariable v) h q acts ds e reported fits least is small =
-    within_makes (FetchVariable v) h q acts ds e reported small (step (FetchVariable v) h q fits least is small tt)
-hole_makes (StoreVariable v o) h q acts ds e reported fits least is small =
-    within_makes (StoreVariable v o) h q acts ds e reported small (step (StoreVariable v o) h q fits least is small tt)
-hole_makes (ApplyBinop o) h q acts ds e reported fits least is small =
-    within_makes (ApplyBinop o) h q acts ds e reported small (step (ApplyBinop o) h q fits least is small tt)
-hole_makes (LogicMiddle o) h q acts ds e reported fits least is small =
-    within_makes (LogicMiddle o) h q acts ds e reported small (step (LogicMiddle o) h q fits least is small tt)
-hole_makes BeginCall h q acts ds e reported fits least is small =
-    within_makes BeginCall h q acts ds e reported small (step BeginCall h q fits least is small tt)
-hole_makes (EndCall f) h q acts ds e reported fits least is small =
-    within_makes (EndCall f) h q acts ds e reported small (step (EndCall f) h q fits least is small tt)
-hole_makes IfTest h q acts ds e reported fits least is small =
-    within_makes IfTest h q acts ds e reported small (step IfTest h q fits least is small tt)
-hole_makes ElsePart h q acts ds e reported fits least is small =
-    within_makes ElsePart h q acts ds e reported small (step ElsePart h q fits least is small tt)
-hole_makes EndIf h q acts ds e reported fits least is small =
-    within_makes EndIf h q acts ds e reported small (step EndIf h q fits least is small tt)
-hole_makes BeginWhile h q acts ds e reported fits least is small =
-    within_makes BeginWhile h q acts ds e reported small (step BeginWhile h q fits least is small tt)
-hole_makes WhileTest h q acts ds e reported fits least is small =
-    within_makes WhileTest h q acts ds e reported small (step WhileTest h q fits least is small tt)
-hole_makes EndWhile h q acts ds e reported fits least is small =
-    within_makes EndWhile h q acts ds e reported small (step EndWhile h q fits least is small tt)
-hole_makes GiveBack h q acts ds e reported fits least is small =
-    within_makes GiveBack h q acts ds e reported small (step GiveBack h q fits least is small tt)
-hole_makes Chop h q acts ds e reported fits least is small =
-    within_makes Chop h q acts ds e reported small (step Chop h q fits least is small tt)
+hole_makes a h q acts ds e reported fits least is small =
+    within_makes a h q acts ds e reported small (step a h q fits least is small tt)
 
 one_makes : (a : Action) (acts : List Action) (o q : Opened) → Makes acts o → follow a o ≡ Some q → open_count q ≤ 200 →
     Makes (acts ++ a ∷ []) q

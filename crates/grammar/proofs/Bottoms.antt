@@ -1,6 +1,6 @@
 -- The end is the last item of a derivation: if no tokens are left, nothing is left to derive.
 use Rattle.std.proofs.Common.{◌≡◌, ℕ, zero, suc, ◌+◌, ◌<◌, List, [], ◌∷◌, ◌++◌, refl, subst, sym, Bool, true, false, arith, length, drop, append-nil}
-use Rattle.std.specs.Prelude.{Option, Some, None, nat_lt, unwrap_or, if◌then◌else◌}
+use Rattle.std.specs.Prelude.{Option, Some, None, nat_lt, if◌then◌else◌}
 use Rattle.tokens.specs.Tokens.{is_last}
 use Rattle.tokens.specs.declared.located_tokens.LocatedToken.{LocatedToken}
 use Rattle.tokens.specs.declared.located_tokens.Punctuator.{Punctuator}
@@ -11,14 +11,15 @@ use Rattle.tokens.specs.declared.located_tokens.Keyword.{Keyword}
 use Rattle.tokens.specs.declared.located_tokens.Keyword.TheVariants as keyword
 use Rattle.arith.specs.declared.operators.Op.{Op}
 use Rattle.grammar.specs.declared.operators.StoreOp.{StoreOp}
-use Rattle.grammar.specs.Derivation.{State, PartialTree, Definition, initial_state, step, stack_step, stepped, derived, next_token, name_of_token, constant_value, matched, name_matched, replaced, constant_matched}
+use Rattle.grammar.specs.Derivation.{State, PartialTree, Definition, initial_state, stack_step, stepped, derived, next_token, token_after_next, name_of_token, constant_value}
 use Rattle.grammar.specs.Laws.StateParts.{state}
 use Rattle.grammar.specs.Faults.{Fault, faults_at}
-use Rattle.grammar.specs.Grammar.{Symbol, Source, Types, Head, More, Parameters, ParameterTypes, FunctionBlock, Block, Declarations, Statements, Statement, ElsePart, Back, Expression, Level, Tail, Unary, Primary, Arguments, MoreArguments, Role, Item, Exactly, AKeyword, AName, AConstant, AnEnd, Part, Make, Close, Production, choice, assignment_or, tail_production, is_lexical_error, is_punctuator, is_keyword}
+use Rattle.grammar.specs.Grammar.{Symbol, Source, Head, Expression, Level, Tail, Unary, Primary, Item, Exactly, AKeyword, AName, AConstant, AnEnd, Part, Make, Close, Production, choice, assignment_or, tail_production, is_punctuator, is_keyword}
 use Rattle.grammar.specs.Operators.{operator_at, store_of}
 use Rattle.grammar.specs.Laws.Parsing.{IsIn}
 use Rattle.grammar.specs.Profile.{Profile}
 use Rattle.grammar.specs.Scope.{Scope}
+use Rattle.grammar.proofs.AfterSteps.{IfStepped, if_matched, if_named, if_constant, if_replaced, after_step}
 use Rattle.grammar.proofs.LastTokens.{EndsWithLast}
 
 -- the end, and what leads to it
@@ -66,8 +67,6 @@ expression_fits next after = refl
 
 primary_fits : (next after : Token) → fits false (choice Primary next after) ≡ true
 primary_fits (token.Name name) (token.Punctuator punctuator.OpenRound) = refl
-primary_fits (token.Name name) (token.Punctuator punctuator.PlusPlus) = refl
-primary_fits (token.Name name) (token.Punctuator punctuator.MinusMinus) = refl
 primary_fits (token.Punctuator punctuator.OpenRound) after = refl
 primary_fits next after = refl
 
@@ -76,52 +75,15 @@ head_fits (token.Name name) (token.Punctuator punctuator.OpenRound) = refl
 head_fits next after = refl
 
 choice_fits : (symbol : Symbol) (next after : Token) → fits (is_bottom (Part symbol)) (choice symbol next after) ≡ true
-choice_fits Source token.End after = refl
-choice_fits Source (token.Keyword keyword.Type) after = refl
-choice_fits Source (token.Name name) after = refl
-choice_fits Source next after = refl
-choice_fits Types (token.Keyword keyword.Type) after = refl
-choice_fits Types next after = refl
 choice_fits Head next after = head_fits next after
-choice_fits (More role) (token.Punctuator punctuator.Comma) after = refl
-choice_fits (More role) next after = refl
-choice_fits Parameters (token.Name name) after = refl
-choice_fits Parameters next after = refl
-choice_fits ParameterTypes (token.Keyword keyword.Type) after = refl
-choice_fits ParameterTypes next after = refl
-choice_fits FunctionBlock (token.Punctuator punctuator.OpenCurly) after = refl
-choice_fits FunctionBlock next after = refl
-choice_fits Block (token.Punctuator punctuator.OpenCurly) after = refl
-choice_fits Block next after = refl
-choice_fits Declarations (token.Keyword keyword.Type) after = refl
-choice_fits Declarations next after = refl
-choice_fits Statements (token.Punctuator punctuator.CloseCurly) after = refl
-choice_fits Statements next after = refl
-choice_fits Statement (token.Punctuator punctuator.Semicolon) after = refl
-choice_fits Statement (token.Punctuator punctuator.OpenCurly) after = refl
-choice_fits Statement (token.Keyword keyword.If) after = refl
-choice_fits Statement (token.Keyword keyword.While) after = refl
-choice_fits Statement (token.Keyword keyword.Return) after = refl
-choice_fits Statement next after = refl
-choice_fits ElsePart (token.Keyword keyword.Else) after = refl
-choice_fits ElsePart next after = refl
-choice_fits Back (token.Punctuator punctuator.Semicolon) after = refl
-choice_fits Back next after = refl
 choice_fits Expression next after = expression_fits next after
 choice_fits (Level n) next after = level_fits n (nat_lt n 11)
 choice_fits (Tail n) (token.Punctuator m) after = tail_fits n (operator_at n (token.Punctuator m)) m
 choice_fits (Tail n) next after = refl
-choice_fits Unary (token.Punctuator punctuator.Minus) after = refl
-choice_fits Unary (token.Punctuator punctuator.Not) after = refl
-choice_fits Unary (token.Punctuator punctuator.Tilde) after = refl
-choice_fits Unary (token.Punctuator punctuator.PlusPlus) after = refl
-choice_fits Unary (token.Punctuator punctuator.MinusMinus) after = refl
-choice_fits Unary next after = refl
 choice_fits Primary next after = primary_fits next after
-choice_fits Arguments (token.Punctuator punctuator.CloseRound) after = refl
-choice_fits Arguments next after = refl
-choice_fits MoreArguments (token.Punctuator punctuator.Comma) after = refl
-choice_fits MoreArguments next after = refl
+choice_fits symbol (token.Punctuator punctuator.Plus) after = refl
+choice_fits symbol (token.Keyword keyword.Type) after = refl
+choice_fits symbol next after = refl
 
 no_true : false ≡ true → ⊥
 no_true e = cc
@@ -152,41 +114,28 @@ record IsGrounded (stack : List Item) (rest : List LocatedToken) : Type 0 where
   bottom : at_bottom stack ≡ true
   left : Left stack rest
 
-abbrev Leads : Option State → Type 0
-Leads None = Unit {0}
-Leads (Some t) = IsGrounded t.stack t.rest
+abbrev Grounded : State → Type 0
+Grounded s = IsGrounded s.stack s.rest
 
 punctuator_is_not_last : (m : Punctuator) (t : Token) → is_punctuator m t ≡ true → is_last t ≡ false
-punctuator_is_not_last m (token.Punctuator n) h = refl
-punctuator_is_not_last m (token.Name name) h = refl
-punctuator_is_not_last m (token.Keyword w) h = refl
-punctuator_is_not_last m (token.Constant value) h = refl
 punctuator_is_not_last m token.End h = absurd cc
 punctuator_is_not_last m (token.Fault lexical_error) h = absurd cc
+punctuator_is_not_last m t h = refl
 
 word_is_not_last : (w : Keyword) (t : Token) → is_keyword w t ≡ true → is_last t ≡ false
-word_is_not_last w (token.Punctuator n) h = refl
-word_is_not_last w (token.Name name) h = refl
-word_is_not_last w (token.Keyword v) h = refl
-word_is_not_last w (token.Constant value) h = refl
 word_is_not_last w token.End h = absurd cc
 word_is_not_last w (token.Fault lexical_error) h = absurd cc
+word_is_not_last w t h = refl
 
 name_is_not_last : (t : Token) (name : List ℕ) → name_of_token t ≡ Some name → is_last t ≡ false
-name_is_not_last (token.Punctuator n) name h = refl
-name_is_not_last (token.Name n) name h = refl
-name_is_not_last (token.Keyword w) name h = refl
-name_is_not_last (token.Constant value) name h = refl
 name_is_not_last token.End name h = absurd cc
 name_is_not_last (token.Fault lexical_error) name h = absurd cc
+name_is_not_last t name h = refl
 
 constant_is_not_last : (t : Token) (value : ℕ) → constant_value t ≡ Some value → is_last t ≡ false
-constant_is_not_last (token.Punctuator n) value h = refl
-constant_is_not_last (token.Name n) value h = refl
-constant_is_not_last (token.Keyword w) value h = refl
-constant_is_not_last (token.Constant v) value h = refl
 constant_is_not_last token.End value h = absurd cc
 constant_is_not_last (token.Fault lexical_error) value h = absurd cc
+constant_is_not_last t value h = refl
 
 -- after a token that isn't the last there is another
 left_behind : (item : Item) (stack : List Item) (rest : List LocatedToken) → is_last (next_token rest) ≡ false →
@@ -200,37 +149,14 @@ left_at_end [] item h = refl
 left_at_end (located_token ∷ []) item h = refl
 left_at_end (located_token ∷ next ∷ rest) item h = h
 
-matched_leads : (b : Bool) (item : Item) (stack : List Item) (rest : List LocatedToken) (values : List PartialTree)
-    (scope : Scope) (functions : List Definition) →
-    at_bottom stack ≡ true → (b ≡ true → is_last (next_token rest) ≡ false) → Left (item ∷ stack) rest →
-    Leads (matched b (state stack rest values scope functions))
-matched_leads true item stack rest values scope functions bottom other h =
-    record { bottom = bottom; left = left_behind item stack rest (other refl) h }
-matched_leads false item stack rest values scope functions bottom other h = tt
+token_leads : (item : Item) (stack : List Item) (rest : List LocatedToken) → at_bottom stack ≡ true →
+    Left (item ∷ stack) rest → is_last (next_token rest) ≡ false → IsGrounded stack (drop 1 rest)
+token_leads item stack rest bottom h other = record { bottom = bottom; left = left_behind item stack rest other h }
 
-name_leads : (role : Role) (name : Option (List ℕ)) (item : Item) (stack : List Item) (rest : List LocatedToken)
-    (values : List PartialTree) (scope : Scope) (functions : List Definition) →
-    at_bottom stack ≡ true → ((n : List ℕ) → name ≡ Some n → is_last (next_token rest) ≡ false) →
-    Left (item ∷ stack) rest → Leads (name_matched role name (state stack rest values scope functions))
-name_leads role (Some name) item stack rest values scope functions bottom other h =
-    record { bottom = bottom; left = left_behind item stack rest (other name refl) h }
-name_leads role None item stack rest values scope functions bottom other h = tt
-
-constant_leads : (value : Option ℕ) (item : Item) (stack : List Item) (rest : List LocatedToken)
-    (values : List PartialTree)
-    (scope : Scope) (functions : List Definition) →
-    at_bottom stack ≡ true → ((n : ℕ) → value ≡ Some n → is_last (next_token rest) ≡ false) → Left (item ∷ stack) rest →
-    Leads (constant_matched value (state stack rest values scope functions))
-constant_leads (Some value) item stack rest values scope functions bottom other h =
-    record { bottom = bottom; left = left_behind item stack rest (other value refl) h }
-constant_leads None item stack rest values scope functions bottom other h = tt
-
-end_leads : (b : Bool) (stack : List Item) (rest : List LocatedToken) (values : List PartialTree) (scope : Scope)
-    (functions : List Definition) →
-    is_nothing stack ≡ true → Left (AnEnd ∷ stack) rest → Leads (matched b (state stack rest values scope functions))
-end_leads true [] rest values scope functions bottom h = record { bottom = refl; left = left_at_end rest AnEnd h }
-end_leads true (item ∷ stack) rest values scope functions bottom h = absurd cc
-end_leads false stack rest values scope functions bottom h = tt
+end_leads : (stack : List Item) (rest : List LocatedToken) → is_nothing stack ≡ true → Left (AnEnd ∷ stack) rest →
+    IsGrounded stack (drop 1 rest)
+end_leads [] rest bottom h = record { bottom = refl; left = left_at_end rest AnEnd h }
+end_leads (item ∷ stack) rest bottom h = absurd cc
 
 -- if an item is left to derive, tokens are left, whatever the items are
 left_same : (item : Item) (stack items : List Item) (rest : List LocatedToken) → Left (item ∷ stack) rest →
@@ -238,54 +164,37 @@ left_same : (item : Item) (stack items : List Item) (rest : List LocatedToken) �
 left_same item stack items [] h = absurd cc
 left_same item stack items (located_token ∷ rest) h = h
 
-replaced_leads : (symbol : Symbol) (items : Production) (stack : List Item) (rest : List LocatedToken)
-    (values : List PartialTree) (scope : Scope) (functions : List Definition) →
-    fits (is_bottom (Part symbol)) items ≡ true → IsGrounded (Part symbol ∷ stack) rest →
-    Leads (replaced items (state stack rest values scope functions))
-replaced_leads symbol (Some items) stack rest values scope functions fit h = record {
-  bottom = items_above (is_bottom (Part symbol)) items stack fit h.bottom;
-  left = left_same (Part symbol) stack (items ++ stack) rest h.left;
-}
-replaced_leads symbol None stack rest values scope functions fit h = tt
+step_leads : (stack : List Item) (s : State) → IsGrounded stack s.rest → IfStepped Grounded (stack_step stack s)
+step_leads [] s h = tt
+step_leads (Exactly m ∷ stack) s h =
+    if_matched Grounded _ stack s
+    (λ e. token_leads (Exactly m) stack s.rest h.bottom h.left (punctuator_is_not_last m (next_token s.rest) e))
+step_leads (AKeyword w ∷ stack) s h =
+    if_matched Grounded _ stack s
+    (λ e. token_leads (AKeyword w) stack s.rest h.bottom h.left (word_is_not_last w (next_token s.rest) e))
+step_leads (AName role ∷ stack) s h =
+    if_named Grounded role _ stack s
+    (λ n e. token_leads (AName role) stack s.rest h.bottom h.left (name_is_not_last (next_token s.rest) n e))
+step_leads (AConstant ∷ stack) s h =
+    if_constant Grounded _ stack s
+    (λ n e. token_leads AConstant stack s.rest h.bottom h.left (constant_is_not_last (next_token s.rest) n e))
+step_leads (AnEnd ∷ stack) s h = if_matched Grounded _ stack s (λ e. end_leads stack s.rest h.bottom h.left)
+step_leads (Part symbol ∷ stack) s h =
+    if_replaced Grounded _ stack s
+    (λ items e. record {
+      bottom = items_above (is_bottom (Part symbol)) items stack
+          (subst (λ (p : Production). fits (is_bottom (Part symbol)) p ≡ true) e
+          (choice_fits symbol (next_token s.rest) (token_after_next s.rest)))
+          h.bottom;
+      left = left_same (Part symbol) stack (items ++ stack) s.rest h.left;
+    })
+step_leads (Make rule ∷ stack) s h =
+    record { bottom = h.bottom; left = left_same (Make rule) stack stack s.rest h.left }
+step_leads (Close ∷ stack) s h = record { bottom = h.bottom; left = left_same Close stack stack s.rest h.left }
 
-step_leads : (stack : List Item) (rest : List LocatedToken) (values : List PartialTree) (scope : Scope)
-    (functions : List Definition) → IsGrounded stack rest →
-    Leads (stack_step stack (state stack rest values scope functions))
-step_leads [] rest values scope functions h = tt
-step_leads (Exactly m ∷ stack) rest values scope functions h =
-    matched_leads _ (Exactly m) stack rest values scope functions h.bottom (punctuator_is_not_last m (next_token rest))
-    h.left
-step_leads (AKeyword w ∷ stack) rest values scope functions h =
-    matched_leads _ (AKeyword w) stack rest values scope functions h.bottom (word_is_not_last w (next_token rest))
-    h.left
-step_leads (AName role ∷ stack) rest values scope functions h =
-    name_leads role _ (AName role) stack rest values scope functions h.bottom (name_is_not_last (next_token rest))
-    h.left
-step_leads (AConstant ∷ stack) rest values scope functions h =
-    constant_leads _ AConstant stack rest values scope functions h.bottom (constant_is_not_last (next_token rest))
-    h.left
-step_leads (AnEnd ∷ stack) rest values scope functions h = end_leads _ stack rest values scope functions h.bottom h.left
-step_leads (Part symbol ∷ stack) rest values scope functions h =
-    replaced_leads symbol _ stack rest values scope functions (choice_fits symbol (next_token rest) _) h
-step_leads (Make rule ∷ stack) rest values scope functions h =
-    record { bottom = h.bottom; left = left_same (Make rule) stack stack rest h.left }
-step_leads (Close ∷ stack) rest values scope functions h =
-    record { bottom = h.bottom; left = left_same Close stack stack rest h.left }
-
-guarded_leads : (b : Bool) (o : Option State) → Leads o → Leads (if b then None else o)
-guarded_leads true o h = tt
-guarded_leads false o h = h
-
-kept_grounded : (s : State) (o : Option State) → IsGrounded s.stack s.rest → Leads o →
-    IsGrounded (unwrap_or o s).stack (unwrap_or o s).rest
-kept_grounded s None h k = h
-kept_grounded s (Some t) h k = k
-
-run_grounded : (n : ℕ) (s : State) → IsGrounded s.stack s.rest → IsGrounded (derived n s).stack (derived n s).rest
+run_grounded : (n : ℕ) (s : State) → Grounded s → Grounded (derived n s)
 run_grounded zero s h = h
-run_grounded (suc n) s h = run_grounded n (stepped s)
-    (kept_grounded s (step s) h
-    (guarded_leads (is_lexical_error (next_token s.rest)) _ (step_leads s.stack s.rest s.values s.scope s.functions h)))
+run_grounded (suc n) s h = run_grounded n (stepped s) (after_step Grounded s (step_leads s.stack s h) h)
 
 start_left : (located_tokens : List LocatedToken) → EndsWithLast located_tokens → Left (Part Source ∷ []) located_tokens
 start_left [] h = absurd h

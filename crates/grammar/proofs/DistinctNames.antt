@@ -4,17 +4,19 @@ use Rattle.std.proofs.lemmas.Bool.{false≢true}
 use Rattle.std.proofs.lemmas.Bool.Decides.{nat_tests}
 use Rattle.std.proofs.lemmas.List.{map-append}
 use Rattle.std.specs.Cmp.Lexicographic.{bytes_decides}
-use Rattle.std.specs.Prelude.{Option, Some, None, if◌then◌else◌, map, nat_lt, is_none, slice_get, set}
+use Rattle.std.specs.Prelude.{Option, Some, None, if◌then◌else◌, map, nat_lt, is_none, slice_get, set, ◌==◌}
 use Rattle.std.specs.List.{position_or_len}
 use Rattle.std.specs.Option.{option_map, option_or}
 use Rattle.std.specs.Str.{bytes_eq}
 use Rattle.grammar.specs.declared.resolved_names.Var.TheVariants as var
+use Rattle.grammar.specs.Compiled.{defined_as}
 use Rattle.grammar.specs.Derivation.{Definition}
+use Rattle.grammar.specs.Tree.{Function}
 use Rattle.grammar.specs.Intrinsics.{is_intrinsic}
 use Rattle.grammar.specs.Pools.{FunctionNames}
 use Rattle.grammar.specs.Resolved.{IsAmong, AreDistinct}
 use Rattle.grammar.specs.Scope.{Scope, number_of_name, function_number, is_variable_new, is_local_new, is_external_new, is_function_new, only_named}
-use Rattle.grammar.proofs.Indices.{get_append}
+use Rattle.grammar.proofs.Indices.{get_append, some_same}
 
 -- What is there once.
 
@@ -147,23 +149,41 @@ pub names_kept : (functions : List FunctionNames) (number : ℕ) (f : FunctionNa
     slice_get (names functions) number ≡ Some f.name
     → names (set functions number f) ≡ names functions
 names_kept [] number f is = refl
-names_kept (g ∷ functions) zero f is = ap (λ (n : List ℕ). n ∷ names functions) (sym (some_name g.name f.name is))
-  where
-    some_name : (a b : List ℕ) → Some a ≡ Some b → a ≡ b
-    some_name a b e = cc
+names_kept (g ∷ functions) zero f is = ap (λ (n : List ℕ). n ∷ names functions) (sym (some_same g.name f.name is))
 names_kept (g ∷ functions) (suc number) f is = ap (λ (l : List (List ℕ)). g.name ∷ l) (names_kept functions number f is)
 
--- each function that was defined has its name at its number
+-- what each function that was defined has is at its number
+abbrev pub AreAt : {A : Type 0} → (Function → A) → List A → List Definition → Type 0
+AreAt part all [] = Unit {0}
+AreAt part all (d ∷ ds) = (slice_get all d.number ≡ Some (part d.function)) × AreAt part all ds
+
+pub at_wider : {A : Type 0} (part : Function → A) (all more : List A) (ds : List Definition) → AreAt part all ds →
+    AreAt part (all ++ more) ds
+at_wider part all more [] h = tt
+at_wider part all more (d ∷ ds) h =
+    (get_append all more d.number (part d.function) h.0, at_wider part all more ds h.1)
+
+pub at_append : {A : Type 0} (part : Function → A) (all : List A) (ds : List Definition) (d : Definition) →
+    AreAt part all ds → slice_get all d.number ≡ Some (part d.function) → AreAt part all (ds ++ d ∷ [])
+at_append part all [] d h e = (e, tt)
+at_append part all (x ∷ ds) d h e = (h.0, at_append part all ds d h.1 e)
+
+-- what the function of a number has
+pub part_at : {A : Type 0} (part : Function → A) (all : List A) (k : ℕ) (f : Function) (ds : List Definition) →
+    AreAt part all ds → defined_as k ds ≡ Some f → slice_get all k ≡ Some (part f)
+part_at part all k f [] h is = absurd (cc)
+part_at part all k f (d ∷ ds) h is = at_test (λ g. part_at part all k f ds h.1 g) (d.number == k) refl is
+  where
+    same_number : (m n : ℕ) → (m == n) ≡ true → m ≡ n
+    same_number m n e = grind (arith, nat_tests)
+
+    at_test : (defined_as k ds ≡ Some f → slice_get all k ≡ Some (part f)) → (b : Bool) → (d.number == k) ≡ b →
+        (if b then Some d.function else defined_as k ds) ≡ Some f → slice_get all k ≡ Some (part f)
+    at_test again true e g =
+        ap (slice_get all) (sym (same_number d.number k e)) ∙ h.0 ∙
+        ap (λ (x : Function). Some (part x)) (some_same d.function f g)
+    at_test again false e g = again g
+
+-- its name
 abbrev pub HaveNames : List (List ℕ) → List Definition → Type 0
-HaveNames all [] = Unit {0}
-HaveNames all (d ∷ ds) = (slice_get all d.number ≡ Some d.function.name) × HaveNames all ds
-
-pub names_wider : (all more : List (List ℕ)) (ds : List Definition) → HaveNames all ds → HaveNames (all ++ more) ds
-names_wider all more [] h = tt
-names_wider all more (d ∷ ds) h = (get_append all more d.number d.function.name h.0, names_wider all more ds h.1)
-
-pub names_append : (all : List (List ℕ)) (ds : List Definition) (d : Definition) → HaveNames all ds →
-    slice_get all d.number ≡ Some d.function.name
-    → HaveNames all (ds ++ d ∷ [])
-names_append all [] d h e = (e, tt)
-names_append all (x ∷ ds) d h e = (h.0, names_append all ds d h.1 e)
+HaveNames all ds = AreAt (λ (f : Function). f.name) all ds

@@ -22,7 +22,8 @@ use Rattle.grammar.proofs.ResolvedLaws.{Sound, compiled_is_resolved, order_below
 use Rattle.grammar.proofs.Verdicts.{clean_verdict}
 use Rattle.grammar.specs.Laws.Finished.{PassesAll, Finished, Undefined, WithoutMain, names_in_scope}
 use Rattle.grammar.proofs.NamedFunctions.{AreNamed, sound_of_passes, named_of_passes}
-use Rattle.grammar.proofs.Indices.{map_by_index}
+use Rattle.grammar.proofs.DistinctNames.{part_at}
+use Rattle.grammar.proofs.Indices.{map_by_index, some_same}
 
 -- Functions by number.
 
@@ -83,9 +84,6 @@ one_is_not number [] ds line e = absurd (cc)
 one_is_not number (first ∷ lines) ds line e =
     by_number (λ h. one_is_not (number + 1) lines ds line h) (defined_as number ds) (rw (any_defined number ds) at e)
   where
-    some_same : (a b : ℕ) → Some a ≡ Some b → a ≡ b
-    some_same a b h = cc
-
     by_number :
         (line_of_undefined (number + 1) lines (order_of ds) ≡ Some line → all_defined (number + 1) lines ds ≡ Err line)
         → (o : Option Function) →
@@ -133,22 +131,7 @@ actions_there functions (d ∷ ds) h =
 
 pub named_at : (functions : List FunctionNames) (k : ℕ) (f : Function) (ds : List Definition) → AreNamed functions ds →
     defined_as k ds ≡ Some f → slice_get functions k ≡ Some (names_of_function f)
-named_at functions k f [] h is = absurd (cc)
-named_at functions k f (d ∷ ds) h is = at_test (λ g. named_at functions k f ds h.1 g) (d.number == k) refl is
-  where
-    equal : (m n : ℕ) → (m == n) ≡ true → m ≡ n
-    equal m n e = grind (arith, nat_tests)
-
-    some_same : (a b : Function) → Some a ≡ Some b → a ≡ b
-    some_same a b e = cc
-
-    at_test : (defined_as k ds ≡ Some f → slice_get functions k ≡ Some (names_of_function f)) → (b : Bool) →
-        (d.number == k) ≡ b →
-        (if b then Some d.function else defined_as k ds) ≡ Some f → slice_get functions k ≡ Some (names_of_function f)
-    at_test again true e g =
-        ap (slice_get functions) (sym (equal d.number k e)) ∙ h.0 ∙
-        ap (λ x. Some (names_of_function x)) (some_same d.function f g)
-    at_test again false e g = again g
+named_at functions k f ds h is = part_at names_of_function functions k f ds h is
 
 -- The end of a derivation.
 

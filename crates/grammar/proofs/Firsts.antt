@@ -97,16 +97,65 @@ pub no_name : (profile : Profile) (role : Role) (stack : List Item) (rest : List
 no_name profile role stack rest values scope functions sound none =
     fails_stuck profile _ rest _ (rw (sound, none) refl) (rw (sound, none) refl)
 
+-- What holds of a fault at these tokens, whatever it is, holds of each fault that may be there.
+
+only_if_each : (P : Fault → Type 0) (g : Fault) (b : Bool) (faults : List Fault) → (IsIn g faults → P g) →
+    IsIn g (only_if b faults) → P g
+only_if_each P g true faults each h = each h
+only_if_each P g false faults each h = absurd h
+
+single_each : (P : Fault → Type 0) (g f : Fault) → P f → IsIn g (f ∷ []) → P g
+single_each P g f each (inl p) = subst P p each
+single_each P g f each (inr h) = absurd h
+
+guarded_each : (P : Fault → Type 0) (g : Fault) (b : Bool) (xs ys : List Fault) → (IsIn g xs → P g) →
+    (IsIn g ys → P g) → IsIn g (if b then xs else ys) → P g
+guarded_each P g true xs ys p q h = p h
+guarded_each P g false xs ys p q h = q h
+
+no_room_each : (P : Fault → Type 0) (g : Fault) (new : Bool) (count : ℕ) (c : Code) (rest : List LocatedToken) →
+    P (fault rest c) → IsIn g (no_room new count c rest) → P g
+no_room_each P g new count c rest each =
+    only_if_each P g new (only_if (nat_le most_names count) (fault rest c ∷ []))
+    (only_if_each P g (nat_le most_names count) (fault rest c ∷ []) (single_each P g (fault rest c) each))
+
+-- of a role's, which have greater codes than that of nesting
+role_each : (P : Fault → Type 0) (g : Fault) (role : Role) (name : List ℕ) (scope : Scope) (rest : List LocatedToken) →
+    ((c : Code) → 9 ≤ fault_code_number c → P (fault rest c)) → IsIn g (role_faults role name scope rest) → P g
+role_each P g Defined name scope rest each =
+    guarded_each P g (is_intrinsic name) (fault rest fault_code.IntrinsicRedefined ∷ []) _
+    (single_each P g _ (each fault_code.IntrinsicRedefined (omega arith)))
+    (guarded_each P g (has_begun name scope) (fault rest fault_code.FunctionDefinedTwice ∷ [])
+    (no_room (is_function_new name scope) (length scope.functions) fault_code.TooManyFunctions rest)
+    (single_each P g _ (each fault_code.FunctionDefinedTwice (omega arith)))
+    (no_room_each P g (is_function_new name scope) (length scope.functions) fault_code.TooManyFunctions rest
+    (each fault_code.TooManyFunctions (omega arith))))
+role_each P g External name scope rest each =
+    no_room_each P g (is_external_new name scope) (length scope.externals) fault_code.TooManyVariables rest
+    (each fault_code.TooManyVariables (omega arith))
+role_each P g Parameter name scope rest each =
+    guarded_each P g (is_local_new name scope)
+    (no_room true (length scope.current.variables) fault_code.TooManyVariables rest) _
+    (no_room_each P g true (length scope.current.variables) fault_code.TooManyVariables rest
+    (each fault_code.TooManyVariables (omega arith)))
+    (single_each P g _ (each fault_code.BadParameterDeclaration (omega arith)))
+role_each P g Typed name scope rest each =
+    only_if_each P g (is_local_new name scope) (fault rest fault_code.BadParameterDeclaration ∷ [])
+    (single_each P g _ (each fault_code.BadParameterDeclaration (omega arith)))
+role_each P g Local name scope rest each =
+    no_room_each P g (is_local_new name scope) (length scope.current.variables) fault_code.TooManyVariables rest
+    (each fault_code.TooManyVariables (omega arith))
+role_each P g Called name scope rest each =
+    no_room_each P g (is_function_new name scope) (length scope.functions) fault_code.TooManyFunctions rest
+    (each fault_code.TooManyFunctions (omega arith))
+role_each P g Mentioned name scope rest each =
+    no_room_each P g (is_variable_new name scope) (length scope.current.variables) fault_code.TooManyVariables rest
+    (each fault_code.TooManyVariables (omega arith))
+
 -- A fault is at the next token.
 
-only_if_rest : (g : Fault) (b : Bool) (faults : List Fault) (rest : List LocatedToken) →
-    ((IsIn g faults) → g.rest ≡ rest) → IsIn g (only_if b faults) → g.rest ≡ rest
-only_if_rest g true faults rest each h = each h
-only_if_rest g false faults rest each h = absurd h
-
-single_rest : (g : Fault) (rest : List LocatedToken) (c : Code) → IsIn g (fault rest c ∷ []) → g.rest ≡ rest
-single_rest g rest c (inl p) = sym (ap (λ (f : Fault). f.rest) p)
-single_rest g rest c (inr h) = absurd h
+abbrev IsAt : List LocatedToken → Fault → Type 0
+IsAt rest g = g.rest ≡ rest
 
 appended_rest : (g : Fault) (xs ys : List Fault) (rest : List LocatedToken) → (IsIn g xs → g.rest ≡ rest) →
     (IsIn g ys → g.rest ≡ rest) → IsIn g (xs ++ ys) → g.rest ≡ rest
@@ -114,51 +163,10 @@ appended_rest g [] ys rest p q h = q h
 appended_rest g (x ∷ xs) ys rest p q (inl e) = p (inl e)
 appended_rest g (x ∷ xs) ys rest p q (inr h) = appended_rest g xs ys rest (λ k. p (inr k)) q h
 
-guarded_rest : (g : Fault) (b : Bool) (xs ys : List Fault) (rest : List LocatedToken) → (IsIn g xs → g.rest ≡ rest) →
-    (IsIn g ys → g.rest ≡ rest) →
-    IsIn g (if b then xs else ys) → g.rest ≡ rest
-guarded_rest g true xs ys rest p q h = p h
-guarded_rest g false xs ys rest p q h = q h
-
-no_room_rest : (g : Fault) (new : Bool) (count : ℕ) (c : Code) (rest : List LocatedToken) →
-    IsIn g (no_room new count c rest) → g.rest ≡ rest
-no_room_rest g new count c rest h =
-    only_if_rest g new (only_if (nat_le most_names count) (fault rest c ∷ [])) rest
-    (only_if_rest g (nat_le most_names count) (fault rest c ∷ []) rest (single_rest g rest c)) h
-
-role_rest : (g : Fault) (role : Role) (name : List ℕ) (scope : Scope) (rest : List LocatedToken) →
-    IsIn g (role_faults role name scope rest) → g.rest ≡ rest
-role_rest g Defined name scope rest h =
-    guarded_rest g (is_intrinsic name) (fault rest fault_code.IntrinsicRedefined ∷ [])
-    (if has_begun name scope then fault rest fault_code.FunctionDefinedTwice ∷
-    [] else no_room (is_function_new name scope) (length scope.functions) fault_code.TooManyFunctions rest) rest
-    (single_rest g rest fault_code.IntrinsicRedefined)
-    (guarded_rest g (has_begun name scope) (fault rest fault_code.FunctionDefinedTwice ∷ [])
-    (no_room (is_function_new name scope) (length scope.functions) fault_code.TooManyFunctions rest) rest
-    (single_rest g rest fault_code.FunctionDefinedTwice)
-    (no_room_rest g (is_function_new name scope) (length scope.functions) fault_code.TooManyFunctions rest)) h
-role_rest g External name scope rest h =
-    no_room_rest g (is_external_new name scope) (length scope.externals) fault_code.TooManyVariables rest h
-role_rest g Parameter name scope rest h =
-    guarded_rest g (is_local_new name scope)
-    (no_room true (length scope.current.variables) fault_code.TooManyVariables rest)
-    (fault rest fault_code.BadParameterDeclaration ∷ []) rest
-    (no_room_rest g true (length scope.current.variables) fault_code.TooManyVariables rest)
-    (single_rest g rest fault_code.BadParameterDeclaration) h
-role_rest g Typed name scope rest h =
-    only_if_rest g (is_local_new name scope) (fault rest fault_code.BadParameterDeclaration ∷ []) rest
-    (single_rest g rest fault_code.BadParameterDeclaration) h
-role_rest g Local name scope rest h =
-    no_room_rest g (is_local_new name scope) (length scope.current.variables) fault_code.TooManyVariables rest h
-role_rest g Called name scope rest h =
-    no_room_rest g (is_function_new name scope) (length scope.functions) fault_code.TooManyFunctions rest h
-role_rest g Mentioned name scope rest h =
-    no_room_rest g (is_variable_new name scope) (length scope.current.variables) fault_code.TooManyVariables rest h
-
 name_rest : (g : Fault) (role : Role) (name : Option (List ℕ)) (scope : Scope) (rest : List LocatedToken) →
     IsIn g (name_faults role name scope rest) → g.rest ≡ rest
 name_rest g role None scope rest h = absurd h
-name_rest g role (Some name) scope rest h = role_rest g role name scope rest h
+name_rest g role (Some name) scope rest h = role_each (IsAt rest) g role name scope rest (λ c l. refl) h
 
 item_rest : (profile : Profile) (g : Fault) (stack : List Item) (rest : List LocatedToken) (values : List PartialTree)
     (scope : Scope) (functions : List Definition) →
@@ -171,25 +179,25 @@ item_rest profile g (AName role ∷ stack) rest values scope functions h =
 item_rest profile g (AnEnd ∷ stack) rest values scope functions h = absurd h
 item_rest profile g (AConstant ∷ stack) rest values scope functions h = absurd h
 item_rest profile g (Part symbol ∷ stack) rest values scope functions h =
-    only_if_rest g (enters symbol (next_token rest) (token_after_next rest))
-    (only_if (nat_le most_nested (nested_count stack)) (fault rest fault_code.NestedTooDeeply ∷ [])) rest
-    (only_if_rest g (nat_le most_nested (nested_count stack)) (fault rest fault_code.NestedTooDeeply ∷ []) rest
-    (single_rest g rest fault_code.NestedTooDeeply)) h
+    only_if_each (IsAt rest) g (enters symbol (next_token rest) (token_after_next rest))
+    (only_if (nat_le most_nested (nested_count stack)) (fault rest fault_code.NestedTooDeeply ∷ []))
+    (only_if_each (IsAt rest) g (nat_le most_nested (nested_count stack)) (fault rest fault_code.NestedTooDeeply ∷ [])
+    (single_each (IsAt rest) g _ refl)) h
 item_rest profile g (Make Define ∷ stack) rest values scope functions h =
-    only_if_rest g (is_too_long profile (functions ++ definition_of scope (last_body values) ∷ []))
-    (fault rest fault_code.TooMuchCode ∷ []) rest (single_rest g rest fault_code.TooMuchCode) h
+    only_if_each (IsAt rest) g (is_too_long profile (functions ++ definition_of scope (last_body values) ∷ []))
+    (fault rest fault_code.TooMuchCode ∷ []) (single_each (IsAt rest) g _ refl) h
 item_rest profile g (Make rule ∷ stack) rest values scope functions h = absurd h
 item_rest profile g (Close ∷ stack) rest values scope functions h = absurd h
 
 misfits_rest : (g : Fault) (stack : List Item) (rest : List LocatedToken) (next : Option State) →
     IsIn g (unexpected_tokens stack rest next) → g.rest ≡ rest
 misfits_rest g [] rest next h = absurd h
-misfits_rest g (item ∷ stack) rest None h = single_rest g rest _ h
+misfits_rest g (item ∷ stack) rest None h = single_each (IsAt rest) g _ refl h
 misfits_rest g (item ∷ stack) rest (Some s) h = absurd h
 
 pub at_rest : (profile : Profile) (g : Fault) (s : State) → IsIn g (faults_at profile s) → g.rest ≡ s.rest
 at_rest profile g s h =
-    guarded_rest g (is_lexical_error (next_token s.rest)) _ _ s.rest (single_rest g s.rest _)
+    guarded_each (IsAt s.rest) g (is_lexical_error (next_token s.rest)) _ _ (single_each (IsAt s.rest) g _ refl)
     (appended_rest g _ _ s.rest (item_rest profile g s.stack s.rest s.values s.scope s.functions)
     (misfits_rest g s.stack s.rest _)) h
 
@@ -318,70 +326,15 @@ too_deep_word profile symbol w items stack located_token rest values scope funct
 
 -- A fault of a role has a greater code than that of nesting.
 
-single_code : (g : Fault) (rest : List LocatedToken) (c : Code) → 9 ≤ fault_code_number c → IsIn g (fault rest c ∷ []) →
-    9 ≤ fault_code_number g.code
-single_code g rest c least (inl p) = subst (λ (f : Fault). 9 ≤ fault_code_number f.code) p least
-single_code g rest c least (inr h) = absurd h
-
-only_if_code : (g : Fault) (b : Bool) (faults : List Fault) → (IsIn g faults → 9 ≤ fault_code_number g.code) →
-    IsIn g (only_if b faults) → 9 ≤ fault_code_number g.code
-only_if_code g true faults each h = each h
-only_if_code g false faults each h = absurd h
-
-guarded_code : (g : Fault) (b : Bool) (xs ys : List Fault) → (IsIn g xs → 9 ≤ fault_code_number g.code) →
-    (IsIn g ys → 9 ≤ fault_code_number g.code) →
-    IsIn g (if b then xs else ys) → 9 ≤ fault_code_number g.code
-guarded_code g true xs ys p q h = p h
-guarded_code g false xs ys p q h = q h
-
-no_room_code : (g : Fault) (new : Bool) (count : ℕ) (c : Code) (rest : List LocatedToken) → 9 ≤ fault_code_number c →
-    IsIn g (no_room new count c rest) → 9 ≤ fault_code_number g.code
-no_room_code g new count c rest least h =
-    only_if_code g new (only_if (nat_le most_names count) (fault rest c ∷ []))
-    (only_if_code g (nat_le most_names count) (fault rest c ∷ []) (single_code g rest c least)) h
-
-role_code : (g : Fault) (role : Role) (name : List ℕ) (scope : Scope) (rest : List LocatedToken) →
-    IsIn g (role_faults role name scope rest) → 9 ≤ fault_code_number g.code
-role_code g Defined name scope rest h =
-    guarded_code g (is_intrinsic name) (fault rest fault_code.IntrinsicRedefined ∷ [])
-    (if has_begun name scope then fault rest fault_code.FunctionDefinedTwice ∷
-    [] else no_room (is_function_new name scope) (length scope.functions) fault_code.TooManyFunctions rest)
-    (single_code g rest fault_code.IntrinsicRedefined (omega arith))
-    (guarded_code g (has_begun name scope) (fault rest fault_code.FunctionDefinedTwice ∷ [])
-    (no_room (is_function_new name scope) (length scope.functions) fault_code.TooManyFunctions rest)
-    (single_code g rest fault_code.FunctionDefinedTwice (omega arith))
-    (no_room_code g (is_function_new name scope) (length scope.functions) fault_code.TooManyFunctions rest
-    (omega arith)))
-    h
-role_code g External name scope rest h =
-    no_room_code g (is_external_new name scope) (length scope.externals) fault_code.TooManyVariables rest (omega arith)
-    h
-role_code g Parameter name scope rest h =
-    guarded_code g (is_local_new name scope)
-    (no_room true (length scope.current.variables) fault_code.TooManyVariables rest)
-    (fault rest fault_code.BadParameterDeclaration ∷ [])
-    (no_room_code g true (length scope.current.variables) fault_code.TooManyVariables rest (omega arith))
-    (single_code g rest fault_code.BadParameterDeclaration (omega arith)) h
-role_code g Typed name scope rest h =
-    only_if_code g (is_local_new name scope) (fault rest fault_code.BadParameterDeclaration ∷ [])
-    (single_code g rest fault_code.BadParameterDeclaration (omega arith)) h
-role_code g Local name scope rest h =
-    no_room_code g (is_local_new name scope) (length scope.current.variables) fault_code.TooManyVariables rest
-    (omega arith) h
-role_code g Called name scope rest h =
-    no_room_code g (is_function_new name scope) (length scope.functions) fault_code.TooManyFunctions rest (omega arith)
-    h
-role_code g Mentioned name scope rest h =
-    no_room_code g (is_variable_new name scope) (length scope.current.variables) fault_code.TooManyVariables rest
-    (omega arith) h
-
 deep_before_role : (g : Fault) (role : Role) (name : List ℕ) (scope : Scope) (rest : List LocatedToken)
     (faults : List Fault) → faults ≡ role_faults role name scope rest →
     IsIn g faults → is_first (fault rest fault_code.NestedTooDeeply) g ≡ true
 deep_before_role g role name scope rest faults same h =
     let here : IsIn g (role_faults role name scope rest) = subst (λ (fs : List Fault). IsIn g fs) same h in
-    let large : 9 ≤ fault_code_number g.code = role_code g role name scope rest here in
-    same_token_first (fault rest fault_code.NestedTooDeeply) g (role_rest g role name scope rest here) (omega arith)
+    let large : 9 ≤ fault_code_number g.code =
+    role_each (λ x. 9 ≤ fault_code_number x.code) g role name scope rest (λ c l. l) here in
+    same_token_first (fault rest fault_code.NestedTooDeeply) g
+    (role_each (IsAt rest) g role name scope rest (λ c l. refl) here) (omega arith)
 
 -- Nested too deeply, by a name: the name may have a fault of its role, which comes after.
 pub too_deep_name : (profile : Profile) (symbol : Symbol) (role : Role) (name : List ℕ) (items stack : List Item)

@@ -23,6 +23,8 @@ pub use Rattle.grammar.specs.Laws.Origins.{origin_of}
 use Rattle.grammar.specs.Resolved.{IsVariable, IsCallable, InExpr, InArgs, InBody, FitsFile, IsAmong}
 use Rattle.grammar.specs.Tree.{Expr, Constant, Variable, Binary, Assign, Postfix, Call, Args, NoMore, Argument, Body, Done, ExpressionStatement, IfStatement, IfElseStatement, While, Return, Function}
 use Rattle.grammar.specs.Laws.{EachFileFollows}
+use Rattle.grammar.specs.NameLimits.{most_names}
+use Rattle.grammar.proofs.Indices.{some_same}
 use Rattle.grammar.proofs.Widening.{body_wider, function_wider}
 
 -- Actions one after another.
@@ -41,9 +43,6 @@ then_append xs ys (Some o) p again e = guarded (few_open o) e
 pub follow_append : (xs ys : List Action) (o p : Opened) → follow_all xs o ≡ Some p →
     follow_all (xs ++ ys) o ≡ follow_all ys p
 follow_append [] ys o p e = ap (follow_all ys) (some_same o p e)
-  where
-    some_same : (x y : Opened) → Some x ≡ Some y → x ≡ y
-    some_same x y h = cc
 follow_append (x ∷ xs) ys o p e = then_append xs ys (follow x o) p (λ q h. follow_append xs ys q p h) e
 
 few : (o : Opened) → open_count o ≤ 200 → few_open o ≡ true
@@ -59,12 +58,12 @@ follow_one a o p e small = follow_cons a [] o p e small
 
 -- Numbers in range.
 
-var_numbered : (v : Var) → IsVariable 64 64 v → is_var_numbered v ≡ true
-var_numbered (var.Local j) h = lt-ltb j 64 h
-var_numbered (var.External j) h = lt-ltb j 64 h
+var_numbered : (v : Var) → IsVariable most_names most_names v → is_var_numbered v ≡ true
+var_numbered (var.Local j) h = lt-ltb j most_names h
+var_numbered (var.External j) h = lt-ltb j most_names h
 
-callee_numbered : (f : Callee) → IsCallable 64 f → is_callee_numbered f ≡ true
-callee_numbered (callee.Function k) h = lt-ltb k 64 h
+callee_numbered : (f : Callee) → IsCallable most_names f → is_callee_numbered f ≡ true
+callee_numbered (callee.Function k) h = lt-ltb k most_names h
 callee_numbered (callee.Intrinsic i) h = refl
 
 same_itself : (v : Var) → same_var v v ≡ true
@@ -149,7 +148,7 @@ sides_lead op false logic a b outer o small left right =
     (act (ApplyBinop op) _ _ (rw logic refl) (omega arith))))
 
 mutual
-  pub expr_leads : (e : Expr) (outer : Open) (o : Opened) → InExpr 64 64 64 e →
+  pub expr_leads : (e : Expr) (outer : Open) (o : Opened) → InExpr most_names most_names most_names e →
       open_count (outer ∷ o) + nesting e ≤ 200 →
       Leads (expr_actions e) (outer ∷ o) (AValue (origin_of e) ∷ outer ∷ o)
   expr_leads (Constant value) outer o h small = act (PushConstant value) _ _ refl (omega arith)
@@ -171,7 +170,7 @@ mutual
       (chain (args_actions args) _ _ _ _ (args_lead args InCall (outer ∷ o) h.1 (omega arith))
       (act (EndCall f) _ _ (rw (callee_numbered f h.0) (call_ends args (InCall ∷ outer ∷ o))) (omega arith)))
 
-  pub args_lead : (args : Args) (outer : Open) (o : Opened) → InArgs 64 64 64 args →
+  pub args_lead : (args : Args) (outer : Open) (o : Opened) → InArgs most_names most_names most_names args →
       open_count (outer ∷ o) + args_nesting args ≤ 200 →
       Leads (args_actions args) (outer ∷ o) (pushed args (outer ∷ o))
   args_lead NoMore outer o h small = record { is = refl }
@@ -216,7 +215,7 @@ behind_body (While c s rest) o = behind_body rest (settled false o)
 behind_body (Return e rest) o = behind_body rest (settled (is_number 0 (origin_of e)) o)
 
 -- an expression at a point at which a statement may come
-value_leads : (e : Expr) (o : Opened) → may_take_statement o ≡ true → InExpr 64 64 64 e →
+value_leads : (e : Expr) (o : Opened) → may_take_statement o ≡ true → InExpr most_names most_names most_names e →
     open_count o + nesting e ≤ 200 →
     Leads (expr_actions e) o (AValue (origin_of e) ∷ o)
 value_leads e [] context h small = absurd (cc)
@@ -245,7 +244,7 @@ inside (Return e rest) x o same = ap (behind_body rest) (same (is_number 0 (orig
 pub leads_to : (acts : List Action) (o p q : Opened) → p ≡ q → Leads acts o p → Leads acts o q
 leads_to acts o p q e a = subst (λ (r : Opened). Leads acts o r) e a
 
-pub body_leads : (b : Body) (o : Opened) → may_take_statement o ≡ true → InBody 64 64 64 b →
+pub body_leads : (b : Body) (o : Opened) → may_take_statement o ≡ true → InBody most_names most_names most_names b →
     open_count o + body_nesting b ≤ 200 →
     Leads (body_actions b) o (behind_body b o)
 body_leads Done o context h small = record { is = refl }
@@ -289,43 +288,33 @@ body_leads (Return e rest) o context h small =
 -- Functions.
 
 -- statements of a function leave the function open
-pub record KeepsFunction (b : Body) (parameters : ℕ) (before : Bool) : Type 0 where
+pub record KeepsFunction (behind : Opened) (parameters : ℕ) : Type 0 where
   pub returned : Bool
-  pub is : behind_body b (InFunction parameters before ∷ []) ≡ InFunction parameters returned ∷ []
+  pub is : behind ≡ InFunction parameters returned ∷ []
 
-pub keeps_function : (b : Body) (parameters : ℕ) (before : Bool) → KeepsFunction b parameters before
+pub keeps_function : (b : Body) (parameters : ℕ) (before : Bool) →
+    KeepsFunction (behind_body b (InFunction parameters before ∷ [])) parameters
 keeps_function Done parameters before = record { returned = before; is = refl }
-keeps_function (ExpressionStatement e rest) parameters before =
-    let k : KeepsFunction rest parameters false = keeps_function rest parameters false in
-    record { returned = k.returned; is = k.is }
-keeps_function (IfStatement c s rest) parameters before =
-    let k : KeepsFunction rest parameters false = keeps_function rest parameters false in
-    record { returned = k.returned; is = k.is }
-keeps_function (IfElseStatement c s t rest) parameters before =
-    let k : KeepsFunction rest parameters false = keeps_function rest parameters false in
-    record { returned = k.returned; is = k.is }
-keeps_function (While c s rest) parameters before =
-    let k : KeepsFunction rest parameters false = keeps_function rest parameters false in
-    record { returned = k.returned; is = k.is }
-keeps_function (Return e rest) parameters before =
-    let k : KeepsFunction rest parameters (is_number 0 (origin_of e)) =
-    keeps_function rest parameters (is_number 0 (origin_of e)) in
-    record { returned = k.returned; is = k.is }
+keeps_function (ExpressionStatement e rest) parameters before = keeps_function rest parameters false
+keeps_function (IfStatement c s rest) parameters before = keeps_function rest parameters false
+keeps_function (IfElseStatement c s t rest) parameters before = keeps_function rest parameters false
+keeps_function (While c s rest) parameters before = keeps_function rest parameters false
+keeps_function (Return e rest) parameters before = keeps_function rest parameters (is_number 0 (origin_of e))
 
-pub function_begins : (number parameters : ℕ) → number < 64 → parameters ≤ 64 →
+pub function_begins : (number parameters : ℕ) → number < most_names → parameters ≤ most_names →
     follow (BeginFunction number parameters) [] ≡ Some (InFunction parameters false ∷ [])
-function_begins number parameters h k = rw (lt-ltb number 64 h, le-leb parameters 64 k) refl
+function_begins number parameters h k = rw (lt-ltb number most_names h, le-leb parameters most_names k) refl
 
-pub function_finishes : (parameters variables : ℕ) → parameters ≤ variables → variables ≤ 64 →
+pub function_finishes : (parameters variables : ℕ) → parameters ≤ variables → variables ≤ most_names →
     follow (EndFunction variables) (InFunction parameters true ∷ []) ≡ Some []
-function_finishes parameters variables h k = rw (le-leb parameters variables h, le-leb variables 64 k) refl
+function_finishes parameters variables h k = rw (le-leb parameters variables h, le-leb variables most_names k) refl
 
 -- a function's actions, by its number, its parameters, its variables and its body
-pub definition_leads : (number parameters variables : ℕ) (body : Body) → number < 64 → parameters ≤ variables →
-    variables ≤ 64 → InBody 64 64 64 body → body_nesting body ≤ 200 →
+pub definition_leads : (number parameters variables : ℕ) (body : Body) → number < most_names → parameters ≤ variables →
+    variables ≤ most_names → InBody most_names most_names most_names body → body_nesting body ≤ 200 →
     Leads (BeginFunction number parameters ∷ (body_actions body ++ (last_return ++ EndFunction variables ∷ []))) [] []
 definition_leads number parameters variables body below within most h small =
-    let k : KeepsFunction body parameters false = keeps_function body parameters false in
+    let k = keeps_function body parameters false in
     also (BeginFunction number parameters) _ _ (InFunction parameters false ∷ []) _
     (function_begins number parameters below (omega arith)) (omega arith)
     (chain (body_actions body) _ _ (InFunction parameters k.returned ∷ []) _
@@ -335,19 +324,21 @@ definition_leads number parameters variables body below within most h small =
     (also GiveBack _ _ (InFunction parameters true ∷ []) _ refl (omega arith)
     (act (EndFunction variables) _ _ (function_finishes parameters variables within most) (omega arith)))))
 
-pub function_leads : (number : ℕ) (f : Function) → number < 64 → FitsFile 64 64 f → body_nesting f.body ≤ 200 →
+pub function_leads : (number : ℕ) (f : Function) → number < most_names → FitsFile most_names most_names f →
+    body_nesting f.body ≤ 200 →
     Leads (function_actions number f) [] []
 function_leads number f below h small =
-    let within : InBody 64 64 64 f.body =
-    body_wider 64 (length f.variables) 64 64 64 64
+    let within : InBody most_names most_names most_names f.body =
+    body_wider most_names (length f.variables) most_names most_names most_names most_names
     (record { externals = omega arith; locals = h.variables; functions = omega arith }) f.body h.body in
     definition_leads number f.parameters (length f.variables) f.body below h.parameters h.variables within small
 
 -- Files.
 
 numbered_leads : (functions : List Function) (numbers : List ℕ) →
-    ((k : ℕ) (f : Function) → slice_get functions k ≡ Some f → FitsFile 64 64 f × (body_nesting f.body ≤ 200)) →
-    ((k : ℕ) → IsAmong k numbers → k < 64) → Leads (functions_actions functions numbers) [] []
+    ((k : ℕ) (f : Function) → slice_get functions k ≡ Some f →
+    FitsFile most_names most_names f × (body_nesting f.body ≤ 200)) →
+    ((k : ℕ) → IsAmong k numbers → k < most_names) → Leads (functions_actions functions numbers) [] []
 numbered_leads functions [] each below = record { is = refl }
 numbered_leads functions (k ∷ ks) each below =
     chain (numbered_actions k (slice_get functions k)) _ _ [] _ (one (slice_get functions k) refl)
@@ -356,13 +347,14 @@ numbered_leads functions (k ∷ ks) each below =
     one : (f : Option Function) → slice_get functions k ≡ f → Leads (numbered_actions k f) [] []
     one None e = record { is = refl }
     one (Some f) e =
-        let h : FitsFile 64 64 f × (body_nesting f.body ≤ 200) = each k f e in
+        let h : FitsFile most_names most_names f × (body_nesting f.body ≤ 200) = each k f e in
         function_leads k f (below k (inl refl)) h.0 h.1
 
 pub file_leads : EachFileFollows
 file_leads file resolved nested = (numbered_leads file.functions file.order
     (λ k f e. (
-      function_wider (length file.externals) (length file.functions) 64 64 resolved.externals resolved.functions f
+      function_wider (length file.externals) (length file.functions) most_names most_names resolved.externals
+          resolved.functions f
           (resolved.each k f e),
       nested k f e,
     ))

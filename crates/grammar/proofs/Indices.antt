@@ -1,5 +1,5 @@
 -- Elements of lists by their indices.
-use Rattle.std.proofs.Common.{◌≡◌, ℕ, zero, suc, ◌<◌, List, [], ◌∷◌, ◌++◌, refl, ap, ap₂, arith, length}
+use Rattle.std.proofs.Common.{◌≡◌, ℕ, zero, suc, ◌<◌, List, [], ◌∷◌, ◌++◌, refl, sym, ap, ap₂, arith, length}
 use Rattle.std.specs.Prelude.{Some, slice_get, set, map}
 
 -- what comes after doesn't count
@@ -22,7 +22,7 @@ get_set_other (y ∷ xs) zero (suc k) x h = refl
 get_set_other (y ∷ xs) (suc n) zero x h = refl
 get_set_other (y ∷ xs) (suc n) (suc k) x h = get_set_other xs n k x (λ e. h (ap suc e))
 
-some_same : {X : Type 0} (a b : X) → Some b ≡ Some a → a ≡ b
+pub some_same : {X : Type 0} (a b : X) → Some a ≡ Some b → a ≡ b
 some_same a b e = cc
 
 -- a list is the other's, element by element
@@ -32,5 +32,5 @@ map_by_index f [] [] l h = refl
 map_by_index f [] (y ∷ ys) l h = absurd (omega (arith, l))
 map_by_index f (x ∷ xs) [] l h = absurd (omega (arith, l))
 map_by_index f (x ∷ xs) (y ∷ ys) l h =
-    ap₂ (λ a rest. a ∷ rest) (some_same (f x) y (h zero x refl))
+    ap₂ (λ a rest. a ∷ rest) (sym (some_same y (f x) (h zero x refl)))
     (map_by_index f xs ys (omega (arith, l)) (λ k a e. h (suc k) a e))

@@ -1,5 +1,5 @@
 -- What is within a function's block keeps the function that is being defined.
-use Rattle.std.proofs.Common.{◌≡◌, ℕ, zero, suc, ◌+◌, ◌≤◌, List, [], ◌∷◌, ◌++◌, refl, sym, ap, ◌∙◌, subst, Bool, true, false, arith, length, length-append, append_assoc}
+use Rattle.std.proofs.Common.{◌≡◌, ℕ, zero, suc, ◌+◌, ◌≤◌, List, [], ◌∷◌, ◌++◌, refl, sym, ap, ◌∙◌, subst, Bool, true, false, arith, length, length-append, append_assoc, le_refl}
 use Rattle.std.specs.Prelude.{Option, Some, None, nat_lt, if◌then◌else◌, unwrap_or}
 use Rattle.tokens.specs.declared.located_tokens.LocatedToken.{LocatedToken}
 use Rattle.tokens.specs.declared.located_tokens.Punctuator.{Punctuator}
@@ -9,10 +9,11 @@ use Rattle.tokens.specs.declared.located_tokens.Token.TheVariants as token
 use Rattle.tokens.specs.declared.located_tokens.Keyword.TheVariants as keyword
 use Rattle.arith.specs.declared.operators.Op.{Op}
 use Rattle.grammar.specs.declared.operators.StoreOp.{StoreOp}
-use Rattle.grammar.specs.Derivation.{State, PartialTree, Definition, step, item_step, stack_step, stepped, derived, next_token, token_after_next, line_at, matched, name_matched, constant_matched, replaced, name_of_token, constant_value, is_end, functions_defined, scope_after_action}
+use Rattle.grammar.specs.Derivation.{State, PartialTree, Definition, item_step, stack_step, stepped, derived, next_token, token_after_next, line_at, functions_defined, scope_after_action}
 use Rattle.grammar.specs.Laws.StateParts.{state}
-use Rattle.grammar.specs.Grammar.{Symbol, Source, Types, Head, More, Parameters, ParameterTypes, FunctionBlock, Block, Declarations, Statements, Statement, ElsePart, Back, Expression, Level, Tail, Unary, Primary, Arguments, MoreArguments, Role, Defined, External, Parameter, Typed, Local, Called, Mentioned, Item, Exactly, AKeyword, AName, AConstant, AnEnd, Part, Make, Close, SemanticAction, Define, Production, choice, assignment_or, tail_production, is_lexical_error, is_punctuator, is_keyword}
+use Rattle.grammar.specs.Grammar.{Symbol, Source, Head, More, Parameters, FunctionBlock, Declarations, Statements, Expression, Level, Tail, Unary, Primary, Role, Defined, External, Parameter, Typed, Local, Called, Mentioned, Item, Exactly, AKeyword, AName, AConstant, AnEnd, Part, Make, Close, SemanticAction, Define, Production, choice, assignment_or, tail_production, is_lexical_error}
 use Rattle.grammar.specs.Laws.{KeepsFunction, BlocksKeepTheFunction}
+use Rattle.grammar.proofs.AfterSteps.{IfStepped, if_matched, if_named, if_constant, if_replaced, after_step}
 use Rattle.grammar.specs.Operators.{operator_at, store_of}
 use Rattle.grammar.specs.Scope.{Scope, scope_after_name, is_external_new, is_local_new, is_variable_new, is_function_new, with_external, with_variable, with_new_function}
 
@@ -83,11 +84,7 @@ assignment_inner None m = refl
 assignment_inner (Some op) m = refl
 
 primary_inner : (next after : Token) → inner_production (choice Primary next after) ≡ true
-primary_inner (token.Constant value) after = refl
 primary_inner (token.Name name) (token.Punctuator punctuator.OpenRound) = refl
-primary_inner (token.Name name) (token.Punctuator punctuator.PlusPlus) = refl
-primary_inner (token.Name name) (token.Punctuator punctuator.MinusMinus) = refl
-primary_inner (token.Name name) after = refl
 primary_inner (token.Punctuator punctuator.OpenRound) after = refl
 primary_inner next after = refl
 
@@ -97,44 +94,17 @@ choice_inner Source next after h = absurd (cc)
 choice_inner Head next after h = absurd (cc)
 choice_inner Parameters next after h = absurd (cc)
 choice_inner FunctionBlock next after h = absurd (cc)
-choice_inner Types (token.Keyword keyword.Type) after h = refl
-choice_inner Types next after h = refl
 choice_inner (More role) (token.Punctuator punctuator.Comma) after h = more_inner role h
 choice_inner (More role) next after h = refl
-choice_inner ParameterTypes (token.Keyword keyword.Type) after h = refl
-choice_inner ParameterTypes next after h = refl
-choice_inner Block (token.Punctuator punctuator.OpenCurly) after h = refl
-choice_inner Block next after h = refl
-choice_inner Declarations (token.Keyword keyword.Type) after h = refl
-choice_inner Declarations next after h = refl
-choice_inner Statements (token.Punctuator punctuator.CloseCurly) after h = refl
-choice_inner Statements next after h = refl
-choice_inner Statement (token.Punctuator punctuator.Semicolon) after h = refl
-choice_inner Statement (token.Punctuator punctuator.OpenCurly) after h = refl
-choice_inner Statement (token.Keyword keyword.If) after h = refl
-choice_inner Statement (token.Keyword keyword.While) after h = refl
-choice_inner Statement (token.Keyword keyword.Return) after h = refl
-choice_inner Statement next after h = refl
-choice_inner ElsePart (token.Keyword keyword.Else) after h = refl
-choice_inner ElsePart next after h = refl
-choice_inner Back (token.Punctuator punctuator.Semicolon) after h = refl
-choice_inner Back next after h = refl
 choice_inner Expression (token.Name name) (token.Punctuator m) h = assignment_inner (store_of m) m
 choice_inner Expression next after h = refl
 choice_inner (Level n) next after h = level_inner n (nat_lt n 11)
 choice_inner (Tail n) (token.Punctuator m) after h = tail_inner n (operator_at n (token.Punctuator m)) m
 choice_inner (Tail n) next after h = refl
-choice_inner Unary (token.Punctuator punctuator.Minus) after h = refl
-choice_inner Unary (token.Punctuator punctuator.Not) after h = refl
-choice_inner Unary (token.Punctuator punctuator.Tilde) after h = refl
-choice_inner Unary (token.Punctuator punctuator.PlusPlus) after h = refl
-choice_inner Unary (token.Punctuator punctuator.MinusMinus) after h = refl
-choice_inner Unary next after h = refl
 choice_inner Primary next after h = primary_inner next after
-choice_inner Arguments (token.Punctuator punctuator.CloseRound) after h = refl
-choice_inner Arguments next after h = refl
-choice_inner MoreArguments (token.Punctuator punctuator.Comma) after h = refl
-choice_inner MoreArguments next after h = refl
+choice_inner symbol (token.Punctuator punctuator.Plus) after h = refl
+choice_inner symbol (token.Keyword keyword.Type) after h = refl
+choice_inner symbol next after h = refl
 
 -- What an inner name or semantic action does to the scope.
 
@@ -192,85 +162,55 @@ record Stands (base : List Item) (in_scope : Scope) (count : ℕ) (s : State) : 
   keeps : KeepsFunction in_scope s.scope
   same : length s.functions ≡ count
 
-abbrev IfStands : List Item → Scope → ℕ → Option State → Type 0
-IfStands base in_scope count None = Unit {0}
-IfStands base in_scope count (Some s) = Stands base in_scope count s
-
-matched_stands : (fits : Bool) (items base : List Item) (rest : List LocatedToken) (values : List PartialTree)
-    (scope : Scope)
-    (functions : List Definition) → all_inner items ≡ true →
-    IfStands base scope (length functions) (matched fits (state (items ++ base) rest values scope functions))
-matched_stands false items base rest values scope functions h = tt
-matched_stands true items base rest values scope functions h =
-    record { items = items; inner = h; over = refl; keeps = kept scope; same = refl }
-
-name_stands : (role : Role) (o : Option (List ℕ)) (items base : List Item) (rest : List LocatedToken)
-    (values : List PartialTree) (scope : Scope) (functions : List Definition) → is_inner_role role ≡ true →
-    all_inner items ≡ true →
-    IfStands base scope (length functions) (name_matched role o (state (items ++ base) rest values scope functions))
-name_stands role None items base rest values scope functions r h = tt
-name_stands role (Some name) items base rest values scope functions r h =
-    record { items = items; inner = h; over = refl; keeps = name_keeps role name (line_at rest) scope r; same = refl }
-
-constant_stands : (o : Option ℕ) (items base : List Item) (rest : List LocatedToken) (values : List PartialTree)
-    (scope : Scope) (functions : List Definition) → all_inner items ≡ true →
-    IfStands base scope (length functions) (constant_matched o (state (items ++ base) rest values scope functions))
-constant_stands None items base rest values scope functions h = tt
-constant_stands (Some value) items base rest values scope functions h =
-    record { items = items; inner = h; over = refl; keeps = kept scope; same = refl }
-
-part_stands : (production : Production) (items base : List Item) (rest : List LocatedToken) (values : List PartialTree)
-    (scope : Scope) (functions : List Definition) → inner_production production ≡ true →
-    all_inner items ≡ true →
-    IfStands base scope (length functions) (replaced production (state (items ++ base) rest values scope functions))
-part_stands None items base rest values scope functions p h = tt
-part_stands (Some front) items base rest values scope functions p h =
-    record {
-      items = front ++ items;
-      inner = append_inner front items p h;
-      over = sym (append_assoc front items base);
-      keeps = kept scope;
+item_stands : (item : Item) (items base : List Item) (s : State) → is_inner item ≡ true → all_inner items ≡ true →
+    IfStepped (Stands base s.scope (length s.functions)) (item_step item (record s { stack = items ++ base }))
+item_stands (Exactly m) items base s i h =
+    if_matched (Stands base s.scope (length s.functions)) _ (items ++ base) s
+    (λ e. record { items = items; inner = h; over = refl; keeps = kept s.scope; same = refl })
+item_stands (AKeyword w) items base s i h =
+    if_matched (Stands base s.scope (length s.functions)) _ (items ++ base) s
+    (λ e. record { items = items; inner = h; over = refl; keeps = kept s.scope; same = refl })
+item_stands (AName role) items base s i h =
+    if_named (Stands base s.scope (length s.functions)) role _ (items ++ base) s
+    (λ n e. record {
+      items = items;
+      inner = h;
+      over = refl;
+      keeps = name_keeps role n (line_at s.rest) s.scope i;
       same = refl;
-    }
-
-item_stands : (item : Item) (items base : List Item) (rest : List LocatedToken) (values : List PartialTree)
-    (scope : Scope)
-    (functions : List Definition) → is_inner item ≡ true → all_inner items ≡ true →
-    IfStands base scope (length functions) (item_step item (state (items ++ base) rest values scope functions))
-item_stands (Exactly m) items base rest values scope functions i h =
-    matched_stands (is_punctuator m (next_token rest)) items base rest values scope functions h
-item_stands (AKeyword w) items base rest values scope functions i h =
-    matched_stands (is_keyword w (next_token rest)) items base rest values scope functions h
-item_stands (AName role) items base rest values scope functions i h =
-    name_stands role (name_of_token (next_token rest)) items base rest values scope functions i h
-item_stands AConstant items base rest values scope functions i h =
-    constant_stands (constant_value (next_token rest)) items base rest values scope functions h
-item_stands AnEnd items base rest values scope functions i h =
-    matched_stands (is_end (next_token rest)) items base rest values scope functions h
-item_stands (Part symbol) items base rest values scope functions i h =
-    part_stands (choice symbol (next_token rest) (token_after_next rest)) items base rest values scope functions
-    (choice_inner symbol (next_token rest) (token_after_next rest) i) h
-item_stands (Make rule) items base rest values scope functions i h =
+    })
+item_stands AConstant items base s i h =
+    if_constant (Stands base s.scope (length s.functions)) _ (items ++ base) s
+    (λ n e. record { items = items; inner = h; over = refl; keeps = kept s.scope; same = refl })
+item_stands AnEnd items base s i h =
+    if_matched (Stands base s.scope (length s.functions)) _ (items ++ base) s
+    (λ e. record { items = items; inner = h; over = refl; keeps = kept s.scope; same = refl })
+item_stands (Part symbol) items base s i h =
+    if_replaced (Stands base s.scope (length s.functions)) _ (items ++ base) s
+    (λ front e. record {
+      items = front ++ items;
+      inner = append_inner front items
+          (subst (λ (p : Production). inner_production p ≡ true) e
+          (choice_inner symbol (next_token s.rest) (token_after_next s.rest) i))
+          h;
+      over = sym (append_assoc front items base);
+      keeps = kept s.scope;
+      same = refl;
+    })
+item_stands (Make rule) items base s i h =
     record {
       items = items;
       inner = h;
       over = refl;
-      keeps = rule_keeps rule scope i;
-      same = defines_none rule values scope functions i;
+      keeps = rule_keeps rule s.scope i;
+      same = defines_none rule s.values s.scope s.functions i;
     }
-item_stands Close items base rest values scope functions i h =
-    record { items = items; inner = h; over = refl; keeps = kept scope; same = refl }
+item_stands Close items base s i h =
+    record { items = items; inner = h; over = refl; keeps = kept s.scope; same = refl }
 
-guarded_stands : (b : Bool) (base : List Item) (in_scope : Scope) (count : ℕ) (o : Option State) →
-    IfStands base in_scope count o → IfStands base in_scope count (if b then None else o)
-guarded_stands true base in_scope count o h = tt
-guarded_stands false base in_scope count o h = h
-
-stays : (base : List Item) (in_scope : Scope) (count : ℕ) (s : State) (o : Option State) →
-    Stands base in_scope count s →
-    IfStands base s.scope (length s.functions) o → Stands base in_scope count (unwrap_or o s)
-stays base in_scope count s None h k = h
-stays base in_scope count s (Some t) h k =
+carried : (base : List Item) (in_scope : Scope) (count : ℕ) (s t : State) → Stands base in_scope count s →
+    Stands base s.scope (length s.functions) t → Stands base in_scope count t
+carried base in_scope count s t h k =
     record {
       items = k.items;
       inner = k.inner;
@@ -281,71 +221,32 @@ stays base in_scope count s (Some t) h k =
 
 -- A derivation takes no function away.
 
-abbrev IfMore : ℕ → Option State → Type 0
-IfMore count None = Unit {0}
-IfMore count (Some s) = count ≤ length s.functions
+abbrev NotFewer : ℕ → State → Type 0
+NotFewer count t = count ≤ length t.functions
 
-matched_more : (fits : Bool) (stack : List Item) (rest : List LocatedToken) (values : List PartialTree) (scope : Scope)
-    (functions : List Definition) →
-    IfMore (length functions) (matched fits (state stack rest values scope functions))
-matched_more false stack rest values scope functions = tt
-matched_more true stack rest values scope functions = omega arith
-
-name_more : (role : Role) (o : Option (List ℕ)) (stack : List Item) (rest : List LocatedToken)
-    (values : List PartialTree)
-    (scope : Scope) (functions : List Definition) →
-    IfMore (length functions) (name_matched role o (state stack rest values scope functions))
-name_more role None stack rest values scope functions = tt
-name_more role (Some name) stack rest values scope functions = omega arith
-
-constant_more : (o : Option ℕ) (stack : List Item) (rest : List LocatedToken) (values : List PartialTree)
-    (scope : Scope)
-    (functions : List Definition) →
-    IfMore (length functions) (constant_matched o (state stack rest values scope functions))
-constant_more None stack rest values scope functions = tt
-constant_more (Some value) stack rest values scope functions = omega arith
-
-part_more : (production : Production) (stack : List Item) (rest : List LocatedToken) (values : List PartialTree)
-    (scope : Scope) (functions : List Definition) →
-    IfMore (length functions) (replaced production (state stack rest values scope functions))
-part_more None stack rest values scope functions = tt
-part_more (Some items) stack rest values scope functions = omega arith
-
-item_more : (stack : List Item) (rest : List LocatedToken) (values : List PartialTree) (scope : Scope)
-    (functions : List Definition) →
-    IfMore (length functions) (stack_step stack (state stack rest values scope functions))
-item_more [] rest values scope functions = tt
-item_more (Exactly m ∷ stack) rest values scope functions =
-    matched_more (is_punctuator m (next_token rest)) stack rest values scope functions
-item_more (AKeyword w ∷ stack) rest values scope functions =
-    matched_more (is_keyword w (next_token rest)) stack rest values scope functions
-item_more (AName role ∷ stack) rest values scope functions =
-    name_more role (name_of_token (next_token rest)) stack rest values scope functions
-item_more (AConstant ∷ stack) rest values scope functions =
-    constant_more (constant_value (next_token rest)) stack rest values scope functions
-item_more (AnEnd ∷ stack) rest values scope functions =
-    matched_more (is_end (next_token rest)) stack rest values scope functions
-item_more (Part symbol ∷ stack) rest values scope functions =
-    part_more (choice symbol (next_token rest) (token_after_next rest)) stack rest values scope functions
-item_more (Make rule ∷ stack) rest values scope functions =
-    omega (arith, length-append functions (functions_defined rule values scope))
-item_more (Close ∷ stack) rest values scope functions = omega arith
-
-stepped_more : (b : Bool) (s : State) (o : Option State) → IfMore (length s.functions) o →
-    length s.functions ≤ length (unwrap_or (if b then None else o) s).functions
-stepped_more true s o h = omega arith
-stepped_more false s None h = omega arith
-stepped_more false s (Some t) h = h
+item_more : (stack : List Item) (s : State) → IfStepped (NotFewer (length s.functions)) (stack_step stack s)
+item_more [] s = tt
+item_more (Exactly m ∷ stack) s =
+    if_matched (NotFewer (length s.functions)) _ stack s (λ e. le_refl (length s.functions))
+item_more (AKeyword w ∷ stack) s =
+    if_matched (NotFewer (length s.functions)) _ stack s (λ e. le_refl (length s.functions))
+item_more (AName role ∷ stack) s =
+    if_named (NotFewer (length s.functions)) role _ stack s (λ n e. le_refl (length s.functions))
+item_more (AConstant ∷ stack) s =
+    if_constant (NotFewer (length s.functions)) _ stack s (λ n e. le_refl (length s.functions))
+item_more (AnEnd ∷ stack) s = if_matched (NotFewer (length s.functions)) _ stack s (λ e. le_refl (length s.functions))
+item_more (Part symbol ∷ stack) s =
+    if_replaced (NotFewer (length s.functions)) _ stack s (λ items e. le_refl (length s.functions))
+item_more (Make rule ∷ stack) s =
+    omega (arith, length-append s.functions (functions_defined rule s.values s.scope))
+item_more (Close ∷ stack) s = le_refl (length s.functions)
 
 run_more : (n : ℕ) (s : State) → length s.functions ≤ length (derived n s).functions
 run_more zero s = omega arith
 run_more (suc n) s =
-    omega (
-      arith,
-      run_more n (stepped s),
-      stepped_more (is_lexical_error (next_token s.rest)) s (stack_step s.stack s)
-          (item_more s.stack s.rest s.values s.scope s.functions),
-    )
+    let more : length s.functions ≤ length (stepped s).functions =
+    after_step (NotFewer (length s.functions)) s (item_more s.stack s) (le_refl (length s.functions)) in
+    omega (arith, run_more n (stepped s), more)
 
 -- A derivation that defined no function didn't pass the end of the one that it is in.
 
@@ -377,15 +278,14 @@ step_keeps n [] stack in_scope count s inner over h again =
     (sym over)
     (end_keeps (is_lexical_error (next_token s.rest)) n stack in_scope count s h.same (again s h))
 step_keeps n (item ∷ items) stack in_scope count s inner over h again =
-    again (stepped s) (stays base in_scope count s (step s) h (guarded_stands (is_lexical_error (next_token s.rest))
-    base
-    s.scope
-    (length s.functions) (stack_step s.stack s)
+    again (stepped s) (carried base in_scope count s (stepped s) h
+    (after_step (Stands base s.scope (length s.functions)) s
     (subst
-    (λ (xs : List Item). IfStands base s.scope (length s.functions) (stack_step xs s))
+    (λ (xs : List Item). IfStepped (Stands base s.scope (length s.functions)) (stack_step xs s))
     (sym over)
-    (item_stands item items base s.rest s.values s.scope s.functions
-    (front_inner (is_inner item) (all_inner items) inner) (others_inner (is_inner item) (all_inner items) inner)))))
+    (item_stands item items base s (front_inner (is_inner item) (all_inner items) inner)
+    (others_inner (is_inner item) (all_inner items) inner)))
+    (record { items = h.items; inner = h.inner; over = h.over; keeps = kept s.scope; same = refl })))
   where
     base : List Item
     base = Make Define ∷ stack

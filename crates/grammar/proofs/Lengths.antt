@@ -3,8 +3,8 @@ use Rattle.std.proofs.Common.{◌≡◌, ℕ, ◌+◌, List, [], ◌∷◌, ◌+
 use Rattle.arith.specs.declared.operators.Op.{Op}
 use Rattle.arith.specs.declared.operators.Op.TheVariants as op
 use Rattle.grammar.specs.declared.actions.Action.{Action}
-use Rattle.grammar.specs.declared.actions.Action.TheVariants.{StoreVariable, ApplyBinop, EndCall, IfTest, ElsePart, EndIf}
-use Rattle.grammar.specs.declared.actions.Action.TheVariants.{WhileTest, EndWhile, GiveBack, Chop, EndFunction}
+use Rattle.grammar.specs.declared.actions.Action.TheVariants.{StoreVariable, ApplyBinop, EndCall}
+use Rattle.grammar.specs.declared.actions.Action.TheVariants.{EndFunction}
 use Rattle.grammar.specs.Actions.{code_length, instructions, middle, expr_actions, args_actions, body_actions}
 use Rattle.grammar.specs.Actions.{last_return, function_actions}
 use Rattle.grammar.specs.Beginning.{definitions_actions}
@@ -79,49 +79,15 @@ mutual
 pub body_lengths : (p : Profile) (b : Body) → code_length p (body_actions b) ≡ body_length p b
 body_lengths p Done = refl
 body_lengths p (ExpressionStatement e rest) =
-    omega (
-      arith,
-      code_length-append p (expr_actions e) (Chop ∷ body_actions rest),
-      expr_lengths p e,
-      body_lengths p rest,
-    )
+    simp (code_length-append p, expr_lengths p e, body_lengths p rest) (omega arith)
 body_lengths p (IfStatement c s rest) =
-    omega (
-      arith,
-      code_length-append p (expr_actions c) (IfTest ∷ (body_actions s ++ EndIf ∷ body_actions rest)),
-      code_length-append p (body_actions s) (EndIf ∷ body_actions rest),
-      expr_lengths p c,
-      body_lengths p s,
-      body_lengths p rest,
-    )
+    simp (code_length-append p, expr_lengths p c, body_lengths p s, body_lengths p rest) (omega arith)
 body_lengths p (IfElseStatement c s t rest) =
-    omega (
-      arith,
-      code_length-append p (expr_actions c)
-          (IfTest ∷ (body_actions s ++ ElsePart ∷ (body_actions t ++ EndIf ∷ body_actions rest))),
-      code_length-append p (body_actions s) (ElsePart ∷ (body_actions t ++ EndIf ∷ body_actions rest)),
-      code_length-append p (body_actions t) (EndIf ∷ body_actions rest),
-      expr_lengths p c,
-      body_lengths p s,
-      body_lengths p t,
-      body_lengths p rest,
-    )
+    simp (code_length-append p, expr_lengths p c, body_lengths p s, body_lengths p t, body_lengths p rest) (omega arith)
 body_lengths p (While c s rest) =
-    omega (
-      arith,
-      code_length-append p (expr_actions c) (WhileTest ∷ (body_actions s ++ EndWhile ∷ body_actions rest)),
-      code_length-append p (body_actions s) (EndWhile ∷ body_actions rest),
-      expr_lengths p c,
-      body_lengths p s,
-      body_lengths p rest,
-    )
+    simp (code_length-append p, expr_lengths p c, body_lengths p s, body_lengths p rest) (omega arith)
 body_lengths p (Return e rest) =
-    omega (
-      arith,
-      code_length-append p (expr_actions e) (GiveBack ∷ body_actions rest),
-      expr_lengths p e,
-      body_lengths p rest,
-    )
+    simp (code_length-append p, expr_lengths p e, body_lengths p rest) (omega arith)
 
 pub function_lengths : (p : Profile) (number : ℕ) (f : Function) →
     code_length p (function_actions number f) ≡ function_length p f

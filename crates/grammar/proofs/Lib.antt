@@ -1,3 +1,4 @@
+pub mod AfterSteps
 pub mod Runs
 pub mod TokensLeft
 pub mod Steps

@@ -1,21 +1,23 @@
 -- Along a derivation without a fault, each function that was defined has its names among those in scope.
 use Rattle.std.proofs.Common.{◌≡◌, ℕ, zero, suc, ◌<◌, List, [], ◌∷◌, ◌++◌, sym, ◌∙◌, subst, inl, inr, Bool, true, false, append-nil, length}
-use Rattle.std.specs.Prelude.{Option, Some, None, if◌then◌else◌, unwrap_or, slice_get, set}
+use Rattle.std.specs.Prelude.{if◌then◌else◌, set}
 use Rattle.tokens.specs.declared.located_tokens.LocatedToken.{LocatedToken}
 use Rattle.grammar.specs.Compiled.{order_of}
-use Rattle.grammar.specs.Derivation.{State, initial_state, PartialTree, Definition, definition_of, last_body, next_token, token_after_next, line_at, name_of_token, constant_value, is_end, matched, name_matched, constant_matched, replaced, stack_step, step, stepped, derived}
+use Rattle.grammar.specs.Derivation.{State, initial_state, PartialTree, Definition, definition_of, last_body, line_at, stack_step, stepped, derived}
 use Rattle.grammar.specs.Laws.StateParts.{state}
 use Rattle.grammar.specs.Faults.{faults_at, faults_in}
-use Rattle.grammar.specs.Grammar.{Item, Exactly, AKeyword, AName, AConstant, AnEnd, Part, Make, Close, Define, Role, Defined, External, Parameter, Typed, Local, Called, Mentioned, Production, choice, is_lexical_error, is_punctuator, is_keyword}
+use Rattle.grammar.specs.Grammar.{Item, Exactly, AKeyword, AName, AConstant, AnEnd, Part, Make, Close, Define, Role, Defined, External, Parameter, Typed, Local, Called, Mentioned}
 use Rattle.grammar.specs.Laws.Parsing.{DerivesWithoutFault}
 use Rattle.grammar.specs.Pools.{FunctionNames, names_of_function}
 use Rattle.grammar.specs.Profile.{Profile}
 use Rattle.grammar.specs.Resolved.{IsAmong, AreDistinct}
 use Rattle.grammar.specs.Scope.{Scope, scope_after_name, end_definition, is_function_new, only_named, with_function, is_external_new, is_local_new, is_variable_new, with_external, with_parameter, with_variable}
+use Rattle.grammar.proofs.AfterSteps.{IfStepped, if_matched, if_named, if_constant, if_replaced, after_step}
 use Rattle.grammar.proofs.Phases.{phase_of}
 use Rattle.grammar.proofs.ResolvedLaws.{Sound, Busy, among_last, ended, stepped_sound, run_sound, start_sound}
 use Rattle.grammar.proofs.Runs.{append_empty}
-use Rattle.grammar.proofs.Indices.{get_append, get_set_same, get_set_other}
+use Rattle.grammar.proofs.DistinctNames.{AreAt, at_wider, at_append}
+use Rattle.grammar.proofs.Indices.{get_set_same, get_set_other}
 
 -- a derivation that comes from the start without a fault is sound
 pub sound_of_passes : (profile : Profile) (located_tokens : List LocatedToken) (s : State) →
@@ -26,17 +28,9 @@ sound_of_passes profile located_tokens s p =
 
 -- the names of each function that was defined are at its number
 abbrev pub AreNamed : List FunctionNames → List Definition → Type 0
-AreNamed functions [] = Unit {0}
-AreNamed functions (d ∷ ds) =
-    (slice_get functions d.number ≡ Some (names_of_function d.function)) × AreNamed functions ds
+AreNamed functions ds = AreAt names_of_function functions ds
 
 -- Names.
-
-named_wider : (functions more : List FunctionNames) (ds : List Definition) → AreNamed functions ds →
-    AreNamed (functions ++ more) ds
-named_wider functions more [] h = tt
-named_wider functions more (d ∷ ds) h =
-    (get_append functions more d.number (names_of_function d.function) h.0, named_wider functions more ds h.1)
 
 named_if : (b : Bool) (more same : Scope) (ds : List Definition) → AreNamed more.functions ds →
     AreNamed same.functions ds → AreNamed (if b then more else same).functions ds
@@ -46,7 +40,8 @@ named_if false more same ds h k = k
 function_named : (name : List ℕ) (line : ℕ) (scope : Scope) (ds : List Definition) → AreNamed scope.functions ds →
     AreNamed (with_function name line scope).functions ds
 function_named name line scope ds h =
-    named_if (is_function_new name scope) _ scope ds (named_wider scope.functions (only_named name ∷ []) ds h) h
+    named_if (is_function_new name scope) _ scope ds
+    (at_wider names_of_function scope.functions (only_named name ∷ []) ds h) h
 
 role_named : (role : Role) (name : List ℕ) (line : ℕ) (scope : Scope) (ds : List Definition) →
     AreNamed scope.functions ds → AreNamed (scope_after_name role name line scope).functions ds
@@ -77,11 +72,6 @@ others_named functions number names (d ∷ ds) new h = (
   others_named functions number names ds (λ i. new (inr i)) h.1,
 )
 
-named_append : (functions : List FunctionNames) (ds : List Definition) (d : Definition) → AreNamed functions ds →
-    slice_get functions d.number ≡ Some (names_of_function d.function) → AreNamed functions (ds ++ d ∷ [])
-named_append functions [] d h e = (e, tt)
-named_append functions (x ∷ ds) d h e = (h.0, named_append functions ds d h.1 e)
-
 define_named : (stack : List Item) (rest : List LocatedToken) (values : List PartialTree) (scope : Scope)
     (ds : List Definition) → Sound (state (Make Define ∷ stack) rest values scope ds) →
     AreNamed scope.functions ds →
@@ -93,87 +83,42 @@ define_named stack rest values scope ds s h =
     (subst (λ (ns : List ℕ). IsAmong scope.number ns) (sym b.begun) (among_last scope.number (order_of ds))) in
     let new : IsAmong scope.number (order_of ds) → ⊥ =
     last_apart (order_of ds) scope.number (subst (λ (ns : List ℕ). AreDistinct ns) b.begun s.scoped.begun) in
-    named_append (set scope.functions scope.number scope.current) ds (definition_of scope (last_body values))
+    at_append names_of_function (set scope.functions scope.number scope.current) ds
+    (definition_of scope (last_body values))
     (others_named scope.functions scope.number scope.current ds new h)
     (get_set_same scope.functions scope.number scope.current within)
 
 -- Steps.
 
-abbrev IfNamed : Option State → Type 0
-IfNamed None = Unit {0}
-IfNamed (Some s) = AreNamed s.scope.functions s.functions
-
-matched_named : (fits : Bool) (stack : List Item) (rest : List LocatedToken) (values : List PartialTree) (scope : Scope)
-    (ds : List Definition) → AreNamed scope.functions ds →
-    IfNamed (matched fits (state stack rest values scope ds))
-matched_named true stack rest values scope ds h = h
-matched_named false stack rest values scope ds h = tt
-
-name_named : (role : Role) (name : Option (List ℕ)) (stack : List Item) (rest : List LocatedToken)
-    (values : List PartialTree)
-    (scope : Scope) (ds : List Definition) → AreNamed scope.functions ds →
-    IfNamed (name_matched role name (state stack rest values scope ds))
-name_named role None stack rest values scope ds h = tt
-name_named role (Some name) stack rest values scope ds h = role_named role name (line_at rest) scope ds h
-
-constant_named : (value : Option ℕ) (stack : List Item) (rest : List LocatedToken) (values : List PartialTree)
-    (scope : Scope)
-    (ds : List Definition) → AreNamed scope.functions ds →
-    IfNamed (constant_matched value (state stack rest values scope ds))
-constant_named None stack rest values scope ds h = tt
-constant_named (Some value) stack rest values scope ds h = h
-
-part_named : (production : Production) (stack : List Item) (rest : List LocatedToken) (values : List PartialTree)
-    (scope : Scope) (ds : List Definition) → AreNamed scope.functions ds →
-    IfNamed (replaced production (state stack rest values scope ds))
-part_named None stack rest values scope ds h = tt
-part_named (Some items) stack rest values scope ds h = h
+abbrev Named : State → Type 0
+Named s = AreNamed s.scope.functions s.functions
 
 same_named : (functions : List FunctionNames) (ds : List Definition) → AreNamed functions ds →
     AreNamed functions (ds ++ [])
 same_named functions ds h = subst (λ (xs : List Definition). AreNamed functions xs) (sym (append-nil ds)) h
 
-step_named : (stack : List Item) (rest : List LocatedToken) (values : List PartialTree) (scope : Scope)
-    (ds : List Definition)
-    → Sound (state stack rest values scope ds) →
-    AreNamed scope.functions ds → IfNamed (stack_step stack (state stack rest values scope ds))
-step_named [] rest values scope ds s h = tt
-step_named (Exactly m ∷ stack) rest values scope ds s h =
-    matched_named (is_punctuator m (next_token rest)) stack rest values scope ds h
-step_named (AKeyword w ∷ stack) rest values scope ds s h =
-    matched_named (is_keyword w (next_token rest)) stack rest values scope ds h
-step_named (AName role ∷ stack) rest values scope ds s h =
-    name_named role (name_of_token (next_token rest)) stack rest values scope ds h
-step_named (AConstant ∷ stack) rest values scope ds s h =
-    constant_named (constant_value (next_token rest)) stack rest values scope ds h
-step_named (AnEnd ∷ stack) rest values scope ds s h =
-    matched_named (is_end (next_token rest)) stack rest values scope ds h
-step_named (Part symbol ∷ stack) rest values scope ds s h =
-    part_named (choice symbol (next_token rest) (token_after_next rest)) stack rest values scope ds h
-step_named (Make Define ∷ stack) rest values scope ds s h = define_named stack rest values scope ds s h
-step_named (Make rule ∷ stack) rest values scope ds s h = same_named scope.functions ds h
-step_named (Close ∷ stack) rest values scope ds s h = h
+step_named : (stack : List Item) (s : State) → Sound (record s { stack = stack }) → Named s →
+    IfStepped Named (stack_step stack s)
+step_named [] s sound h = tt
+step_named (Exactly m ∷ stack) s sound h = if_matched Named _ stack s (λ e. h)
+step_named (AKeyword w ∷ stack) s sound h = if_matched Named _ stack s (λ e. h)
+step_named (AName role ∷ stack) s sound h =
+    if_named Named role _ stack s (λ n e. role_named role n (line_at s.rest) s.scope s.functions h)
+step_named (AConstant ∷ stack) s sound h = if_constant Named _ stack s (λ n e. h)
+step_named (AnEnd ∷ stack) s sound h = if_matched Named _ stack s (λ e. h)
+step_named (Part symbol ∷ stack) s sound h = if_replaced Named _ stack s (λ items e. h)
+step_named (Make Define ∷ stack) s sound h = define_named stack s.rest s.values s.scope s.functions sound h
+step_named (Make rule ∷ stack) s sound h = same_named s.scope.functions s.functions h
+step_named (Close ∷ stack) s sound h = h
 
 -- Derivations.
 
-guarded_named : (b : Bool) (o : Option State) → IfNamed o → IfNamed (if b then None else o)
-guarded_named true o h = tt
-guarded_named false o h = h
+stepped_named : (s : State) → Sound s → Named s → Named (stepped s)
+stepped_named s sound h =
+    after_step Named s (step_named s.stack s (record { scoped = sound.scoped; tied = sound.tied }) h) h
 
-kept_named : (s : State) (o : Option State) → AreNamed s.scope.functions s.functions → IfNamed o →
-    AreNamed (unwrap_or o s).scope.functions (unwrap_or o s).functions
-kept_named s None h k = h
-kept_named s (Some t) h k = k
-
-stepped_named : (s : State) → Sound s → AreNamed s.scope.functions s.functions →
-    AreNamed (stepped s).scope.functions (stepped s).functions
-stepped_named s sound h = kept_named s (step s) h
-    (guarded_named (is_lexical_error (next_token s.rest)) (stack_step s.stack s)
-    (step_named s.stack s.rest s.values s.scope s.functions (record { scoped = sound.scoped; tied = sound.tied }) h))
-
-run_named : (profile : Profile) (n : ℕ) (s : State) → faults_in profile n s ≡ [] → Sound s →
-    AreNamed s.scope.functions s.functions →
-    AreNamed (derived n s).scope.functions (derived n s).functions
+run_named : (profile : Profile) (n : ℕ) (s : State) → faults_in profile n s ≡ [] → Sound s → Named s →
+    Named (derived n s)
 run_named profile zero s clean sound h = h
 run_named profile (suc n) s clean sound h =
     run_named profile n (stepped s) (append_empty (faults_at profile s) (faults_in profile n (stepped s)) clean).1

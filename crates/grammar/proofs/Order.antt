@@ -7,6 +7,7 @@ use Rattle.grammar.specs.declared.diagnostics.Code.TheVariants as fault_code
 use Rattle.grammar.specs.Faults.{Fault, is_first, first_fault, fault_code_number}
 use Rattle.grammar.specs.Laws.Parsing.{IsIn}
 use Rattle.grammar.proofs.Firsts.{reflexive}
+use Rattle.grammar.proofs.Indices.{some_same}
 
 -- what the test says: fewer tokens are left at g, or as many, and the code is not larger
 meaning : (a c b d : ℕ) → (if nat_lt b a then true else (if nat_lt a b then false else nat_le c d)) ≡ true →
@@ -71,9 +72,6 @@ found fault_code.BadParameterDeclaration = refl
 found fault_code.TooMuchCode = refl
 found fault_code.FunctionNotDefined = refl
 found fault_code.NoMainFunction = refl
-
-some_same : (c d : Code) → Some c ≡ Some d → c ≡ d
-some_same c d e = cc
 
 pub same_code : (c d : Code) → fault_code_number c ≡ fault_code_number d → c ≡ d
 same_code c d e = some_same c d (sym (found c) ∙ ap (λ n. slice_get all_codes n) e ∙ found d)

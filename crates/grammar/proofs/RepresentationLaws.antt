@@ -46,14 +46,8 @@ may_front before xs ys may =
 pub may_first : (before : Representation) (x : Action) (xs : List Action) → MayFollowAll before (x ∷ xs) →
     MayFollow before x
 may_first before x xs may =
-    record {
-      profile = may.profile;
-      acts = may.acts;
-      stood = may.stood;
-      begins =
-          begins_with (may.acts ++ x ∷ []) xs
-          (subst IsBeginning (sym (append_assoc may.acts (x ∷ []) xs)) may.begins);
-    }
+    let m = may_front before (x ∷ []) xs may in
+    record { profile = m.profile; acts = m.acts; stood = m.stood; begins = m.begins }
 
 -- if the first ones were reported, the others may follow
 pub may_then : (before behind : Representation) (xs ys : List Action) → AppendsAll before behind xs →

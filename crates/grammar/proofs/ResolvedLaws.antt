@@ -6,18 +6,19 @@ use Rattle.std.specs.Prelude.{Option, Some, None, Result, Ok, Err, if◌then◌e
 use Rattle.tokens.specs.declared.located_tokens.LocatedToken.{LocatedToken}
 use Rattle.grammar.specs.declared.diagnostics.Diagnostic.{Diagnostic}
 use Rattle.grammar.specs.Compiled.{order_of, defined_as, in_front, all_defined, file_of, resolved, verdict, main_name, all_faults, last_state, enough_steps, last_line}
-use Rattle.grammar.specs.Derivation.{State, initial_state, PartialTree, Definition, definition_of, last_body, trees_after, name_tree, next_token, token_after_next, line_at, name_of_token, constant_value, matched, name_matched, constant_matched, replaced, stack_step, step, stepped, derived}
+use Rattle.grammar.specs.Derivation.{State, initial_state, PartialTree, Definition, definition_of, last_body, trees_after, name_tree, next_token, token_after_next, line_at, stack_step, stepped, derived}
 use Rattle.grammar.specs.Laws.StateParts.{state}
 use Rattle.grammar.specs.Faults.{Fault, faults_at, faults_in, stack_faults, name_faults, role_faults, unexpected_token, unexpected_tokens}
-use Rattle.grammar.specs.Grammar.{Item, Exactly, AKeyword, AName, AConstant, AnEnd, Part, Make, Close, Symbol, SemanticAction, Operate, Negate, Not, Complement, Fetch, Store, PrefixIncrement, PostfixIncrement, AddArgument, Invoke, Empty, Evaluate, Decide, DecideElse, Repeat, Zero, GiveBack, Define, Role, Defined, External, Parameter, Typed, Local, Called, Mentioned, Production, choice, is_lexical_error}
+use Rattle.grammar.specs.Grammar.{Item, Exactly, AKeyword, AName, AConstant, AnEnd, Part, Make, Close, SemanticAction, Define, Role, Defined, Called, Mentioned, is_lexical_error}
 use Rattle.grammar.specs.Laws.{CompiledIsResolved}
 use Rattle.grammar.specs.Profile.{Profile}
 use Rattle.grammar.specs.Pools.{FunctionNames}
 use Rattle.grammar.specs.Resolved.{FitsFile, IsAmong, AreDistinct, IsResolved}
 use Rattle.grammar.specs.Scope.{Scope, scope_after_name, end_definition, function_number, number_or_next}
 use Rattle.grammar.specs.Tree.{Function, File}
+use Rattle.grammar.proofs.AfterSteps.{IfStepped, if_matched, if_named, if_constant, if_replaced}
 use Rattle.grammar.proofs.Phases.{Phase, Outside, Before, Inside, Wrong, Stays, inside, outside_then, begun, by_role, phase_of, part_stays}
-use Rattle.grammar.proofs.DistinctNames.{distinct_front, HaveNames, names, names_append, names_kept}
+use Rattle.grammar.proofs.DistinctNames.{distinct_front, HaveNames, part_at, names, at_append, names_kept}
 use Rattle.grammar.proofs.Indices.{map_by_index}
 use Rattle.grammar.proofs.Runs.{append_empty}
 use Rattle.grammar.proofs.Soundness.{ValuesIn, values_wider, made_in, last_body_in, IsScoped, Grows, Clean, AllIn, all_append, BeginsWell, definition_begins, role_grows, callee_in, variable_in, function_below}
@@ -48,17 +49,11 @@ tied_stays : (before after : Phase) (values : List PartialTree) (scope : Scope) 
     Tied before values scope ds → Tied after values scope ds
 tied_stays Outside Outside values scope ds e t = t
 tied_stays Outside Before values scope ds e t = t
-tied_stays Outside Inside values scope ds e t = absurd (cc)
-tied_stays Outside Wrong values scope ds e t = absurd (cc)
 tied_stays Before Outside values scope ds e t = t
 tied_stays Before Before values scope ds e t = t
-tied_stays Before Inside values scope ds e t = absurd (cc)
-tied_stays Before Wrong values scope ds e t = absurd (cc)
-tied_stays Inside Outside values scope ds e t = absurd (cc)
-tied_stays Inside Before values scope ds e t = absurd (cc)
 tied_stays Inside Inside values scope ds e t = t
-tied_stays Inside Wrong values scope ds e t = absurd (cc)
 tied_stays Wrong after values scope ds e t = absurd t
+tied_stays phase after values scope ds e t = absurd (cc)
 
 quiet_grows : (values : List PartialTree) (old new : Scope) (ds : List Definition) → Grows old new ds →
     Quiet values old ds →
@@ -85,25 +80,19 @@ tied_grows Wrong values old new ds g t = absurd t
 tied_inside : (phase : Phase) (values more : List PartialTree) (old new : Scope) (ds : List Definition) →
     (Busy values old ds → Busy more new ds) → Tied (inside phase) values old ds → Tied phase more new ds
 tied_inside Inside values more old new ds change t = change t
-tied_inside Outside values more old new ds change t = absurd t
-tied_inside Before values more old new ds change t = absurd t
-tied_inside Wrong values more old new ds change t = absurd t
+tied_inside phase values more old new ds change t = absurd t
 
 -- a definition begins
 tied_begun : (phase : Phase) (values : List PartialTree) (old new : Scope) (ds : List Definition) →
     (Quiet values old ds → Busy values new ds) → Tied (begun phase) values old ds → Tied phase values new ds
 tied_begun Inside values old new ds change t = change t
-tied_begun Outside values old new ds change t = absurd t
-tied_begun Before values old new ds change t = absurd t
-tied_begun Wrong values old new ds change t = absurd t
+tied_begun phase values old new ds change t = absurd t
 
 -- it ends
 tied_ended : (phase : Phase) (values : List PartialTree) (old new : Scope) (ds more : List Definition) →
     (Busy values old ds → Quiet [] new more) → Tied (outside_then Inside phase) values old ds → Tied phase [] new more
 tied_ended Outside values old new ds more change t = change t
-tied_ended Inside values old new ds more change t = absurd t
-tied_ended Before values old new ds more change t = absurd t
-tied_ended Wrong values old new ds more change t = absurd t
+tied_ended phase values old new ds more change t = absurd t
 
 -- Steps.
 
@@ -123,22 +112,6 @@ name_sound Defined name stack rest line left values scope ds k clean t =
             named = w.named;
           }) t;
     }
-name_sound External name stack rest line left values scope ds k clean t =
-    let g : Grows scope (scope_after_name External name line scope) ds =
-    role_grows External name line scope ds rest tt k clean in
-    record { scoped = g.scoped; tied = tied_grows (phase_of stack) values scope _ ds g t }
-name_sound Parameter name stack rest line left values scope ds k clean t =
-    let g : Grows scope (scope_after_name Parameter name line scope) ds =
-    role_grows Parameter name line scope ds rest tt k clean in
-    record { scoped = g.scoped; tied = tied_grows (phase_of stack) values scope _ ds g t }
-name_sound Typed name stack rest line left values scope ds k clean t =
-    let g : Grows scope (scope_after_name Typed name line scope) ds =
-    role_grows Typed name line scope ds rest tt k clean in
-    record { scoped = g.scoped; tied = tied_grows (phase_of stack) values scope _ ds g t }
-name_sound Local name stack rest line left values scope ds k clean t =
-    let g : Grows scope (scope_after_name Local name line scope) ds =
-    role_grows Local name line scope ds rest tt k clean in
-    record { scoped = g.scoped; tied = tied_grows (phase_of stack) values scope _ ds g t }
 name_sound Called name stack rest line left values scope ds k clean t =
     let g : Grows scope (scope_after_name Called name line scope) ds =
     role_grows Called name line scope ds rest tt k clean in
@@ -162,6 +135,9 @@ name_sound Mentioned name stack rest line left values scope ds k clean t =
           busy_grows values scope _ ds g b in
           record { within = (variable_in name scope, c.within); begun = c.begun; named = c.named }) t;
     }
+name_sound role name stack rest line left values scope ds k clean t =
+    let g = role_grows role name line scope ds rest tt k clean in
+    record { scoped = g.scoped; tied = tied_grows (phase_of stack) values scope _ ds g t }
 
 order-append : (ds : List Definition) (d : Definition) → order_of (ds ++ d ∷ []) ≡ order_of ds ++ d.number ∷ []
 order-append ds d = map-append (λ (x : Definition). x.number) ds (d ∷ [])
@@ -203,16 +179,15 @@ define_scoped values scope ds k b =
       distinct_variables = tt;
       distinct_functions = rw kept k.distinct_functions;
       named = rw kept
-          (names_append (names scope.functions) ds (definition_of scope (last_body values)) k.named b.named);
+          (at_append (λ (f : Function). f.name) (names scope.functions) ds (definition_of scope (last_body values))
+          k.named b.named);
     }
 
 -- a function that ends had begun
 pub ended : (phase : Phase) (values : List PartialTree) (scope : Scope) (ds : List Definition) →
     Tied (outside_then Inside phase) values scope ds → Busy values scope ds
 ended Outside values scope ds t = t
-ended Inside values scope ds t = absurd t
-ended Before values scope ds t = absurd t
-ended Wrong values scope ds t = absurd t
+ended phase values scope ds t = absurd t
 
 define_sound : (stack : List Item) (rest : List LocatedToken) (values : List PartialTree) (scope : Scope)
     (ds : List Definition) →
@@ -236,121 +211,55 @@ make_sound rule stack rest values scope ds k t =
           (λ b. record { within = made_in _ _ _ rule values b.within; begun = b.begun; named = b.named }) t;
     })
 
-abbrev IfSound : Option State → Type 0
-IfSound None = Unit {0}
-IfSound (Some s) = Sound s
-
-matched_sound : (fits : Bool) (stack : List Item) (rest : List LocatedToken) (values : List PartialTree) (scope : Scope)
-    (ds : List Definition) →
-    Sound (state stack rest values scope ds) → IfSound (matched fits (state stack rest values scope ds))
-matched_sound true stack rest values scope ds s = record { scoped = s.scoped; tied = s.tied }
-matched_sound false stack rest values scope ds s = tt
-
-constant_sound : (value : Option ℕ) (stack : List Item) (rest : List LocatedToken) (values : List PartialTree)
-    (scope : Scope)
-    (ds : List Definition) →
-    IsScoped scope ds → Tied (inside (phase_of stack)) values scope ds →
-    IfSound (constant_matched value (state stack rest values scope ds))
-constant_sound None stack rest values scope ds k t = tt
-constant_sound (Some value) stack rest values scope ds k t = record {
-  scoped = k;
-  tied = tied_inside (phase_of stack) values _ scope scope ds
-      (λ b. record { within = (tt, b.within); begun = b.begun; named = b.named }) t;
-}
-
-named_sound : (role : Role) (name : Option (List ℕ)) (stack : List Item) (rest : List LocatedToken)
-    (values : List PartialTree) (scope : Scope) (ds : List Definition) →
-    Clean (name_faults role name scope rest) → IsScoped scope ds →
-    Tied (by_role role (phase_of stack)) values scope ds →
-    IfSound (name_matched role name (state stack rest values scope ds))
-named_sound role None stack rest values scope ds clean k t = tt
-named_sound role (Some name) stack rest values scope ds clean k t =
-    name_sound role name stack rest (line_at rest) (drop 1 rest) values scope ds k clean t
-
-part_sound : (symbol : Symbol) (production : Production) (stack : List Item) (rest : List LocatedToken)
-    (values : List PartialTree) (scope : Scope) (ds : List Definition) →
-    choice symbol (next_token rest) (token_after_next rest) ≡ production →
-    Sound (state (Part symbol ∷ stack) rest values scope ds) →
-    IfSound (replaced production (state stack rest values scope ds))
-part_sound symbol None stack rest values scope ds e s = tt
-part_sound symbol (Some items) stack rest values scope ds e s = record {
-  scoped = s.scoped;
-  tied = tied_stays (phase_of (Part symbol ∷ stack)) (phase_of (items ++ stack)) values scope ds
-      (part_stays symbol (next_token rest) (token_after_next rest) items stack e) s.tied;
-}
-
-sound_of : (profile : Profile) (stack : List Item) (rest : List LocatedToken) (values : List PartialTree)
-    (scope : Scope)
-    (ds : List Definition) →
-    Clean (stack_faults profile stack (state stack rest values scope ds)) → Sound (state stack rest values scope ds) →
-    IfSound (stack_step stack (state stack rest values scope ds))
-sound_of profile [] rest values scope ds clean s = tt
-sound_of profile (Exactly m ∷ stack) rest values scope ds clean s =
-    matched_sound _ stack rest values scope ds (record { scoped = s.scoped; tied = s.tied })
-sound_of profile (AKeyword w ∷ stack) rest values scope ds clean s =
-    matched_sound _ stack rest values scope ds (record { scoped = s.scoped; tied = s.tied })
-sound_of profile (AName role ∷ stack) rest values scope ds clean s =
-    named_sound role (name_of_token (next_token rest)) stack rest values scope ds clean s.scoped s.tied
-sound_of profile (AConstant ∷ stack) rest values scope ds clean s =
-    constant_sound (constant_value (next_token rest)) stack rest values scope ds s.scoped s.tied
-sound_of profile (AnEnd ∷ stack) rest values scope ds clean s =
-    matched_sound _ stack rest values scope ds (record { scoped = s.scoped; tied = s.tied })
-sound_of profile (Part symbol ∷ stack) rest values scope ds clean s =
-    part_sound symbol _ stack rest values scope ds refl s
-sound_of profile (Make Define ∷ stack) rest values scope ds clean s =
-    define_sound stack rest values scope ds s.scoped s.tied
-sound_of profile (Make (Operate o) ∷ stack) rest values scope ds clean s =
-    make_sound (Operate o) stack rest values scope ds s.scoped s.tied
-sound_of profile (Make Negate ∷ stack) rest values scope ds clean s =
-    make_sound Negate stack rest values scope ds s.scoped s.tied
-sound_of profile (Make Not ∷ stack) rest values scope ds clean s =
-    make_sound Not stack rest values scope ds s.scoped s.tied
-sound_of profile (Make Complement ∷ stack) rest values scope ds clean s =
-    make_sound Complement stack rest values scope ds s.scoped s.tied
-sound_of profile (Make Fetch ∷ stack) rest values scope ds clean s =
-    make_sound Fetch stack rest values scope ds s.scoped s.tied
-sound_of profile (Make (Store o) ∷ stack) rest values scope ds clean s =
-    make_sound (Store o) stack rest values scope ds s.scoped s.tied
-sound_of profile (Make (PrefixIncrement o) ∷ stack) rest values scope ds clean s =
-    make_sound (PrefixIncrement o) stack rest values scope ds s.scoped s.tied
-sound_of profile (Make (PostfixIncrement o) ∷ stack) rest values scope ds clean s =
-    make_sound (PostfixIncrement o) stack rest values scope ds s.scoped s.tied
-sound_of profile (Make AddArgument ∷ stack) rest values scope ds clean s =
-    make_sound AddArgument stack rest values scope ds s.scoped s.tied
-sound_of profile (Make Invoke ∷ stack) rest values scope ds clean s =
-    make_sound Invoke stack rest values scope ds s.scoped s.tied
-sound_of profile (Make Empty ∷ stack) rest values scope ds clean s =
-    make_sound Empty stack rest values scope ds s.scoped s.tied
-sound_of profile (Make Evaluate ∷ stack) rest values scope ds clean s =
-    make_sound Evaluate stack rest values scope ds s.scoped s.tied
-sound_of profile (Make Decide ∷ stack) rest values scope ds clean s =
-    make_sound Decide stack rest values scope ds s.scoped s.tied
-sound_of profile (Make DecideElse ∷ stack) rest values scope ds clean s =
-    make_sound DecideElse stack rest values scope ds s.scoped s.tied
-sound_of profile (Make Repeat ∷ stack) rest values scope ds clean s =
-    make_sound Repeat stack rest values scope ds s.scoped s.tied
-sound_of profile (Make Zero ∷ stack) rest values scope ds clean s =
-    make_sound Zero stack rest values scope ds s.scoped s.tied
-sound_of profile (Make GiveBack ∷ stack) rest values scope ds clean s =
-    make_sound GiveBack stack rest values scope ds s.scoped s.tied
-sound_of profile (Close ∷ stack) rest values scope ds clean s = record { scoped = s.scoped; tied = s.tied }
-
-guarded_sound : (b : Bool) (rest : List LocatedToken) (xs ys : List Fault) (o : Option State) →
-    (if b then unexpected_token rest else xs ++ ys) ≡ [] → (xs ≡ [] → IfSound o) → IfSound (if b then None else o)
-guarded_sound true rest xs ys o e h = tt
-guarded_sound false rest xs ys o e h = h (append_empty xs ys e).0
-
-kept_sound : (s : State) (o : Option State) → Sound s → IfSound o → Sound (unwrap_or o s)
-kept_sound s None h k = h
-kept_sound s (Some t) h k = k
+sound_of : (profile : Profile) (stack : List Item) (s : State) →
+    Clean (stack_faults profile stack (record s { stack = stack })) → Sound (record s { stack = stack }) →
+    IfStepped Sound (stack_step stack s)
+sound_of profile [] s clean h = tt
+sound_of profile (Exactly m ∷ stack) s clean h =
+    if_matched Sound _ stack s (λ e. record { scoped = h.scoped; tied = h.tied })
+sound_of profile (AKeyword w ∷ stack) s clean h =
+    if_matched Sound _ stack s (λ e. record { scoped = h.scoped; tied = h.tied })
+sound_of profile (AName role ∷ stack) s clean h =
+    if_named Sound role _ stack s
+    (λ name e. name_sound role name stack s.rest (line_at s.rest) (drop 1 s.rest) s.values s.scope s.functions h.scoped
+    (subst (λ (n : Option (List ℕ)). Clean (name_faults role n s.scope s.rest)) e clean) h.tied)
+sound_of profile (AConstant ∷ stack) s clean h =
+    if_constant Sound _ stack s
+    (λ n e. record {
+      scoped = h.scoped;
+      tied = tied_inside (phase_of stack) s.values _ s.scope s.scope s.functions
+          (λ b. record { within = (tt, b.within); begun = b.begun; named = b.named }) h.tied;
+    })
+sound_of profile (AnEnd ∷ stack) s clean h =
+    if_matched Sound _ stack s (λ e. record { scoped = h.scoped; tied = h.tied })
+sound_of profile (Part symbol ∷ stack) s clean h =
+    if_replaced Sound _ stack s
+    (λ items e. record {
+      scoped = h.scoped;
+      tied = tied_stays (phase_of (Part symbol ∷ stack)) (phase_of (items ++ stack)) s.values s.scope s.functions
+          (part_stays symbol (next_token s.rest) (token_after_next s.rest) items stack e) h.tied;
+    })
+sound_of profile (Make Define ∷ stack) s clean h =
+    define_sound stack s.rest s.values s.scope s.functions h.scoped h.tied
+sound_of profile (Make rule ∷ stack) s clean h =
+    make_sound rule stack s.rest s.values s.scope s.functions h.scoped h.tied
+sound_of profile (Close ∷ stack) s clean h = record { scoped = h.scoped; tied = h.tied }
 
 pub stepped_sound : (profile : Profile) (s : State) → faults_at profile s ≡ [] → Sound s → Sound (stepped s)
-stepped_sound profile s clean h = kept_sound s (step s) h
-    (guarded_sound (is_lexical_error (next_token s.rest)) s.rest
-    (stack_faults profile s.stack s)
-    (unexpected_tokens s.stack s.rest (stack_step s.stack s))
-    (stack_step s.stack s) clean
-    (λ c. sound_of profile s.stack s.rest s.values s.scope s.functions c (record { scoped = h.scoped; tied = h.tied })))
+stepped_sound profile s clean h = by (is_lexical_error (next_token s.rest)) clean
+  where
+    by : (b : Bool) →
+        (if b then unexpected_token s.rest else stack_faults profile s.stack s
+        ++ unexpected_tokens s.stack s.rest (stack_step s.stack s)) ≡ [] →
+        Sound (unwrap_or (if b then None else stack_step s.stack s) s)
+    by true e = h
+    by false e = by_step (stack_step s.stack s)
+        (sound_of profile s.stack s (append_empty (stack_faults profile s.stack s) _ e).0
+        (record { scoped = h.scoped; tied = h.tied }))
+      where
+        by_step : (next : Option State) → IfStepped Sound next → Sound (unwrap_or next s)
+        by_step None k = h
+        by_step (Some t) k = k
 
 pub run_sound : (profile : Profile) (n : ℕ) (s : State) → faults_in profile n s ≡ [] → Sound s → Sound (derived n s)
 run_sound profile zero s clean h = h
@@ -500,24 +409,6 @@ distinct_of Inside values scope ds h t =
     distinct_front (order_of ds) scope.number (subst (λ (ns : List ℕ). AreDistinct ns) t.begun h)
 distinct_of Wrong values scope ds h t = absurd t
 
--- a function of this number is named as it was mentioned
-named_as : (all : List (List ℕ)) (k : ℕ) (f : Function) (ds : List Definition) → HaveNames all ds →
-    defined_as k ds ≡ Some f → slice_get all k ≡ Some f.name
-named_as all k f [] h is = absurd (cc)
-named_as all k f (d ∷ ds) h is = at_test (λ g. named_as all k f ds h.1 g) (d.number == k) refl is
-  where
-    same_number : (x y : ℕ) → (x == y) ≡ true → x ≡ y
-    same_number x y e = grind (arith, nat_tests)
-
-    at_test : (defined_as k ds ≡ Some f → slice_get all k ≡ Some f.name) → (b : Bool) → (d.number == k) ≡ b →
-        (if b then Some d.function else defined_as k ds) ≡ Some f
-        → slice_get all k ≡ Some f.name
-    at_test again true e g =
-        let same : d.function ≡ f = cc in
-        subst (λ (n : ℕ). slice_get all n ≡ Some f.name) (same_number d.number k e)
-        (h.0 ∙ ap (λ (x : Function). Some x.name) same)
-    at_test again false e g = again g
-
 -- so the functions' names are those that were mentioned
 defined_names : (functions : List FunctionNames) (lines : List ℕ) (ds : List Definition) (all : List Function) →
     AreDefined 0 lines ds all → HaveNames (names functions) ds
@@ -525,7 +416,7 @@ defined_names : (functions : List FunctionNames) (lines : List ℕ) (ds : List D
 defined_names functions lines ds all a h count =
     map_by_index (λ (f : Function). f.name) all (names functions)
     (count ∙ sym (length-map functions (λ (f : FunctionNames). f.name)))
-    (λ k f e. named_as (names functions) k f ds h
+    (λ k f e. part_at (λ (f : Function). f.name) (names functions) k f ds h
     (subst (λ (n : ℕ). defined_as n ds ≡ Some f) (from_zero k) (a.each k f e)))
   where
     from_zero : (k : ℕ) → 0 + k ≡ k
@@ -570,18 +461,11 @@ is_clean located_tokens (f ∷ faults) scope ds file e = absurd (cc)
 
 pub compiled_is_resolved : CompiledIsResolved
 compiled_is_resolved profile located_tokens file e =
-    let c : IsClean located_tokens (all_faults profile located_tokens) (last_state located_tokens).scope
-    (last_state located_tokens).functions file =
-    is_clean located_tokens (all_faults profile located_tokens) (last_state located_tokens).scope
-    (last_state located_tokens).functions file e in
-    let s : Sound (last_state located_tokens) =
+    let last = last_state located_tokens in
+    let c = is_clean located_tokens (all_faults profile located_tokens) last.scope last.functions file e in
+    let s =
     run_sound profile (enough_steps located_tokens) (initial_state located_tokens) c.clean (start_sound located_tokens)
     in
-    let m : IsMade (last_state located_tokens).scope (order_of (last_state located_tokens).functions)
-    (all_defined 0 (last_state located_tokens).scope.lines (last_state located_tokens).functions)
-    (function_number main_name (last_state located_tokens).scope) file =
-    is_made (last_line located_tokens) (last_state located_tokens).scope
-    (order_of (last_state located_tokens).functions)
-    (all_defined 0 (last_state located_tokens).scope.lines (last_state located_tokens).functions)
-    (function_number main_name (last_state located_tokens).scope) file c.is in
-    subst (λ (x : File). IsResolved x) m.is (resolved_of (last_state located_tokens) m.all m.number s m.found m.named)
+    let m = is_made (last_line located_tokens) last.scope (order_of last.functions)
+    (all_defined 0 last.scope.lines last.functions) (function_number main_name last.scope) file c.is in
+    subst (λ (x : File). IsResolved x) m.is (resolved_of last m.all m.number s m.found m.named)

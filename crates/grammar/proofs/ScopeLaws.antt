@@ -20,6 +20,7 @@ use Rattle.grammar.specs.Laws.Index.{NoFunctionBefore}
 use Rattle.grammar.specs.Laws.Naming.{IsScopeKept, LearnsName, line_of_undefined}
 use Rattle.grammar.specs.Pools.{FunctionNames}
 use Rattle.grammar.specs.Scope.{Scope, is_local_new, is_function_new, function_number, number_of_name, only_named, with_new_function}
+use Rattle.grammar.specs.NameLimits.{most_names}
 
 position_or_len_of_map : {A B : Type 0} (p : B → Bool) (f : A → B) (xs : List A) →
     position_or_len p (map f xs) ≡ position_or_len (λ x. p (f x)) xs
@@ -31,12 +32,13 @@ pub position_of_map : {A B : Type 0} (p : B → Bool) (f : A → B) (xs : List A
 position_of_map p f xs = ap₂ (λ n m. cond (nat_lt n m) (Some n) None) (position_or_len_of_map p f xs) (length-map xs f)
 
 -- a new name that finds room
-pub room : (new : Bool) (n : ℕ) (c : Code) (rest : List LocatedToken) → nat_le 64 n ≡ false → no_room new n c rest ≡ []
+pub room : (new : Bool) (n : ℕ) (c : Code) (rest : List LocatedToken) → nat_le most_names n ≡ false →
+    no_room new n c rest ≡ []
 room false n c rest small = refl
 room true n c rest small = rw small refl
 
 -- and one that finds none
-pub full : (new : Bool) (n : ℕ) (c : Code) (rest : List LocatedToken) → new ≡ true → nat_le 64 n ≡ true →
+pub full : (new : Bool) (n : ℕ) (c : Code) (rest : List LocatedToken) → new ≡ true → nat_le most_names n ≡ true →
     no_room new n c rest ≡ fault rest c ∷ []
 full new n c rest is large = rw (is, large) refl
 
@@ -44,11 +46,11 @@ full new n c rest is large = rw (is, large) refl
 pub not_new : (new : Bool) (n : ℕ) (c : Code) (rest : List LocatedToken) → new ≡ false → no_room new n c rest ≡ []
 not_new new n c rest is = rw is refl
 
-pub below_most : (n : ℕ) → nat_le 64 n ≡ false → n < 64
+pub below_most : (n : ℕ) → nat_le most_names n ≡ false → n < most_names
 below_most n h = grind (arith, nat_tests)
 
 pub parameter_full : (name : List ℕ) (scope : Scope) (rest : List LocatedToken) → is_local_new name scope ≡ true →
-    nat_le 64 (length scope.current.variables) ≡ true →
+    nat_le most_names (length scope.current.variables) ≡ true →
     parameter_faults name scope rest ≡ fault rest fault_code.TooManyVariables ∷ []
 parameter_full name scope rest new large =
     rw new (full true (length scope.current.variables) fault_code.TooManyVariables rest refl large)
@@ -116,7 +118,7 @@ function_new name scope own unknown = rw (own, unknown) refl
 
 -- one function too many is called
 pub called_full : (name : List ℕ) (scope : Scope) (rest : List LocatedToken) → intrinsic_named name ≡ None →
-    function_number name scope ≡ None → nat_le 64 (length scope.functions) ≡ true →
+    function_number name scope ≡ None → nat_le most_names (length scope.functions) ≡ true →
     no_room (is_function_new name scope) (length scope.functions) fault_code.TooManyFunctions rest ≡
     fault rest fault_code.TooManyFunctions ∷ []
 called_full name scope rest own unknown large =
@@ -125,7 +127,7 @@ called_full name scope rest own unknown large =
 
 -- a function is called for the first time
 pub called_new : (name : List ℕ) (line : ℕ) (scope new : Scope) → intrinsic_named name ≡ None →
-    function_number name scope ≡ None → nat_le 64 (length scope.functions) ≡ false →
+    function_number name scope ≡ None → nat_le most_names (length scope.functions) ≡ false →
     new ≡ with_new_function name line scope → LearnsName Called name line scope new
 called_new name line scope new own unknown small e = rw e (record {
   clean = λ rest. room (is_function_new name scope) (length scope.functions) fault_code.TooManyFunctions rest small;
@@ -174,7 +176,7 @@ kept_begun functions lines begun n kept within new = record {
 -- and there is room for it
 pub room_begun : {F : Type 0} (functions : List F) (lines begun : List ℕ) (n : ℕ) → IsScopeKept functions lines begun →
     n < length functions → list_any (λ k. eqb k n) begun ≡ false
-    → length begun < 64
+    → length begun < most_names
 room_begun functions lines begun n kept within new =
     let more = kept_begun functions lines begun n kept within new in
     let most = length-le_from_distinct_below (begun ++ n ∷ []) (length functions) more.once more.within in

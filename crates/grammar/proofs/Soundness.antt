@@ -19,7 +19,8 @@ use Rattle.grammar.specs.Resolved.{IsVariable, IsCallable, InExpr, InArgs, InBod
 use Rattle.grammar.specs.Scope.{Scope, number_of_name, function_number, variable_of, callee_or, callee_of, is_variable_new, is_local_new, is_external_new, is_function_new, number_or_next, has_begun, with_variable, with_parameter, with_external, with_function, scope_after_name, begun_with, begin_definition, only_named}
 use Rattle.grammar.specs.Tree as tree
 use Rattle.grammar.specs.Tree.{Expr, Args, Body, add_argument, join}
-use Rattle.grammar.proofs.DistinctNames.{among_append, distinct_append, less_of, local_free, external_free, variable_free, function_free, names, names_more, named_there, HaveNames, names_wider}
+use Rattle.grammar.specs.NameLimits.{most_names}
+use Rattle.grammar.proofs.DistinctNames.{among_append, distinct_append, less_of, local_free, external_free, variable_free, function_free, names, names_more, named_there, HaveNames, at_wider}
 use Rattle.grammar.proofs.Indices.{get_append}
 use Rattle.grammar.proofs.Widening.{IsWider, expr_wider, args_wider, body_wider, variable_wider, callable_wider, function_wider}
 
@@ -148,20 +149,20 @@ function_below name scope k e =
     )
 
 -- if there is room for a name that is new
-pub room : (count : ℕ) (c : Code) (rest : List LocatedToken) → no_room true count c rest ≡ [] → count < 64
-room count c rest e = below (nat_le 64 count) refl e
+pub room : (count : ℕ) (c : Code) (rest : List LocatedToken) → no_room true count c rest ≡ [] → count < most_names
+room count c rest e = below (nat_le most_names count) refl e
   where
-    below : (b : Bool) → nat_le 64 count ≡ b → (if b then fault rest c ∷ [] else []) ≡ [] → count < 64
+    below : (b : Bool) → nat_le most_names count ≡ b → (if b then fault rest c ∷ [] else []) ≡ [] → count < most_names
     below true is h = absurd (cc)
     below false is h = grind (arith, nat_tests)
 
 -- The names in scope.
 
 pub record IsScoped (scope : Scope) (ds : List Definition) : Type 0 where
-  pub externals : length scope.externals ≤ 64
-  pub functions : length scope.functions ≤ 64
+  pub externals : length scope.externals ≤ most_names
+  pub functions : length scope.functions ≤ most_names
   pub lines : length scope.lines ≡ length scope.functions
-  pub variables : length scope.current.variables ≤ 64
+  pub variables : length scope.current.variables ≤ most_names
   pub parameters : scope.current.parameters ≤ length scope.current.variables
   pub definitions : AllIn (length scope.externals) (length scope.functions) ds
   pub begun : AreDistinct scope.begun
@@ -194,7 +195,7 @@ same_grows scope ds k =
     }
 
 external_grows : (name : List ℕ) (scope : Scope) (ds : List Definition) → IsScoped scope ds →
-    length scope.externals < 64 →
+    length scope.externals < most_names →
     is_external_new name scope ≡ true → Grows scope (with_external name scope) ds
 external_grows name scope ds k less new =
     let longer : length (scope.externals ++ name ∷ []) ≡ length scope.externals + 1 =
@@ -223,7 +224,7 @@ external_grows name scope ds k less new =
 
 -- one variable more, of which this many are parameters
 local_grows : (name : List ℕ) (parameters : ℕ) (scope : Scope) (ds : List Definition) → IsScoped scope ds →
-    length scope.current.variables < 64 → parameters ≤ length scope.current.variables + 1 →
+    length scope.current.variables < most_names → parameters ≤ length scope.current.variables + 1 →
     (IsAmong name scope.current.variables → ⊥) →
     Grows scope
     (record scope {
@@ -256,19 +257,19 @@ local_grows name parameters scope ds k less few free =
     }
 
 variable_grows : (name : List ℕ) (scope : Scope) (ds : List Definition) → IsScoped scope ds →
-    length scope.current.variables < 64
+    length scope.current.variables < most_names
     → (IsAmong name scope.current.variables → ⊥) → Grows scope (with_variable name scope) ds
 variable_grows name scope ds k less =
     local_grows name scope.current.parameters scope ds k less (omega (arith, k.parameters))
 
 parameter_grows : (name : List ℕ) (scope : Scope) (ds : List Definition) → IsScoped scope ds →
-    length scope.current.variables < 64
+    length scope.current.variables < most_names
     → (IsAmong name scope.current.variables → ⊥) → Grows scope (with_parameter name scope) ds
 parameter_grows name scope ds k less =
     local_grows name (scope.current.parameters + 1) scope ds k less (omega (arith, k.parameters))
 
 function_grows : (name : List ℕ) (line : ℕ) (scope : Scope) (ds : List Definition) → IsScoped scope ds →
-    (is_function_new name scope ≡ true → length scope.functions < 64) →
+    (is_function_new name scope ≡ true → length scope.functions < most_names) →
     Grows scope (with_function name line scope) ds
 function_grows name line scope ds k less = at_test (is_function_new name scope) refl
   where
@@ -281,7 +282,7 @@ function_grows name line scope ds k less = at_test (is_function_new name scope) 
         { functions = scope.functions ++ only_named name ∷ []; lines = scope.lines ++ line ∷ [] } else scope) ds
     at_test false is = same_grows scope ds k
     at_test true is =
-        let small : length scope.functions < 64 = less is in
+        let small : length scope.functions < most_names = less is in
         let longer : length (scope.functions ++ only_named name ∷ []) ≡ length scope.functions + 1 =
         length-append scope.functions (only_named name ∷ []) in
         let lines : length (scope.lines ++ line ∷ []) ≡ length scope.lines + 1 =
@@ -300,7 +301,8 @@ function_grows name line scope ds k less = at_test (is_function_new name scope) 
             distinct_variables = k.distinct_variables;
             distinct_functions = rw (names_more scope.functions name)
                 (distinct_append (names scope.functions) name k.distinct_functions (function_free name scope is));
-            named = rw (names_more scope.functions name) (names_wider (names scope.functions) (name ∷ []) ds k.named);
+            named = rw (names_more scope.functions name)
+                (at_wider (λ (f : tree.Function). f.name) (names scope.functions) (name ∷ []) ds k.named);
           };
           wider = record { externals = omega arith; locals = omega arith; functions = omega arith };
           begun = refl;
@@ -318,7 +320,7 @@ Clean faults = faults ≡ []
 
 -- if there is no room for a new name there is a fault
 room_if : (new : Bool) (count : ℕ) (c : Code) (rest : List LocatedToken) → Clean (no_room new count c rest) →
-    new ≡ true → count < 64
+    new ≡ true → count < most_names
 room_if true count c rest clean is = room count c rest clean
 room_if false count c rest clean is = absurd (cc)
 

@@ -12,6 +12,7 @@ use Rattle.arith.specs.Op.{is_logic}
 use Rattle.grammar.specs.Laws.Origins.{origin_of, ends_in_return}
 use Rattle.grammar.specs.Resolved.{InExpr, InBody}
 use Rattle.grammar.specs.Tree.{Expr, Body, Done, ExpressionStatement, IfStatement, IfElseStatement, While, Return, join}
+use Rattle.grammar.specs.NameLimits.{most_names}
 use Rattle.grammar.proofs.Soundness.{join_in}
 
 -- a body whose statements are not all there, with what is around it
@@ -63,18 +64,18 @@ context_count p = open_count (open_context p)
 abbrev pub hole_count : Hole → ℕ
 hole_count h = open_count (open_hole h)
 
--- Numbers below 64, and little enough open.
+-- Numbers of names, and little enough open.
 
 pub record ExprFits (n : ℕ) (e : Expr) : Type 0 where
-  pub names : InExpr 64 64 64 e
+  pub names : InExpr most_names most_names most_names e
   pub few : n + nesting e ≤ 200
 
 pub record BodyFits (n : ℕ) (b : Body) : Type 0 where
-  pub names : InBody 64 64 64 b
+  pub names : InBody most_names most_names most_names b
   pub few : n + body_nesting b ≤ 200
 
 abbrev pub ContextFits : Context → Type 0
-ContextFits (InFun n k b) = (n < 64) × (k ≤ 64) × BodyFits 0 b
+ContextFits (InFun n k b) = (n < most_names) × (k ≤ most_names) × BodyFits 0 b
 ContextFits (InFirst c b outer) =
     ContextFits outer × ExprFits (context_count outer) c × BodyFits (1 + context_count outer) b
 ContextFits (InSecond c s b outer) =
@@ -122,7 +123,9 @@ nesting-join n (While c t rest) s h k = let more = nesting-join n rest s (omega 
 nesting-join n (Return e rest) s h k = let more = nesting-join n rest s (omega (arith, h)) k in omega (arith, h, more)
 
 pub fits-join : (n : ℕ) (b s : Body) → BodyFits n b → BodyFits n s → BodyFits n (join b s)
-fits-join n b s f g = record { names = join_in 64 64 64 b s f.names g.names; few = nesting-join n b s f.few g.few }
+fits-join n b s f g =
+    record
+    { names = join_in most_names most_names most_names b s f.names g.names; few = nesting-join n b s f.few g.few }
 
 -- A statement more.
 

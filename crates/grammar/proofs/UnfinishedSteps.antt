@@ -16,12 +16,14 @@ use Rattle.grammar.specs.declared.actions.Action.TheVariants.{BeginWhile, WhileT
 use Rattle.grammar.specs.declared.actions.Action.TheVariants.{BeginFunction, EndFunction}
 use Rattle.grammar.specs.Actions.{expr_actions, args_actions, body_actions}
 use Rattle.grammar.specs.Following.{AValue, BeforeRight, InCall, InBranch, InElse, BeforeTest, Opened, ValueCategory, Number, Fetched, Incremented, Computed, open_count, may_take_statement, is_number, is_increment, is_var_numbered, is_callee_numbered, same_var, same_op, stored_origin, statement_done, call_done, only_on, opens_within, follow}
-use Rattle.grammar.specs.Nesting.{nesting, args_nesting, body_nesting, right_side}
+use Rattle.grammar.specs.Nesting.{args_nesting, right_side}
 use Rattle.arith.specs.Op.{is_logic}
 use Rattle.grammar.specs.Laws.Origins.{origin_of, ends_in_return}
 use Rattle.grammar.specs.Resolved.{IsVariable, IsCallable, InArgs}
 use Rattle.grammar.specs.Tree.{Expr, Constant, Variable, Binary, Assign, Postfix, Call, Args, NoMore, Argument, Body, Done, ExpressionStatement, IfStatement, IfElseStatement, While, Return}
+use Rattle.grammar.specs.NameLimits.{most_names}
 use Rattle.grammar.proofs.FollowingLaws.{same_op_is}
+use Rattle.grammar.proofs.Indices.{some_same}
 use Rattle.grammar.proofs.Unfinished.{Context, InFun, InFirst, InSecond, InLoop, Hole, Statement, Test, Behind, RightSide, Arguments, open_context, open_hole, context_actions, hole_actions, context_count, hole_count, BodyFits, ContextFits, HoleFits, add, add_actions, add_fits, add_opens, within_hole}
 
 -- the action neither begins a function nor ends one
@@ -36,9 +38,6 @@ pub record Steps (a : Action) (h : Hole) (q : Opened) : Type 0 where
   pub opens : open_hole next ≡ q
   pub adds : hole_actions next ≡ hole_actions h ++ a ∷ []
   pub fits : HoleFits next
-
-some_same : (p q : Opened) → Some p ≡ Some q → p ≡ q
-some_same p q e = cc
 
 -- if a test passes
 pub only_true : (b : Bool) (p q : Opened) → only_on b p ≡ Some q → (b ≡ true) × (p ≡ q)
@@ -55,11 +54,11 @@ if_false false p q e = (refl, some_same p q e)
 
 -- Numbers in range, and what is tested of values.
 
-pub variable_in : (v : Var) → is_var_numbered v ≡ true → IsVariable 64 64 v
+pub variable_in : (v : Var) → is_var_numbered v ≡ true → IsVariable most_names most_names v
 variable_in (var.Local n) h = grind (arith, nat_tests)
 variable_in (var.External n) h = grind (arith, nat_tests)
 
-pub callee_in : (f : Callee) → is_callee_numbered f ≡ true → IsCallable 64 f
+pub callee_in : (f : Callee) → is_callee_numbered f ≡ true → IsCallable most_names f
 callee_in (callee.Function n) h = grind (arith, nat_tests)
 callee_in (callee.Intrinsic i) h = tt
 
@@ -148,28 +147,28 @@ binop : (op : Op) (h : Hole) (q : Opened) → HoleFits h → follow (ApplyBinop 
 binop op (Behind r (Behind l h)) q fits e small =
     let both = if_false (is_logic op) (AValue Computed ∷ open_hole h) q e in
     let none : right_side op ≡ 0 = rw both.0 refl in
-    let few_left : hole_count h + nesting l ≤ 200 = fits.0.1.few in
-    let few_right : 0 + hole_count h + nesting r ≤ 200 = fits.1.few in
     record {
       next = Behind (Binary op l r) h;
       opens = both.1;
       adds = rw both.0 (simp append_assoc refl);
-      fits =
-          (fits.0.0, record { names = (fits.0.1.names, fits.1.names); few = omega (arith, few_left, few_right, none) });
+      fits = (
+        fits.0.0,
+        record { names = (fits.0.1.names, fits.1.names); few = omega (arith, fits.0.1.few, fits.1.few, none) },
+      );
     }
 binop op (Behind r (RightSide o l h)) q fits e small =
     let both = only_true (same_op op o) (AValue Computed ∷ open_hole h) q e in
     let same : op ≡ o = same_op_is op o both.0 in
     let logic : is_logic op ≡ true = ap is_logic same ∙ fits.0.2 in
     let one : right_side op ≡ 1 = rw logic refl in
-    let few_left : hole_count h + nesting l ≤ 200 = fits.0.1.few in
-    let few_right : 1 + (0 + hole_count h) + nesting r ≤ 200 = fits.1.few in
     record {
       next = Behind (Binary op l r) h;
       opens = both.1;
       adds = rw (logic, sym same) (simp append_assoc refl);
-      fits =
-          (fits.0.0, record { names = (fits.0.1.names, fits.1.names); few = omega (arith, few_left, few_right, one) });
+      fits = (
+        fits.0.0,
+        record { names = (fits.0.1.names, fits.1.names); few = omega (arith, fits.0.1.few, fits.1.few, one) },
+      );
     }
 binop op (Behind r (Statement (InFun n k b))) q fits e small = absurd (cc)
 binop op (Statement (InFun n k b)) q fits e small = absurd (cc)
@@ -203,15 +202,14 @@ record Collected (h : Hole) (args : Args) (q : Opened) : Type 0 where
   opens : AValue Computed ∷ open_hole outer ≡ q
   adds : hole_actions outer ++ BeginCall ∷ args_actions all ≡ hole_actions h ++ args_actions args
   fits : HoleFits outer
-  names : InArgs 64 64 64 all
+  names : InArgs most_names most_names most_names all
   few : hole_count outer + (1 + args_nesting all) ≤ 200
 
-collect : (h : Hole) (args : Args) (q : Opened) → HoleFits h → InArgs 64 64 64 args →
+collect : (h : Hole) (args : Args) (q : Opened) → HoleFits h → InArgs most_names most_names most_names args →
     hole_count h + args_nesting args ≤ 200 → call_done (open_hole h) ≡ Some q → Collected h args q
 collect (Behind x h) args q fits names small e =
-    let few : hole_count h + nesting x ≤ 200 = fits.1.few in
     let c : Collected h (Argument x args) q =
-    collect h (Argument x args) q fits.0 (fits.1.names, names) (omega (arith, small, few)) e in
+    collect h (Argument x args) q fits.0 (fits.1.names, names) (omega (arith, small, fits.1.few)) e in
     record {
       outer = c.outer;
       all = c.all;
@@ -290,19 +288,14 @@ else_part h q fits e small = absurd (cc)
 end_if : (h : Hole) (q : Opened) → HoleFits h → follow EndIf (open_hole h) ≡ Some q → open_count q ≤ 200 →
     Steps EndIf h q
 end_if (Statement (InFirst c s p)) q fits e small =
-    let few_test : context_count p + nesting c ≤ 200 = fits.1.few in
-    let few_first : 1 + context_count p + body_nesting s ≤ 200 = fits.2.few in
     settled EndIf (Statement (InFirst c s p)) p (IfStatement c s Done) false q fits.0
-    (record { names = (fits.1.names, fits.2.names, tt); few = omega (arith, few_test, few_first) }) (λ before. refl)
+    (record { names = (fits.1.names, fits.2.names, tt); few = omega (arith, fits.1.few, fits.2.few) }) (λ before. refl)
     e (simp append_assoc refl)
 end_if (Statement (InSecond c s t p)) q fits e small =
-    let few_test : context_count p + nesting c ≤ 200 = fits.1.few in
-    let few_first : 1 + context_count p + body_nesting s ≤ 200 = fits.2.few in
-    let few_second : 1 + context_count p + body_nesting t ≤ 200 = fits.3.few in
     settled EndIf (Statement (InSecond c s t p)) p (IfElseStatement c s t Done) false q fits.0
     (record {
       names = (fits.1.names, fits.2.names, fits.3.names, tt);
-      few = omega (arith, few_test, few_first, few_second);
+      few = omega (arith, fits.1.few, fits.2.few, fits.3.few);
     }) (λ before. refl) e (simp append_assoc refl)
 end_if h q fits e small = absurd (cc)
 
@@ -316,12 +309,15 @@ begin_while h q fits e small = absurd (cc)
 while_test : (h : Hole) (q : Opened) → HoleFits h → follow WhileTest (open_hole h) ≡ Some q → open_count q ≤ 200 →
     Steps WhileTest h q
 while_test (Behind c (Test p)) q fits e small =
-    let few : 1 + context_count p + nesting c ≤ 200 = fits.1.few in
     record {
       next = Statement (InLoop c Done p);
       opens = some_same _ q e;
       adds = simp append_assoc refl;
-      fits = (fits.0.0, record { names = fits.1.names; few = few }, record { names = tt; few = omega (arith, few) });
+      fits = (
+        fits.0.0,
+        record { names = fits.1.names; few = fits.1.few },
+        record { names = tt; few = omega (arith, fits.1.few) },
+      );
     }
 while_test (Behind c (Statement (InFun n k b))) q fits e small = absurd (cc)
 while_test (Statement (InFun n k b)) q fits e small = absurd (cc)
@@ -330,19 +326,16 @@ while_test h q fits e small = absurd (cc)
 end_while : (h : Hole) (q : Opened) → HoleFits h → follow EndWhile (open_hole h) ≡ Some q → open_count q ≤ 200 →
     Steps EndWhile h q
 end_while (Statement (InLoop c s p)) q fits e small =
-    let few_test : 1 + context_count p + nesting c ≤ 200 = fits.1.few in
-    let few_turn : 1 + context_count p + body_nesting s ≤ 200 = fits.2.few in
     settled EndWhile (Statement (InLoop c s p)) p (While c s Done) false q fits.0
-    (record { names = (fits.1.names, fits.2.names, tt); few = omega (arith, few_test, few_turn) }) (λ before. refl)
+    (record { names = (fits.1.names, fits.2.names, tt); few = omega (arith, fits.1.few, fits.2.few) }) (λ before. refl)
     e (simp append_assoc refl)
 end_while h q fits e small = absurd (cc)
 
 give_back : (h : Hole) (q : Opened) → HoleFits h → follow GiveBack (open_hole h) ≡ Some q → open_count q ≤ 200 →
     Steps GiveBack h q
 give_back (Behind x (Statement p)) q fits e small =
-    let few : context_count p + nesting x ≤ 200 = fits.1.few in
     settled GiveBack (Behind x (Statement p)) p (Return x Done) (is_number 0 (origin_of x)) q fits.0
-    (record { names = (fits.1.names, tt); few = omega (arith, few) }) (λ before. refl) e
+    (record { names = (fits.1.names, tt); few = omega (arith, fits.1.few) }) (λ before. refl) e
     (sym (append_assoc (context_actions p) (expr_actions x) (GiveBack ∷ [])))
 give_back (Statement (InFun n k b)) q fits e small = absurd (cc)
 give_back h q fits e small = absurd (cc)
@@ -377,9 +370,8 @@ chop_step (Call f args) y h q fits is small = absurd (cc)
 
 chop : (h : Hole) (q : Opened) → HoleFits h → follow Chop (open_hole h) ≡ Some q → open_count q ≤ 200 → Steps Chop h q
 chop (Behind x (Statement p)) q fits e small =
-    let few : context_count p + nesting x ≤ 200 = fits.1.few in
     settled Chop (Behind x (Statement p)) p (ExpressionStatement x Done) false q fits.0
-    (record { names = (fits.1.names, tt); few = omega (arith, few) }) (λ before. refl)
+    (record { names = (fits.1.names, tt); few = omega (arith, fits.1.few) }) (λ before. refl)
     (sym (chop_context (origin_of x) p) ∙ e)
     (sym (append_assoc (context_actions p) (expr_actions x) (Chop ∷ [])))
 chop (Behind x (Behind y h)) q fits e small = chop_step x y h q fits e small

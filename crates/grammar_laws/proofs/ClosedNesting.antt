@@ -8,7 +8,7 @@ use Rattle.tokens.specs.declared.located_tokens.Token.TheVariants as token
 use Rattle.tokens.specs.declared.located_tokens.Keyword.TheVariants as keyword
 use Rattle.arith.specs.declared.operators.Op.{Op}
 use Rattle.grammar.specs.declared.operators.StoreOp.{StoreOp}
-use Rattle.grammar.specs.Grammar.{Symbol, Source, Types, Head, More, Parameters, ParameterTypes, FunctionBlock, Block, Declarations, Statements, Statement, ElsePart, Back, Expression, Level, Tail, Unary, Primary, Arguments, MoreArguments, Part, choice, enters, assignment_or, tail_production}
+use Rattle.grammar.specs.Grammar.{Symbol, Head, Expression, Level, Tail, Unary, Primary, Part, choice, enters, assignment_or, tail_production}
 use Rattle.grammar_laws.specs.ClosedNesting.{closes, nested_entered, NestedProductionsClose}
 use Rattle.grammar.specs.Operators.{operator_at, store_of}
 
@@ -33,8 +33,6 @@ expression_close next after = refl
 
 primary_close : (next after : Token) → closes (choice Primary next after) ≡ nested_entered (enters Primary next after)
 primary_close (token.Name name) (token.Punctuator punctuator.OpenRound) = refl
-primary_close (token.Name name) (token.Punctuator punctuator.PlusPlus) = refl
-primary_close (token.Name name) (token.Punctuator punctuator.MinusMinus) = refl
 primary_close (token.Punctuator punctuator.OpenRound) after = refl
 primary_close next after = refl
 
@@ -47,49 +45,12 @@ nested_close symbol next after = close symbol next after
   where
     close : (symbol : Symbol) (next after : Token) →
         closes (choice symbol next after) ≡ nested_entered (enters symbol next after)
-    close Source token.End after = refl
-    close Source (token.Keyword keyword.Type) after = refl
-    close Source (token.Name name) after = refl
-    close Source next after = refl
-    close Types (token.Keyword keyword.Type) after = refl
-    close Types next after = refl
     close Head next after = head_close next after
-    close (More role) (token.Punctuator punctuator.Comma) after = refl
-    close (More role) next after = refl
-    close Parameters (token.Name name) after = refl
-    close Parameters next after = refl
-    close ParameterTypes (token.Keyword keyword.Type) after = refl
-    close ParameterTypes next after = refl
-    close FunctionBlock (token.Punctuator punctuator.OpenCurly) after = refl
-    close FunctionBlock next after = refl
-    close Block (token.Punctuator punctuator.OpenCurly) after = refl
-    close Block next after = refl
-    close Declarations (token.Keyword keyword.Type) after = refl
-    close Declarations next after = refl
-    close Statements (token.Punctuator punctuator.CloseCurly) after = refl
-    close Statements next after = refl
-    close Statement (token.Punctuator punctuator.Semicolon) after = refl
-    close Statement (token.Punctuator punctuator.OpenCurly) after = refl
-    close Statement (token.Keyword keyword.If) after = refl
-    close Statement (token.Keyword keyword.While) after = refl
-    close Statement (token.Keyword keyword.Return) after = refl
-    close Statement next after = refl
-    close ElsePart (token.Keyword keyword.Else) after = refl
-    close ElsePart next after = refl
-    close Back (token.Punctuator punctuator.Semicolon) after = refl
-    close Back next after = refl
     close Expression next after = expression_close next after
     close (Level n) next after = level_close n (nat_lt n 11)
     close (Tail n) (token.Punctuator m) after = tail_close n (operator_at n (token.Punctuator m)) m
     close (Tail n) next after = refl
-    close Unary (token.Punctuator punctuator.Minus) after = refl
-    close Unary (token.Punctuator punctuator.Not) after = refl
-    close Unary (token.Punctuator punctuator.Tilde) after = refl
-    close Unary (token.Punctuator punctuator.PlusPlus) after = refl
-    close Unary (token.Punctuator punctuator.MinusMinus) after = refl
-    close Unary next after = refl
     close Primary next after = primary_close next after
-    close Arguments (token.Punctuator punctuator.CloseRound) after = refl
-    close Arguments next after = refl
-    close MoreArguments (token.Punctuator punctuator.Comma) after = refl
-    close MoreArguments next after = refl
+    close symbol (token.Punctuator punctuator.Plus) after = refl
+    close symbol (token.Keyword keyword.Type) after = refl
+    close symbol next after = refl

@@ -8,19 +8,18 @@ use Rattle.grammar.specs.declared.actions.Action.{Action}
 use Rattle.grammar.specs.declared.actions.Action.TheVariants.{BeginFunction}
 use Rattle.grammar.specs.Actions.{body_actions, function_actions}
 use Rattle.grammar.specs.Beginning.{IsBeginning}
-use Rattle.grammar.specs.Derivation.{State, initial_state, PartialTree, Definition, last_body, definition_of, next_token, token_after_next}
+use Rattle.grammar.specs.Derivation.{State, initial_state, PartialTree, Definition, last_body, definition_of, next_token}
 use Rattle.grammar.specs.Laws.StateParts.{state}
-use Rattle.grammar.specs.Derivation.{name_of_token, constant_value, is_end, matched, name_matched, constant_matched}
-use Rattle.grammar.specs.Derivation.{replaced, stack_step, stepped, derived}
+use Rattle.grammar.specs.Derivation.{stack_step, stepped, derived}
 use Rattle.grammar_laws.specs.Emission.{on_item, emitted, emissions}
 use Rattle.grammar.specs.Faults.{faults_at, faults_in}
 use Rattle.grammar.specs.Beginning.{definitions_actions}
-use Rattle.grammar.specs.Grammar.{Item, Exactly, AKeyword, AName, AConstant, AnEnd, Part, Make, Close, Operate, Negate}
-use Rattle.grammar.specs.Grammar.{Not, Complement, Fetch, Store, PrefixIncrement, PostfixIncrement, AddArgument, Invoke, Empty, Evaluate}
-use Rattle.grammar.specs.Grammar.{Decide, DecideElse, Repeat, Zero, GiveBack, Define, Role, Production, choice}
-use Rattle.grammar.specs.Grammar.{is_lexical_error, is_punctuator, is_keyword}
+use Rattle.grammar.specs.Grammar.{Item, Exactly, AKeyword, AName, AConstant, AnEnd, Part, Make, Close}
+use Rattle.grammar.specs.Grammar.{Define}
+use Rattle.grammar.specs.Grammar.{is_lexical_error}
 use Rattle.grammar.specs.Profile.{Profile}
 use Rattle.grammar.specs.Scope.{Scope}
+use Rattle.grammar.proofs.AfterSteps.{IfStepped, if_matched, if_named, if_constant, if_replaced}
 use Rattle.grammar.proofs.Beginnings.{beginning_follows}
 use Rattle.grammar_laws.proofs.NumberedActions.{numbered}
 use Rattle.grammar.proofs.ResolvedLaws.{Sound, run_sound, start_sound, stepped_sound}
@@ -56,95 +55,42 @@ more_part acts more ds h = record {
 no_more : (acts : List Action) (ds : List Definition) → HasPart acts ds → HasPart acts (ds ++ [])
 no_more acts ds h = subst (λ (xs : List Definition). HasPart acts xs) (sym (append-nil ds)) h
 
-abbrev IfPart : Option State → List Action → Type 0
-IfPart None acts = Unit {0}
-IfPart (Some s) acts = HasPart acts s.functions
+abbrev HasParts : List Action → State → Type 0
+HasParts acts s = HasPart acts s.functions
 
-matched_part : (fits : Bool) (stack : List Item) (rest : List LocatedToken) (values : List PartialTree) (scope : Scope)
-    (ds : List Definition) (acts : List Action) → HasPart acts ds →
-    IfPart (matched fits (state stack rest values scope ds)) acts
-matched_part true stack rest values scope ds acts h = h
-matched_part false stack rest values scope ds acts h = tt
-
-constant_part : (value : Option ℕ) (stack : List Item) (rest : List LocatedToken) (values : List PartialTree)
-    (scope : Scope)
-    (ds : List Definition) (acts : List Action) → HasPart acts ds →
-    IfPart (constant_matched value (state stack rest values scope ds)) acts
-constant_part None stack rest values scope ds acts h = tt
-constant_part (Some value) stack rest values scope ds acts h = h
-
-named_part : (role : Role) (name : Option (List ℕ)) (stack : List Item) (rest : List LocatedToken)
-    (values : List PartialTree)
-    (scope : Scope) (ds : List Definition) (acts : List Action) → HasPart acts ds →
-    IfPart (name_matched role name (state stack rest values scope ds)) acts
-named_part role None stack rest values scope ds acts h = tt
-named_part role (Some name) stack rest values scope ds acts h = h
-
-replaced_part : (production : Production) (stack : List Item) (rest : List LocatedToken) (values : List PartialTree)
-    (scope : Scope) (ds : List Definition) (acts : List Action) → HasPart acts ds →
-    IfPart (replaced production (state stack rest values scope ds)) acts
-replaced_part None stack rest values scope ds acts h = tt
-replaced_part (Some items) stack rest values scope ds acts h = h
-
-step_part : (A : Type 0) (stack : List Item) (rest : List LocatedToken) (values : List PartialTree) (scope : Scope)
-    (ds : List Definition) (acts : List Action) → Reports A stack values scope.number scope.current.parameters ds acts →
-    HasPart (acts ++ on_item stack (next_token rest) values scope) ds →
-    IfPart (stack_step stack (state stack rest values scope ds)) (acts ++ on_item stack (next_token rest) values scope)
-step_part A [] rest values scope ds acts t h = tt
-step_part A (Exactly m ∷ stack) rest values scope ds acts t h =
-    matched_part (is_punctuator m (next_token rest)) stack rest values scope ds _ h
-step_part A (AKeyword w ∷ stack) rest values scope ds acts t h =
-    matched_part (is_keyword w (next_token rest)) stack rest values scope ds _ h
-step_part A (AName role ∷ stack) rest values scope ds acts t h =
-    named_part role (name_of_token (next_token rest)) stack rest values scope ds _ h
-step_part A (AConstant ∷ stack) rest values scope ds acts t h =
-    constant_part (constant_value (next_token rest)) stack rest values scope ds _ h
-step_part A (AnEnd ∷ stack) rest values scope ds acts t h =
-    matched_part (is_end (next_token rest)) stack rest values scope ds _ h
-step_part A (Part symbol ∷ stack) rest values scope ds acts t h =
-    replaced_part (choice symbol (next_token rest) (token_after_next rest)) stack rest values scope ds _ h
-step_part A (Make Define ∷ stack) rest values scope ds acts t h =
+step_part : (A : Type 0) (stack : List Item) (s : State) (acts : List Action) →
+    Reports A stack s.values s.scope.number s.scope.current.parameters s.functions acts →
+    HasPart (acts ++ on_item stack (next_token s.rest) s.values s.scope) s.functions →
+    IfStepped (HasParts (acts ++ on_item stack (next_token s.rest) s.values s.scope)) (stack_step stack s)
+step_part A [] s acts t h = tt
+step_part A (Exactly m ∷ stack) s acts t h = if_matched (HasParts _) _ stack s (λ e. h)
+step_part A (AKeyword w ∷ stack) s acts t h = if_matched (HasParts _) _ stack s (λ e. h)
+step_part A (AName role ∷ stack) s acts t h = if_named (HasParts _) role _ stack s (λ n e. h)
+step_part A (AConstant ∷ stack) s acts t h = if_constant (HasParts _) _ stack s (λ n e. h)
+step_part A (AnEnd ∷ stack) s acts t h = if_matched (HasParts _) _ stack s (λ e. h)
+step_part A (Part symbol ∷ stack) s acts t h = if_replaced (HasParts _) _ stack s (λ items e. h)
+step_part A (Make Define ∷ stack) s acts t h =
     record {
       part = [];
-      is = sym (defined_reported values scope ds acts t.reported)
-          ∙ sym (append-nil (definitions_actions (ds ++ definition_of scope (last_body values) ∷ [])));
+      is = sym (defined_reported s.values s.scope s.functions acts t.reported)
+          ∙ sym (append-nil (definitions_actions (s.functions ++ definition_of s.scope (last_body s.values) ∷ [])));
     }
-step_part A (Make (Operate o) ∷ stack) rest values scope ds acts t h = no_more _ ds h
-step_part A (Make Negate ∷ stack) rest values scope ds acts t h = no_more _ ds h
-step_part A (Make Not ∷ stack) rest values scope ds acts t h = no_more _ ds h
-step_part A (Make Complement ∷ stack) rest values scope ds acts t h = no_more _ ds h
-step_part A (Make Fetch ∷ stack) rest values scope ds acts t h = no_more _ ds h
-step_part A (Make (Store o) ∷ stack) rest values scope ds acts t h = no_more _ ds h
-step_part A (Make (PrefixIncrement o) ∷ stack) rest values scope ds acts t h = no_more _ ds h
-step_part A (Make (PostfixIncrement o) ∷ stack) rest values scope ds acts t h = no_more _ ds h
-step_part A (Make AddArgument ∷ stack) rest values scope ds acts t h = no_more _ ds h
-step_part A (Make Invoke ∷ stack) rest values scope ds acts t h = no_more _ ds h
-step_part A (Make Empty ∷ stack) rest values scope ds acts t h = no_more _ ds h
-step_part A (Make Evaluate ∷ stack) rest values scope ds acts t h = no_more _ ds h
-step_part A (Make Decide ∷ stack) rest values scope ds acts t h = no_more _ ds h
-step_part A (Make DecideElse ∷ stack) rest values scope ds acts t h = no_more _ ds h
-step_part A (Make Repeat ∷ stack) rest values scope ds acts t h = no_more _ ds h
-step_part A (Make Zero ∷ stack) rest values scope ds acts t h = no_more _ ds h
-step_part A (Make GiveBack ∷ stack) rest values scope ds acts t h = no_more _ ds h
-step_part A (Close ∷ stack) rest values scope ds acts t h = h
-
-kept_part : (s : State) (o : Option State) (acts : List Action) → HasPart acts s.functions → IfPart o acts →
-    HasPart acts (unwrap_or o s).functions
-kept_part s None acts h k = h
-kept_part s (Some t) acts h k = k
+step_part A (Make rule ∷ stack) s acts t h = no_more _ s.functions h
+step_part A (Close ∷ stack) s acts t h = h
 
 guarded_part : (s : State) (fault : Bool) (o : Option State) (acts more : List Action) → HasPart acts s.functions →
-    IfPart o (acts ++ more) →
+    IfStepped (HasParts (acts ++ more)) o →
     HasPart (acts ++ (if fault then [] else more)) (unwrap_or (if fault then None else o) s).functions
 guarded_part s true o acts more h k = more_part acts [] s.functions h
-guarded_part s false o acts more h k = kept_part s o (acts ++ more) (more_part acts more s.functions h) k
+guarded_part s false None acts more h k = more_part acts more s.functions h
+guarded_part s false (Some t) acts more h k = k
 
 stepped_part : (A : Type 0) (s : State) (acts : List Action) → StateReports A s acts → HasPart acts s.functions →
     HasPart (acts ++ emitted s) (stepped s).functions
 stepped_part A s acts t h =
     guarded_part s (is_lexical_error (next_token s.rest)) (stack_step s.stack s) acts
     (on_item s.stack (next_token s.rest) s.values s.scope) h
-    (step_part A s.stack s.rest s.values s.scope s.functions acts t
+    (step_part A s.stack s acts t
     (more_part acts (on_item s.stack (next_token s.rest) s.values s.scope) s.functions h))
 
 -- Any steps.

@@ -15,13 +15,12 @@ use Rattle.grammar.specs.Derivation.{State, PartialTree, AnExpr, AVariable, ACal
 use Rattle.grammar.specs.Laws.StateParts.{state}
 use Rattle.grammar.specs.Derivation.{name_tree, next_token, token_after_next, line_at, name_of_token, constant_value, is_end}
 use Rattle.grammar.specs.Derivation.{matched, name_matched, constant_matched, replaced, stack_step, stepped}
-use Rattle.grammar.specs.declared.operators.StoreOp.{StoreOp}
 use Rattle.grammar_laws.specs.Emission.{and_then, on_choice, on_name, on_constant, on_rule, on_item, emitted}
 use Rattle.grammar.specs.Beginning.{definitions_actions}
 use Rattle.grammar.specs.Grammar.{Symbol, FunctionBlock, Statement, Tail, Unary, Item, Exactly, AKeyword, AName, AConstant}
-use Rattle.grammar.specs.Grammar.{AnEnd, Part, Make, Close, SemanticAction, Operate, Negate, Not, Complement, Fetch}
-use Rattle.grammar.specs.Grammar.{Store, PrefixIncrement, PostfixIncrement, AddArgument, Invoke, Empty, Evaluate, Decide, DecideElse}
-use Rattle.grammar.specs.Grammar.{Repeat, Zero, GiveBack, Define, Role, Defined, External, Parameter, Typed, Local}
+use Rattle.grammar.specs.Grammar.{AnEnd, Part, Make, Close, SemanticAction, Fetch}
+use Rattle.grammar.specs.Grammar.{Store, PrefixIncrement, PostfixIncrement, Invoke}
+use Rattle.grammar.specs.Grammar.{Define, Role, Defined, External, Parameter, Typed, Local}
 use Rattle.grammar.specs.Grammar.{Called, Mentioned, Production, choice, is_lexical_error, is_punctuator, is_keyword}
 use Rattle.grammar.specs.Resolved.{IsVariable, IsCallable}
 use Rattle.grammar.specs.Scope.{Scope, scope_after_name, end_definition, variable_of, callee_of, is_external_new}
@@ -149,30 +148,15 @@ replaced_reports A (Some items) stack rest values scope ds acts more none h = h
 -- Semantic actions.
 
 -- only a function's end reports its variables
-fetched : (stack : List Item) (values : List PartialTree) (variables : ℕ) →
-    on_rule Fetch stack values 0 ≡ on_rule Fetch stack values variables
-fetched stack (AVariable v ∷ values) variables = refl
-fetched stack values variables = refl
-
-stored : (o : StoreOp) (stack : List Item) (values : List PartialTree) (variables : ℕ) →
-    on_rule (Store o) stack values 0 ≡ on_rule (Store o) stack values variables
-stored o stack (AnExpr e ∷ AVariable v ∷ values) variables = refl
-stored o stack values variables = refl
-
-pre_incremented : (o : StoreOp) (stack : List Item) (values : List PartialTree) (variables : ℕ) →
-    on_rule (PrefixIncrement o) stack values 0 ≡ on_rule (PrefixIncrement o) stack values variables
-pre_incremented o stack (AVariable v ∷ values) variables = refl
-pre_incremented o stack values variables = refl
-
-post_incremented : (o : StoreOp) (stack : List Item) (values : List PartialTree) (variables : ℕ) →
-    on_rule (PostfixIncrement o) stack values 0 ≡ on_rule (PostfixIncrement o) stack values variables
-post_incremented o stack (AVariable v ∷ values) variables = refl
-post_incremented o stack values variables = refl
-
-invoked : (stack : List Item) (values : List PartialTree) (variables : ℕ) →
-    on_rule Invoke stack values 0 ≡ on_rule Invoke stack values variables
-invoked stack (ACall f args ∷ values) variables = refl
-invoked stack values variables = refl
+alike : (rule : SemanticAction) (stack : List Item) (values : List PartialTree) (variables : ℕ) →
+    (rule ≡ Define → ⊥) → on_rule rule stack values 0 ≡ on_rule rule stack values variables
+alike Define stack values variables other = absurd (other refl)
+alike Fetch stack (AVariable v ∷ values) variables other = refl
+alike (Store o) stack (AnExpr e ∷ AVariable v ∷ values) variables other = refl
+alike (PrefixIncrement o) stack (AVariable v ∷ values) variables other = refl
+alike (PostfixIncrement o) stack (AVariable v ∷ values) variables other = refl
+alike Invoke stack (ACall f args ∷ values) variables other = refl
+alike rule stack values variables other = refl
 
 -- what one leaves of the functions defined, if it defines none
 rule_reports : (A : Type 0) (stack : List Item) (values : List PartialTree) (scope : Scope) (ds : List Definition)
@@ -243,45 +227,9 @@ step_reports A (Part symbol ∷ stack) rest values scope ds acts allows h =
     (part_reports A symbol (next_token rest) (token_after_next rest) stack values scope ds acts allows.0 allows.1 h)
 step_reports A (Make Define ∷ stack) rest values scope ds acts allows h =
     define_reports A stack values scope ds acts allows h
-step_reports A (Make (Operate o) ∷ stack) rest values scope ds acts allows h =
-    rule_reports A stack (trees_after (Operate o) values) scope ds acts _ _ refl h
-step_reports A (Make Negate ∷ stack) rest values scope ds acts allows h =
-    rule_reports A stack (trees_after Negate values) scope ds acts _ _ refl h
-step_reports A (Make Not ∷ stack) rest values scope ds acts allows h =
-    rule_reports A stack (trees_after Not values) scope ds acts _ _ refl h
-step_reports A (Make Complement ∷ stack) rest values scope ds acts allows h =
-    rule_reports A stack (trees_after Complement values) scope ds acts _ _ refl h
-step_reports A (Make Fetch ∷ stack) rest values scope ds acts allows h =
-    rule_reports A stack (trees_after Fetch values) scope ds acts _ _
-    (fetched stack values (length scope.current.variables)) h
-step_reports A (Make (Store o) ∷ stack) rest values scope ds acts allows h =
-    rule_reports A stack (trees_after (Store o) values) scope ds acts _ _
-    (stored o stack values (length scope.current.variables)) h
-step_reports A (Make (PrefixIncrement o) ∷ stack) rest values scope ds acts allows h =
-    rule_reports A stack (trees_after (PrefixIncrement o) values) scope ds acts _ _
-    (pre_incremented o stack values (length scope.current.variables)) h
-step_reports A (Make (PostfixIncrement o) ∷ stack) rest values scope ds acts allows h =
-    rule_reports A stack (trees_after (PostfixIncrement o) values) scope ds acts _ _
-    (post_incremented o stack values (length scope.current.variables)) h
-step_reports A (Make AddArgument ∷ stack) rest values scope ds acts allows h =
-    rule_reports A stack (trees_after AddArgument values) scope ds acts _ _ refl h
-step_reports A (Make Invoke ∷ stack) rest values scope ds acts allows h =
-    rule_reports A stack (trees_after Invoke values) scope ds acts _ _
-    (invoked stack values (length scope.current.variables)) h
-step_reports A (Make Empty ∷ stack) rest values scope ds acts allows h =
-    rule_reports A stack (trees_after Empty values) scope ds acts _ _ refl h
-step_reports A (Make Evaluate ∷ stack) rest values scope ds acts allows h =
-    rule_reports A stack (trees_after Evaluate values) scope ds acts _ _ refl h
-step_reports A (Make Decide ∷ stack) rest values scope ds acts allows h =
-    rule_reports A stack (trees_after Decide values) scope ds acts _ _ refl h
-step_reports A (Make DecideElse ∷ stack) rest values scope ds acts allows h =
-    rule_reports A stack (trees_after DecideElse values) scope ds acts _ _ refl h
-step_reports A (Make Repeat ∷ stack) rest values scope ds acts allows h =
-    rule_reports A stack (trees_after Repeat values) scope ds acts _ _ refl h
-step_reports A (Make Zero ∷ stack) rest values scope ds acts allows h =
-    rule_reports A stack (trees_after Zero values) scope ds acts _ _ refl h
-step_reports A (Make GiveBack ∷ stack) rest values scope ds acts allows h =
-    rule_reports A stack (trees_after GiveBack values) scope ds acts _ _ refl h
+step_reports A (Make rule ∷ stack) rest values scope ds acts allows h =
+    rule_reports A stack (trees_after rule values) scope ds acts _ _
+    (alike rule stack values (length scope.current.variables) (λ no. cc)) h
 step_reports A (Close ∷ stack) rest values scope ds acts allows h = h
 
 kept_reports : (A : Type 0) (s : State) (o : Option State) (acts more : List Action) → StateReports A s acts →

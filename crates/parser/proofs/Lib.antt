@@ -1,4 +1,5 @@
 pub mod Advances
+pub mod Passing
 pub mod Segments
 pub mod Items
 pub mod Names

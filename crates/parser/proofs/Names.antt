@@ -10,6 +10,7 @@ use Rattle.grammar.specs.Grammar.{Role, Defined, External, Parameter, Typed, Loc
 use Rattle.grammar.specs.Intrinsics.{is_intrinsic}
 use Rattle.grammar.specs.Laws.Naming.{LearnsName}
 use Rattle.grammar.specs.Scope.{Scope, has_begun, is_external_new, is_function_new, is_local_new, is_variable_new, number_or_next, only_named, with_external, with_new_function, with_parameter, with_variable}
+use Rattle.grammar.specs.NameLimits.{most_names}
 use Rattle.parser.specs.declared.roles.Declared.{Declared}
 use Rattle.parser.specs.declared.roles.Declared.TheVariants as kind
 use Rattle.parser.specs.Defining.{IsWithin, StaysAt, StaysIn, StaysInBody}
@@ -26,7 +27,7 @@ with_variable_within : (new : Bool) (name : List ℕ) (scope : Scope) (c : Code)
     IsWithin scope → IsWithin (if new then with_variable name scope else scope)
 with_variable_within false name scope c rest clean w = w
 with_variable_within true name scope c rest clean w =
-    let small : length scope.current.variables < 64 = room _ c rest clean in
+    let small : length scope.current.variables < most_names = room _ c rest clean in
     let more : length (scope.current.variables ++ name ∷ []) ≡ length scope.current.variables + 1 = longer _ name in
     record {
       functions = w.functions;
@@ -39,7 +40,7 @@ with_parameter_within : (new : Bool) (name : List ℕ) (scope : Scope) (rest : L
     IsWithin scope → IsWithin (if new then with_parameter name scope else scope)
 with_parameter_within false name scope rest d clean w = w
 with_parameter_within true name scope rest d clean w =
-    let small : length scope.current.variables < 64 = room _ fault_code.TooManyVariables rest clean in
+    let small : length scope.current.variables < most_names = room _ fault_code.TooManyVariables rest clean in
     let more : length (scope.current.variables ++ name ∷ []) ≡ length scope.current.variables + 1 = longer _ name in
     record {
       functions = w.functions;
@@ -58,7 +59,7 @@ functions_within : (new : Bool) (name : List ℕ) (line : ℕ) (scope : Scope) (
     IsWithin scope → IsWithin (if new then with_new_function name line scope else scope)
 functions_within false name line scope c rest clean w = w
 functions_within true name line scope c rest clean w =
-    let small : length scope.functions < 64 = room _ c rest clean in
+    let small : length scope.functions < most_names = room _ c rest clean in
     let more : length (scope.functions ++ only_named name ∷ []) ≡ length scope.functions + 1 =
     longer _ (only_named name) in
     record { functions = omega (arith, more, small); parameters = w.parameters; variables = w.variables }
@@ -78,7 +79,7 @@ first false false d e faults h = record { other = refl; clean = h }
 begun_within : (own begun new : Bool) (name : List ℕ) (line : ℕ) (scope : Scope) (c : Code) (rest : List LocatedToken)
     (d e : Fault) →
     (if own then d ∷ [] else (if begun then e ∷ [] else no_room new (length scope.functions) c rest)) ≡ [] →
-    IsWithin scope → length (if new then with_new_function name line scope else scope).functions ≤ 64
+    IsWithin scope → length (if new then with_new_function name line scope else scope).functions ≤ most_names
 begun_within own begun new name line scope c rest d e clean w =
     (functions_within new name line scope c rest (first own begun d e _ clean).clean w).functions
 
@@ -199,7 +200,7 @@ called_stays name line old new k = function_stays (is_function_new name old) nam
 -- another definition begins
 pub begins : (number : ℕ) (name : List ℕ) (line : ℕ) (old new : Lookahead) (learnt : Scope) →
     LearnsName Defined name line old.scope learnt → new.scope ≡ learnt →
-    number ≡ number_or_next name old.scope → number < 64 → BeginsDefinition number old new
+    number ≡ number_or_next name old.scope → number < most_names → BeginsDefinition number old new
 begins number name line old new learnt k same is few =
     let own : is_intrinsic name ≡ false =
     (first (is_intrinsic name) (has_begun name old.scope) _ _ _ (k.clean [])).other in

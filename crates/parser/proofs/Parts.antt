@@ -17,6 +17,7 @@ use Rattle.grammar.specs.Derivation.{PartialTree, next_token}
 use Rattle.grammar.specs.Laws.StateParts.{state}
 use Rattle.grammar.specs.Faults.{fault, nesting_faults, nested_count, only_if}
 use Rattle.grammar.specs.Grammar.{AKeyword, Exactly, Item, Part, Symbol, choice, is_lexical_error, is_punctuator, is_keyword, enters}
+use Rattle.grammar.specs.declared.name_limits.TheConstants.{MOST_NESTED}
 use Rattle.grammar.specs.NameLimits.{most_nested}
 use Rattle.grammar.specs.Scope.{Scope, no_names}
 use Rattle.grammar.proofs.Firsts.{too_deep, too_deep_word}
@@ -54,24 +55,25 @@ IsFree depth symbol located_token =
     nesting_faults symbol (state stack (located_token ∷ rest) [] no_names []) ≡ []
 
 -- while one more may be open there is no fault
-pub within : (opened : Bool) (n : ℕ) (rest : List LocatedToken) → n < 64 →
+pub within : (opened : Bool) (n : ℕ) (rest : List LocatedToken) → n < MOST_NESTED →
     only_if opened (only_if (nat_le most_nested n) (fault rest fault_code.NestedTooDeeply ∷ [])) ≡ []
 unfolding most_nested
 within false n rest small = refl
-within true n rest small = let test : nat_le 64 n ≡ false = below n small in rw test refl
+within true n rest small = let test : nat_le most_nested n ≡ false = below most_nested n small in rw test refl
   where
-    below : (n : ℕ) → n < 64 → nat_le 64 n ≡ false
-    below n small = grind (arith, nat_tests)
+    below : (m n : ℕ) → n < m → nat_le m n ≡ false
+    below m n small = grind (arith, nat_tests)
 
 -- one beyond the most is a fault
-pub beyond : (opened : Bool) (n : ℕ) (rest : List LocatedToken) → opened ≡ true → 64 ≤ n →
+pub beyond : (opened : Bool) (n : ℕ) (rest : List LocatedToken) → opened ≡ true → MOST_NESTED ≤ n →
     only_if opened (only_if (nat_le most_nested n) (fault rest fault_code.NestedTooDeeply ∷ [])) ≡
     fault rest fault_code.NestedTooDeeply ∷ []
 unfolding most_nested
-beyond opened n rest is large = rw (is, above n large) refl
+beyond opened n rest is large =
+    let test : nat_le most_nested n ≡ true = above most_nested n large in rw (is, test) refl
   where
-    above : (n : ℕ) → 64 ≤ n → nat_le 64 n ≡ true
-    above n large = grind (arith, nat_tests)
+    above : (m n : ℕ) → m ≤ n → nat_le m n ≡ true
+    above m n large = grind (arith, nat_tests)
 
 pub free_of : (depth : ℕ) (symbol : Symbol) (located_token : LocatedToken) →
     ((after : Token) → enters symbol located_token.token after ≡ false) → IsFree depth symbol located_token
@@ -106,7 +108,7 @@ part_stands at depth symbol items trees sound chosen free =
 pub word_too_deep : (at : UnreadPosition) (n : ℕ) (near : IsNearTo at.lookahead.cursor n) (depth : ℕ) (symbol : Symbol)
     (w : Keyword) (items : List Item) (trees : List PartialTree) → is_lexical_error (next_at at).token ≡ false →
     Chooses symbol (next_at at).token (AKeyword w ∷ items) → is_keyword w (next_at at).token ≡ true →
-    ((after : Token) → enters symbol (next_at at).token after ≡ true) → 64 ≤ depth →
+    ((after : Token) → enters symbol (next_at at).token after ≡ true) → MOST_NESTED ≤ depth →
     FailsAt depth (Part symbol ∷ []) trees at
     (stop_with (parse_fault.Source (diagnostic (next_at at).line fault_code.NestedTooDeeply)) n)
 word_too_deep at n near depth symbol w items trees sound chosen fits opened deep =
@@ -121,7 +123,7 @@ pub punctuator_too_deep : (at : UnreadPosition) (n : ℕ) (near : IsNearTo at.lo
     (symbol : Symbol)
     (m : Punctuator) (items : List Item) (trees : List PartialTree) → is_lexical_error (next_at at).token ≡ false →
     Chooses symbol (next_at at).token (Exactly m ∷ items) → is_punctuator m (next_at at).token ≡ true →
-    ((after : Token) → enters symbol (next_at at).token after ≡ true) → 64 ≤ depth →
+    ((after : Token) → enters symbol (next_at at).token after ≡ true) → MOST_NESTED ≤ depth →
     FailsAt depth (Part symbol ∷ []) trees at
     (stop_with (parse_fault.Source (diagnostic (next_at at).line fault_code.NestedTooDeeply)) n)
 punctuator_too_deep at n near depth symbol m items trees sound chosen fits opened deep =

@@ -16,6 +16,7 @@ use Rattle.grammar.specs.Compiled.{diagnostic}
 use Rattle.grammar.specs.Derivation.{PartialTree, name_of_token, next_token}
 use Rattle.grammar.specs.Faults.{fault, nested_count, unexpected_token_code, only_if}
 use Rattle.grammar.specs.Grammar.{Item, AName, Exactly, Part, Role, Symbol, choice, is_lexical_error, is_punctuator, enters}
+use Rattle.grammar.specs.declared.name_limits.TheConstants.{MOST_NESTED}
 use Rattle.grammar.specs.NameLimits.{most_nested}
 use Rattle.grammar.proofs.Firsts.{no_part, too_deep, too_deep_name}
 use Rattle.grammar.proofs.Steps.{part}
@@ -76,7 +77,7 @@ chosen at depth symbol items kept c none = stand at depth (Part symbol ∷ []) i
 pub punctuator_too_deep : (at : UnreadPosition) (used : ℕ) (near : IsNearTo at.lookahead.cursor used) (depth : ℕ)
     (symbol : Symbol) (m : Punctuator) (items : List Item) → Chooses at symbol (Exactly m ∷ items) →
     IsNested at symbol →
-    is_punctuator m (next_at at).token ≡ true → 64 ≤ depth →
+    is_punctuator m (next_at at).token ≡ true → MOST_NESTED ≤ depth →
     FailsAt depth (Part symbol ∷ []) [] at
     (stop_with (parse_fault.Source (diagnostic (next_at at).line fault_code.NestedTooDeeply)) used)
 punctuator_too_deep at used near depth symbol m items c opened fits deep =
@@ -90,7 +91,7 @@ punctuator_too_deep at used near depth symbol m items c opened fits deep =
 pub name_too_deep : (at : UnreadPosition) (used : ℕ) (near : IsNearTo at.lookahead.cursor used) (depth : ℕ)
     (symbol : Symbol)
     (role : Role) (name : List ℕ) (items : List Item) → Chooses at symbol (AName role ∷ items) → IsNested at symbol →
-    name_of_token (next_at at).token ≡ Some name → 64 ≤ depth →
+    name_of_token (next_at at).token ≡ Some name → MOST_NESTED ≤ depth →
     FailsAt depth (Part symbol ∷ []) [] at
     (stop_with (parse_fault.Source (diagnostic (next_at at).line fault_code.NestedTooDeeply)) used)
 name_too_deep at used near depth symbol role name items c opened fits deep =

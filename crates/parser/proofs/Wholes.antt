@@ -1,8 +1,8 @@
 -- What a file is whose parse came to its end, and what a refusal says of it.
 use Rattle.std.proofs.Common.{◌≡◌, ℕ, List, [], ◌∷◌, ◌++◌, refl, sym, ap, ◌∙◌, subst, true, false, drop, ◌+◌, ◌≤◌, append_assoc, arith}
 use Rattle.std.specs.Option.{option_map}
-use Rattle.std.specs.Prelude.{Option, Some, None, Ok, Err, Result, is_some}
-use Rattle.tokens.specs.Cursors.{undecided_reach_of, reach_of}
+use Rattle.std.specs.Prelude.{Bool, ◌<◌, Option, Some, None, Ok, Err, Result, is_some}
+use Rattle.tokens.specs.Cursors.{Cursor, OpensCursor, undecided_reach_of, reach_of}
 use Rattle.tokens.specs.Device.{FailureCount}
 use Rattle.tokens.specs.Tokens.{is_last, tokens}
 use Rattle.tokens.specs.WindowLimits.{most_taken_bytes}
@@ -41,12 +41,12 @@ use Rattle.grammar_laws.proofs.Emitted.{emits_a_beginning, emits_a_part, emits_i
 use Rattle.parser.specs.declared.automaton.Automaton.{Automaton}
 use Rattle.parser.specs.declared.frames.Frame.{Frame}
 use Rattle.parser.specs.declared.frames.Front.TheVariants as front
-use Rattle.parser.specs.Advancing.{IsReady}
+use Rattle.parser.specs.Advancing.{IsReadable, IsReady, most_failures}
 use Rattle.parser.specs.Automata.{Stands, Start, stack_of}
 use Rattle.parser.specs.Complete.{ADefinition, AMain, IsComplete, LacksDefinition}
 use Rattle.parser.specs.ParsedFiles.{BuildsAhead, FailsBytes, HasBuilt, LeavesUndecided, ParsesToFile, ParseIsRefused, StopsTaking, TakesNoMore, TakesUpTo}
 use Rattle.parser.specs.Paths.{HasTold, Leads, Origin, Path, Refused}
-use Rattle.parser.specs.ScopedCursors.{MayContinue, ScopedCursor, UnreadPosition, next_at, pools_in, scope_of, taken_at, token_of, tokens_at}
+use Rattle.parser.specs.ScopedCursors.{MayContinue, ScopedCursor, UnreadPosition, next_at, pools_in, position_of, scope_of, taken_at, token_of, tokens_at}
 use Rattle.parser.specs.Segment.{StopsFirst, StopsAtFirst, TakesTokens}
 use Rattle.parser.specs.Stopping.{NoFaultBefore, Stops, stop_with}
 use Rattle.parser.proofs.Built.{IsAmongDefined, built_by_stop}
@@ -80,24 +80,28 @@ starts o at shows nothing borrows account took ready = record {
   ready = ready;
 }
 
--- an automaton there
-pub begins : {F B : Type 0} (stands : B → Representation) (told : Option (List ℕ)) (account : FailureCount)
-    (at : Automaton F B) → at.frames ≡ [] → at.depth ≡ 0 → tokens_at at.tokens.position ≡ option_map tokens told →
-    scope_of at.tokens ≡ no_names → at.tokens.account ≡ account →
-    at.tokens.position.to_come ≡ option_map (drop (taken_at at.tokens.position)) told → IsReady at.tokens →
+-- an automaton there, of a cursor that was opened and made
+pub begun : {F B : Type 0} (stands : B → Representation) (told left : Option (List ℕ)) (account : FailureCount)
+    (ended : Bool) (cursor : Cursor) (scope : Scope) (at : Automaton F B) → at.frames ≡ [] → at.depth ≡ 0 →
+    at.tokens.position ≡ position_of (record { cursor = cursor; scope = scope }) left → at.tokens.account ≡ account →
+    OpensCursor cursor told left ended → IsReadable cursor → account.failures < most_failures → scope ≡ no_names →
     (profile : Profile) → stands at.builder.now profile [] →
     Stands (record { origin = from told account at.tokens.borrows profile; builder = at.builder.now }) stands
     front.Source at
-begins stands told account at none flat shows nothing counted took ready profile new = record {
-  values = [];
-  acts = [];
-  path = rw none (starts (from told account at.tokens.borrows profile) at.tokens shows nothing refl counted took ready);
-  new = new;
-  told = record { each = λ other h. h };
-  depth = rw (none, flat) refl;
-  few = rw flat (omega arith);
-  fits = (none, refl);
-}
+begun stands told left account ended cursor scope at none flat position counted opens ready few nothing profile new =
+    record {
+      values = [];
+      acts = [];
+      path = rw none
+          (starts (from told account at.tokens.borrows profile) at.tokens (rw position opens.tokens)
+          (rw position nothing) refl counted (rw position opens.took)
+          (record { sound = rw position ready.sound; near = rw position ready.near; count = rw counted few }));
+      new = new;
+      told = record { each = λ other h. h };
+      depth = rw (none, flat) refl;
+      few = rw flat (omega arith);
+      fits = (none, refl);
+    }
 
 -- Where it ends: at the end of the file, if it was not refused.
 

@@ -1,8 +1,8 @@
 use Rattle.std.proofs.Common.{[], ◌∷◌, refl}
-use Rattle.std.proofs.lemmas.Result.{err_from_is_err_and}
 use Rattle.tokens.specs.declared.located_tokens.Punctuator.TheVariants as punctuator
 use Rattle.grammar.specs.Grammar.{Exactly, ParameterTypes, Parameters, Part}
 use Rattle.parser.specs.Declarations.{header_items}
+use Rattle.parser.proofs.Passing.{passed_on}
 use Rattle.parser.proofs.HeaderLaws.{heading_closed, heading_listed, heading_named, heading_open}
 use Rattle.parser.proofs.Advances.{kept_then, on, on_then}
 use Rattle.parser.proofs.ListLaws.{item_on, leaves}
@@ -10,35 +10,32 @@ use Rattle.parser.proofs.function_headers.function_header.Goals as goal
 
 pub returns-in_err-expect-clause-matches : goal.returns-in_err-expect-clause-matches
 returns-in_err-expect-clause-matches g c =
-    let p = err_from_is_err_and c.from_residual-in_err-expect.result c.from_residual-in_err-expect.ensures.1 in
-    rw (p.1, p.2) (leaves _ header_items (Exactly punctuator.OpenRound ∷ [])
+    rw (passed_on c.from_residual-in_err-expect.result c.from_residual-in_err-expect.ensures.1) (leaves _ header_items
+    (Exactly punctuator.OpenRound ∷ [])
     (Part Parameters ∷ Exactly punctuator.CloseRound ∷ Part ParameterTypes ∷ []) _ _ c.in_err-expect.field-0.0
     (λ stack. refl)
     (heading_named _ _ c.in_ok-number.ensures.matches) c.in_err-expect.ensures.matches)
 
 pub returns-in_err-parameter_list-clause-matches : goal.returns-in_err-parameter_list-clause-matches
 returns-in_err-parameter_list-clause-matches g c =
-    let p =
-    err_from_is_err_and c.from_residual-in_err-parameter_list.result c.from_residual-in_err-parameter_list.ensures.1
-    in
-    rw (p.1, p.2) (leaves _ header_items (Part Parameters ∷ [])
+    rw (passed_on c.from_residual-in_err-parameter_list.result c.from_residual-in_err-parameter_list.ensures.1) (leaves
+    _ header_items (Part Parameters ∷ [])
     (Exactly punctuator.CloseRound ∷ Part ParameterTypes ∷ []) _ _ c.in_err-parameter_list.field-0.0 (λ stack. refl)
     (heading_open _ _ _ c.in_ok-number.ensures.matches c.in_ok-expect.ensures.matches)
     c.in_err-parameter_list.ensures.matches)
 
 pub returns-in_err-expect-2-clause-matches : goal.returns-in_err-expect-2-clause-matches
 returns-in_err-expect-2-clause-matches g c =
-    let p = err_from_is_err_and c.from_residual-in_err-expect-2.result c.from_residual-in_err-expect-2.ensures.1 in
-    rw (p.1, p.2) (leaves _ header_items (Exactly punctuator.CloseRound ∷ []) (Part ParameterTypes ∷ []) _ _
+    rw (passed_on c.from_residual-in_err-expect-2.result c.from_residual-in_err-expect-2.ensures.1) (leaves _
+    header_items (Exactly punctuator.CloseRound ∷ []) (Part ParameterTypes ∷ []) _ _
     c.in_err-expect-2.field-0.0 (λ stack. refl)
     (heading_listed _ _ _ _ c.in_ok-number.ensures.matches c.in_ok-expect.ensures.matches
     c.in_ok-parameter_list.ensures.matches) c.in_err-expect-2.ensures.matches)
 
 pub returns-in_err-declarations-clause-matches : goal.returns-in_err-declarations-clause-matches
 returns-in_err-declarations-clause-matches g c =
-    let p =
-    err_from_is_err_and c.from_residual-in_err-declarations.result c.from_residual-in_err-declarations.ensures.1 in
-    rw (p.1, p.2) (leaves _ header_items (Part ParameterTypes ∷ []) [] _ _ c.in_err-declarations.field-0.0
+    rw (passed_on c.from_residual-in_err-declarations.result c.from_residual-in_err-declarations.ensures.1) (leaves _
+    header_items (Part ParameterTypes ∷ []) [] _ _ c.in_err-declarations.field-0.0
     (λ stack. refl)
     (heading_closed _ _ _ _ _ c.in_ok-number.ensures.matches c.in_ok-expect.ensures.matches
     c.in_ok-parameter_list.ensures.matches c.in_ok-expect-2.ensures.matches) c.in_err-declarations.ensures.matches)

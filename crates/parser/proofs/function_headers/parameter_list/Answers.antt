@@ -1,9 +1,9 @@
-use Rattle.std.proofs.Common.{◌≡◌, [], ◌∷◌, ◌∙◌, ap, refl, false}
-use Rattle.std.proofs.lemmas.Result.{err_from_is_err_and}
+use Rattle.std.proofs.Common.{◌≡◌, [], ◌∷◌, ◌∙◌, ap, refl}
 use Rattle.tokens.specs.declared.located_tokens.LocatedToken.{LocatedToken}
 use Rattle.tokens.specs.declared.located_tokens.Token.TheVariants as token
-use Rattle.grammar.specs.Grammar.{AName, More, Parameter, Parameters, Part, is_lexical_error}
+use Rattle.grammar.specs.Grammar.{AName, More, Parameter, Parameters, Part}
 use Rattle.parser.specs.ScopedCursors.{scope_of}
+use Rattle.parser.proofs.Passing.{passed_on}
 use Rattle.parser.proofs.Advances.{kept_then, on, stays_ready}
 use Rattle.parser.proofs.Names.{stays_body}
 use Rattle.parser.proofs.HeaderLaws.{no_parameters, parameter_first, parameters_open}
@@ -14,40 +14,32 @@ use Rattle.parser.proofs.function_headers.parameter_list.Goals as goal
 
 pub returns-in_err-expect_declaration-clause-matches : goal.returns-in_err-expect_declaration-clause-matches
 returns-in_err-expect_declaration-clause-matches g c =
-    let sound : is_lexical_error c.args.parser.now.position.lookahead.cursor.next.token ≡ false =
-    c.requires.ready.sound in
     let is : c.args.parser.now.position.lookahead.cursor.next.token ≡ token.Name c.in-Name.field-0 = cc in
-    let p = err_from_is_err_and c.from_residual.result c.from_residual.ensures.1 in
-    rw (p.1, p.2) (leaves _ (Part Parameters ∷ []) (AName Parameter ∷ []) (Part (More Parameter) ∷ []) _ _
+    rw (passed_on c.from_residual.result c.from_residual.ensures.1) (leaves _ (Part Parameters ∷ [])
+    (AName Parameter ∷ []) (Part (More Parameter) ∷ []) _ _
     c.in_err-expect_declaration.field-0.0 (λ stack. refl)
-    (parameters_open _ c.in-Name.field-0 sound is) c.in_err-expect_declaration.ensures.matches)
+    (parameters_open _ c.in-Name.field-0 c.requires.ready.sound is) c.in_err-expect_declaration.ensures.matches)
 
 pub returns-in_err-more_names-clause-matches : goal.returns-in_err-more_names-clause-matches
 returns-in_err-more_names-clause-matches g c =
-    let sound : is_lexical_error c.args.parser.now.position.lookahead.cursor.next.token ≡ false =
-    c.requires.ready.sound in
     let is : c.args.parser.now.position.lookahead.cursor.next.token ≡ token.Name c.in-Name.field-0 = cc in
-    let p = err_from_is_err_and c.from_residual-in_err-more_names.result c.from_residual-in_err-more_names.ensures.1 in
-    rw (p.1, p.2) (leaves _ (Part Parameters ∷ []) (Part (More Parameter) ∷ []) [] _ _ c.in_err-more_names.field-0.0
+    rw (passed_on c.from_residual-in_err-more_names.result c.from_residual-in_err-more_names.ensures.1) (leaves _
+    (Part Parameters ∷ []) (Part (More Parameter) ∷ []) [] _ _ c.in_err-more_names.field-0.0
     (λ stack. refl)
-    (parameter_first _ _ c.in-Name.field-0 sound is c.in_ok-expect_declaration.ensures.matches)
+    (parameter_first _ _ c.in-Name.field-0 c.requires.ready.sound is c.in_ok-expect_declaration.ensures.matches)
     c.in_err-more_names.ensures.matches)
 
 pub returns-in_ok-more_names-clause-matches : goal.returns-in_ok-more_names-clause-matches
 returns-in_ok-more_names-clause-matches g c =
-    let sound : is_lexical_error c.args.parser.now.position.lookahead.cursor.next.token ≡ false =
-    c.requires.ready.sound in
     let is : c.args.parser.now.position.lookahead.cursor.next.token ≡ token.Name c.in-Name.field-0 = cc in
     item_on (Part Parameters ∷ []) (Part (More Parameter)) [] _ _ _ (λ stack. refl)
-    (parameter_first _ _ c.in-Name.field-0 sound is c.in_ok-expect_declaration.ensures.matches)
+    (parameter_first _ _ c.in-Name.field-0 c.requires.ready.sound is c.in_ok-expect_declaration.ensures.matches)
     c.in_ok-more_names.ensures.matches
 
 pub returns-in_default : goal.returns-in_default
 returns-in_default g c =
-    let sound : is_lexical_error c.args.parser.now.position.lookahead.cursor.next.token ≡ false =
-    c.requires.ready.sound in
     record {
-      matches = no_parameters _ sound
+      matches = no_parameters _ c.requires.ready.sound
           (λ bytes is. c.in_default.not-Name bytes (ap (λ (l : LocatedToken). l.token) c.peek.ensures.value ∙ is));
       passes = λ o below values acts path. given Parameters []
           (parameters_end _ (λ bytes is. c.in_default.not-Name bytes

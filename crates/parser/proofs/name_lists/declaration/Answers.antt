@@ -1,7 +1,7 @@
 use Rattle.std.proofs.Common.{[], ◌∷◌, refl}
-use Rattle.std.proofs.lemmas.Result.{err_from_is_err_and}
 use Rattle.grammar.specs.Grammar.{Part, Types}
 use Rattle.parser.specs.Declarations.{declaration_items, names_items}
+use Rattle.parser.proofs.Passing.{passed_on}
 use Rattle.parser.proofs.Advances.{handed_kept, kept_then, on}
 use Rattle.parser.proofs.ListLaws.{handed_on, leaves, type_first, types_then}
 use Rattle.parser.proofs.ListPaths.{on_ok}
@@ -9,8 +9,8 @@ use Rattle.parser.proofs.name_lists.declaration.Goals as goal
 
 pub returns-in_err-type_words-clause-matches : goal.returns-in_err-type_words-clause-matches
 returns-in_err-type_words-clause-matches g c =
-    let p = err_from_is_err_and c.from_residual-in_err-type_words.result c.from_residual-in_err-type_words.ensures.1 in
-    rw (p.1, p.2) (leaves _ (declaration_items c.args.declared) (Part Types ∷ []) (names_items c.args.declared) _ _
+    rw (passed_on c.from_residual-in_err-type_words.result c.from_residual-in_err-type_words.ensures.1) (leaves _
+    (declaration_items c.args.declared) (Part Types ∷ []) (names_items c.args.declared) _ _
     c.in_err-type_words.field-0.0 (λ stack. refl)
     (type_first c.args.declared _ _ c.in_ok-expect_type.ensures.matches) c.in_err-type_words.ensures.matches)
 

@@ -1,7 +1,7 @@
 use Rattle.std.proofs.Common.{◌≡◌, [], ◌∷◌, ◌++◌, refl, true, false}
-use Rattle.std.proofs.lemmas.Result.{err_from_is_err_and}
 use Rattle.tokens.specs.declared.located_tokens.Keyword.TheVariants as keyword
-use Rattle.grammar.specs.Grammar.{Part, is_lexical_error, is_keyword}
+use Rattle.grammar.specs.Grammar.{Part, is_keyword}
+use Rattle.parser.proofs.Passing.{passed_on}
 use Rattle.parser.proofs.Names.{stays_at_then}
 use Rattle.parser.specs.Declarations.{declaration_items, declarations_of}
 use Rattle.parser.proofs.Advances.{kept_then, on}
@@ -11,15 +11,14 @@ use Rattle.parser.proofs.name_lists.declarations.Goals as goal
 
 pub loop-declared-preserved : goal.loop-declared-preserved
 loop-declared-preserved g c =
-    let sound : is_lexical_error c.loop-declared.parser.position.lookahead.cursor.next.token ≡ false =
-    c.loop-declared.invariant.kept.ready.sound in
     let is : is_keyword keyword.Type c.loop-declared.parser.position.lookahead.cursor.next.token ≡ true = cc in
     record {
       matches =
           λ depth. goes_on depth _ (declaration_items c.args.declared) [] (Part (declarations_of c.args.declared) ∷ [])
           _ _ _ (λ stack. refl)
           (opens_on depth _ (declarations_of c.args.declared)
-          (declaration_items c.args.declared ++ Part (declarations_of c.args.declared) ∷ []) _ _ sound
+          (declaration_items c.args.declared ++ Part (declarations_of c.args.declared) ∷ []) _ _
+          c.loop-declared.invariant.kept.ready.sound
           (declarations_more c.args.declared _ c.requires.blocks is) (c.loop-declared.invariant.matches depth))
           (c.in_ok-declaration.ensures.matches depth);
       stays = stays_at_then c.args.declared _ _ _ c.loop-declared.invariant.stays c.in_ok-declaration.ensures.stays;
@@ -33,23 +32,20 @@ loop-declared-preserved g c =
 
 pub returns-in_err-declaration-clause-matches : goal.returns-in_err-declaration-clause-matches
 returns-in_err-declaration-clause-matches g c =
-    let sound : is_lexical_error c.loop-declared.parser.position.lookahead.cursor.next.token ≡ false =
-    c.loop-declared.invariant.kept.ready.sound in
     let is : is_keyword keyword.Type c.loop-declared.parser.position.lookahead.cursor.next.token ≡ true = cc in
-    let p = err_from_is_err_and c.from_residual.result c.from_residual.ensures.1 in
-    rw (p.1, p.2) (leaves _ (Part (declarations_of c.args.declared) ∷ []) (declaration_items c.args.declared)
+    rw (passed_on c.from_residual.result c.from_residual.ensures.1) (leaves _
+    (Part (declarations_of c.args.declared) ∷ []) (declaration_items c.args.declared)
     (Part (declarations_of c.args.declared) ∷ []) _ _ c.in_err-declaration.field-0.0 (λ stack. refl)
     (λ depth. opens_on depth _ (declarations_of c.args.declared)
-    (declaration_items c.args.declared ++ Part (declarations_of c.args.declared) ∷ []) _ _ sound
+    (declaration_items c.args.declared ++ Part (declarations_of c.args.declared) ∷ []) _ _
+    c.loop-declared.invariant.kept.ready.sound
     (declarations_more c.args.declared _ c.requires.blocks is) (c.loop-declared.invariant.matches depth))
     c.in_err-declaration.ensures.matches)
 
 pub returns-clause-matches : goal.returns-clause-matches
 returns-clause-matches g c depth =
-    let sound : is_lexical_error c.loop-declared.parser.position.lookahead.cursor.next.token ≡ false =
-    c.loop-declared.invariant.kept.ready.sound in
     let other : is_keyword keyword.Type c.loop-declared.parser.position.lookahead.cursor.next.token ≡ false = cc in
-    opens_on depth _ (declarations_of c.args.declared) [] _ _ sound
+    opens_on depth _ (declarations_of c.args.declared) [] _ _ c.loop-declared.invariant.kept.ready.sound
     (declarations_end c.args.declared _ c.requires.blocks other) (c.loop-declared.invariant.matches depth)
 
 pub returns-clause-passes : goal.returns-clause-passes

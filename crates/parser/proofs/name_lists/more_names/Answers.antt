@@ -1,10 +1,10 @@
 use Rattle.std.proofs.Common.{◌≡◌, [], ◌∷◌, refl, subst, true, false}
-use Rattle.std.proofs.lemmas.Result.{err_from_is_err_and}
 use Rattle.tokens.specs.declared.located_tokens.Punctuator.TheVariants as punctuator
-use Rattle.grammar.specs.Grammar.{AName, Exactly, More, Part, is_lexical_error, is_punctuator}
+use Rattle.grammar.specs.Grammar.{AName, Exactly, More, Part, is_punctuator}
 use Rattle.grammar.specs.Scope.{Scope}
 use Rattle.parser.specs.Defining.{StaysAt}
 use Rattle.parser.specs.Roles.{role_of}
+use Rattle.parser.proofs.Passing.{passed_on}
 use Rattle.parser.proofs.Names.{stays_at_then}
 use Rattle.parser.specs.ScopedCursors.{scope_of}
 use Rattle.parser.proofs.Advances.{kept_then, on}
@@ -14,28 +14,25 @@ use Rattle.parser.proofs.name_lists.more_names.Goals as goal
 
 pub returns-in_err-expect-clause-matches : goal.returns-in_err-expect-clause-matches
 returns-in_err-expect-clause-matches g c =
-    let sound : is_lexical_error c.loop-declared.parser.position.lookahead.cursor.next.token ≡ false =
-    c.loop-declared.invariant.kept.ready.sound in
     let is : is_punctuator punctuator.Comma c.loop-declared.parser.position.lookahead.cursor.next.token ≡ true = cc in
-    let p = err_from_is_err_and c.from_residual.result c.from_residual.ensures.1 in
-    rw (p.1, p.2) (leaves _ (Part (More (role_of c.args.declared)) ∷ []) (Exactly punctuator.Comma ∷ [])
+    rw (passed_on c.from_residual.result c.from_residual.ensures.1) (leaves _
+    (Part (More (role_of c.args.declared)) ∷ []) (Exactly punctuator.Comma ∷ [])
     (AName (role_of c.args.declared) ∷ Part (More (role_of c.args.declared)) ∷ []) _ _ c.in_err-expect.field-0.0
     (λ stack. refl)
     (λ depth. opens_on depth _ (More (role_of c.args.declared))
     (Exactly punctuator.Comma ∷ AName (role_of c.args.declared) ∷ Part (More (role_of c.args.declared)) ∷ []) _ _
-    sound (names_more _ _ is) (c.loop-declared.invariant.matches depth))
+    c.loop-declared.invariant.kept.ready.sound (names_more _ _ is) (c.loop-declared.invariant.matches depth))
     c.in_err-expect.ensures.matches)
 
 pub loop-declared-preserved : goal.loop-declared-preserved
 loop-declared-preserved g c =
-    let sound : is_lexical_error c.loop-declared.parser.position.lookahead.cursor.next.token ≡ false =
-    c.loop-declared.invariant.kept.ready.sound in
     let is : is_punctuator punctuator.Comma c.loop-declared.parser.position.lookahead.cursor.next.token ≡ true = cc in
     record {
       matches =
           λ depth. goes_on depth _ (AName (role_of c.args.declared) ∷ []) []
           (Part (More (role_of c.args.declared)) ∷ []) _ _ _ (λ stack. refl)
-          (more_behind depth (role_of c.args.declared) _ _ _ sound is (c.loop-declared.invariant.matches depth)
+          (more_behind depth (role_of c.args.declared) _ _ _ c.loop-declared.invariant.kept.ready.sound is
+          (c.loop-declared.invariant.matches depth)
           (c.in_ok-expect.ensures.matches depth))
           (c.in_ok-expect_declaration.ensures.matches depth);
       stays = stays_at_then c.args.declared _ _ _ c.loop-declared.invariant.stays
@@ -52,25 +49,21 @@ loop-declared-preserved g c =
 
 pub returns-in_err-expect_declaration-clause-matches : goal.returns-in_err-expect_declaration-clause-matches
 returns-in_err-expect_declaration-clause-matches g c =
-    let sound : is_lexical_error c.loop-declared.parser.position.lookahead.cursor.next.token ≡ false =
-    c.loop-declared.invariant.kept.ready.sound in
     let is : is_punctuator punctuator.Comma c.loop-declared.parser.position.lookahead.cursor.next.token ≡ true = cc in
-    let p =
-    err_from_is_err_and c.from_residual-in_err-expect_declaration.result
-    c.from_residual-in_err-expect_declaration.ensures.1 in
-    rw (p.1, p.2) (leaves _ (Part (More (role_of c.args.declared)) ∷ []) (AName (role_of c.args.declared) ∷ [])
+    rw (passed_on c.from_residual-in_err-expect_declaration.result c.from_residual-in_err-expect_declaration.ensures.1)
+    (leaves _ (Part (More (role_of c.args.declared)) ∷ []) (AName (role_of c.args.declared) ∷ [])
     (Part (More (role_of c.args.declared)) ∷ []) _ _ c.in_err-expect_declaration.field-0.0 (λ stack. refl)
-    (λ depth. more_behind depth (role_of c.args.declared) _ _ _ sound is (c.loop-declared.invariant.matches depth)
+    (λ depth. more_behind depth (role_of c.args.declared) _ _ _ c.loop-declared.invariant.kept.ready.sound is
+    (c.loop-declared.invariant.matches depth)
     (c.in_ok-expect.ensures.matches depth))
     c.in_err-expect_declaration.ensures.matches)
 
 pub returns-clause-matches : goal.returns-clause-matches
 returns-clause-matches g c depth =
-    let sound : is_lexical_error c.loop-declared.parser.position.lookahead.cursor.next.token ≡ false =
-    c.loop-declared.invariant.kept.ready.sound in
     let other : is_punctuator punctuator.Comma c.loop-declared.parser.position.lookahead.cursor.next.token ≡ false =
     cc in
-    opens_on depth _ (More (role_of c.args.declared)) [] _ _ sound (names_end _ _ other)
+    opens_on depth _ (More (role_of c.args.declared)) [] _ _ c.loop-declared.invariant.kept.ready.sound
+    (names_end _ _ other)
     (c.loop-declared.invariant.matches depth)
 
 pub returns-clause-passes : goal.returns-clause-passes

@@ -1,7 +1,7 @@
 use Rattle.std.proofs.Common.{◌≡◌, [], ◌∷◌, ◌∙◌, refl, true, false}
-use Rattle.std.proofs.lemmas.Result.{err_from_is_err_and}
 use Rattle.tokens.specs.declared.located_tokens.Keyword.TheVariants as keyword
-use Rattle.grammar.specs.Grammar.{AKeyword, Part, Types, is_lexical_error, is_keyword}
+use Rattle.grammar.specs.Grammar.{AKeyword, Part, Types, is_keyword}
+use Rattle.parser.proofs.Passing.{passed_on}
 use Rattle.parser.proofs.Advances.{kept_then, on}
 use Rattle.parser.proofs.ListLaws.{goes_on, leaves, opens_on, types_end, types_more}
 use Rattle.parser.proofs.ListPaths.{given}
@@ -9,14 +9,13 @@ use Rattle.parser.proofs.name_lists.type_words.Goals as goal
 
 pub loop-parser-preserved : goal.loop-parser-preserved
 loop-parser-preserved g c =
-    let sound : is_lexical_error c.loop-parser.parser.position.lookahead.cursor.next.token ≡ false =
-    c.loop-parser.invariant.kept.ready.sound in
     let is : is_keyword keyword.Type c.loop-parser.parser.position.lookahead.cursor.next.token ≡ true = cc in
     record {
       matches =
           λ depth. goes_on depth (Part Types ∷ []) (AKeyword keyword.Type ∷ []) [] (Part Types ∷ []) _ _ _
           (λ stack. refl)
-          (opens_on depth (Part Types ∷ []) Types (AKeyword keyword.Type ∷ Part Types ∷ []) _ _ sound (types_more _ is)
+          (opens_on depth (Part Types ∷ []) Types (AKeyword keyword.Type ∷ Part Types ∷ []) _ _
+          c.loop-parser.invariant.kept.ready.sound (types_more _ is)
           (c.loop-parser.invariant.matches depth))
           (c.in_ok-expect_type.ensures.matches depth);
       scope = c.in_ok-expect_type.ensures.scope ∙ c.loop-parser.invariant.scope;
@@ -28,23 +27,21 @@ loop-parser-preserved g c =
 
 pub returns-in_err-expect_type-clause-matches : goal.returns-in_err-expect_type-clause-matches
 returns-in_err-expect_type-clause-matches g c =
-    let sound : is_lexical_error c.loop-parser.parser.position.lookahead.cursor.next.token ≡ false =
-    c.loop-parser.invariant.kept.ready.sound in
     let is : is_keyword keyword.Type c.loop-parser.parser.position.lookahead.cursor.next.token ≡ true = cc in
-    let p = err_from_is_err_and c.from_residual.result c.from_residual.ensures.1 in
-    rw (p.1, p.2) (leaves _ (Part Types ∷ []) (AKeyword keyword.Type ∷ []) (Part Types ∷ []) _ _
+    rw (passed_on c.from_residual.result c.from_residual.ensures.1) (leaves _ (Part Types ∷ [])
+    (AKeyword keyword.Type ∷ []) (Part Types ∷ []) _ _
     c.in_err-expect_type.field-0.0 (λ stack. refl)
-    (λ depth. opens_on depth (Part Types ∷ []) Types (AKeyword keyword.Type ∷ Part Types ∷ []) _ _ sound
+    (λ depth. opens_on depth (Part Types ∷ []) Types (AKeyword keyword.Type ∷ Part Types ∷ []) _ _
+    c.loop-parser.invariant.kept.ready.sound
     (types_more _ is)
     (c.loop-parser.invariant.matches depth))
     c.in_err-expect_type.ensures.matches)
 
 pub returns-clause-matches : goal.returns-clause-matches
 returns-clause-matches g c depth =
-    let sound : is_lexical_error c.loop-parser.parser.position.lookahead.cursor.next.token ≡ false =
-    c.loop-parser.invariant.kept.ready.sound in
     let other : is_keyword keyword.Type c.loop-parser.parser.position.lookahead.cursor.next.token ≡ false = cc in
-    opens_on depth (Part Types ∷ []) Types [] _ _ sound (types_end _ other) (c.loop-parser.invariant.matches depth)
+    opens_on depth (Part Types ∷ []) Types [] _ _ c.loop-parser.invariant.kept.ready.sound (types_end _ other)
+    (c.loop-parser.invariant.matches depth)
 
 pub returns-clause-passes : goal.returns-clause-passes
 returns-clause-passes g c =

@@ -1,13 +1,12 @@
 use Rattle.std.proofs.Common.{◌≡◌, refl, sym, true}
-use Rattle.std.proofs.lemmas.Result.{err_from_is_err_and}
 use Rattle.grammar.specs.Grammar.{is_lexical_error}
+use Rattle.parser.proofs.Passing.{passed_on}
 use Rattle.parser.proofs.Segments.{no_opening, opens_at_lexical_error}
 use Rattle.parser.proofs.scoped_cursor.open_cursor.Goals as goal
 
 pub returns-in_err-begin-clause-refused : goal.returns-in_err-begin-clause-refused
 returns-in_err-begin-clause-refused g c =
-    let p = err_from_is_err_and c.from_residual.result c.from_residual.ensures.1 in
-    rw (p.1, p.2)
+    rw (passed_on c.from_residual.result c.from_residual.ensures.1)
     (no_opening (g.F.Feed.device c.args.feed.now).to_come (g.F.Feed.device c.begin.new.feed).to_come
     c.in_err-begin.ensures.stopped)
 

@@ -1,5 +1,6 @@
 use Rattle.std.proofs.Common.{rules, ◌≡◌, length, false, nat_le, None}
 use Rattle.grammar.specs.Scope.{function_number}
+use Rattle.grammar.specs.NameLimits.{most_names}
 use Rattle.grammar.proofs.ScopeLaws.{called_new}
 use Rattle.grammar.proofs.scope.Scope.number_or_next.Goals as goal
 
@@ -11,5 +12,5 @@ returns-clause-learned c =
     unknown : function_number c.args.name.now c.args.self.now ≡ None
     unknown = search rules
 
-    small : nat_le 64 (length c.args.self.now.functions) ≡ false
+    small : nat_le most_names (length c.args.self.now.functions) ≡ false
     small = search rules

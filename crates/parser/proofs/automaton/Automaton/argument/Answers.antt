@@ -1,10 +1,10 @@
 use Rattle.std.proofs.Common.{◌≡◌, ◌+◌, ◌-◌, ◌≤◌, ◌++◌, refl, true, false, arith}
-use Rattle.std.proofs.lemmas.Result.{err_from_is_err_and}
 use Rattle.tokens.specs.declared.located_tokens.Punctuator.TheVariants as punctuator
 use Rattle.grammar.specs.Grammar.{AddArgument, is_punctuator}
 use Rattle.grammar.specs.Faults.{nested_count}
 use Rattle.parser.specs.Automata.{all_tails, stack_of}
 use Rattle.parser.specs.ScopedCursors.{token_of}
+use Rattle.parser.proofs.Passing.{passed_on}
 use Rattle.parser.proofs.AutomatonLaws.{awaits, closes, comes_to, has_room, moves_from, nested_tails}
 use Rattle.parser.proofs.OperandSteps.{last_argument_path, next_argument_path}
 use Rattle.parser.proofs.PathLaws.{made, punctuator_falls, punctuator_past}
@@ -41,8 +41,7 @@ returns-then-not-is_punctuator-clause-moves g c =
 pub returns-in_err-advance-clause-moves : goal.returns-in_err-advance-clause-moves
 returns-in_err-advance-clause-moves g c =
     let is : is_punctuator punctuator.Comma (token_of c.args.self.now.tokens) ≡ true = cc in
-    let p = err_from_is_err_and c.from_residual.result c.from_residual.ensures.1 in
-    rw (p.1, p.2) (λ o h.
+    rw (passed_on c.from_residual.result c.from_residual.ensures.1) (λ o h.
     let x = has_expr _ h.values (done_at 0 h.fits h.fits.takes.0).1 in
     let y = has_call c.args.callee _ x.rest x.below in
     punctuator_falls punctuator.Comma is h.told c.in_err-advance.ensures.kept c.in_err-advance.ensures.consumes

@@ -1,6 +1,6 @@
 use Rattle.std.proofs.Common.{◌+◌, [], ◌∷◌, refl, ap, arith}
-use Rattle.std.proofs.lemmas.Result.{err_from_is_err_and}
 use Rattle.grammar.specs.Grammar.{AName, Close, Exactly, Expression, Make, Mentioned, Part, Store}
+use Rattle.parser.proofs.Passing.{passed_on}
 use Rattle.parser.proofs.AssignmentForms.{sign_fits, sign_goes_on, sign_of, store_chooses, store_is_nested}
 use Rattle.parser.proofs.AutomatonLaws.{awaits, comes_to, has_room, nests}
 use Rattle.parser.proofs.ExpressionSteps.{assigned, store_path}
@@ -13,8 +13,7 @@ pub returns-in_err-check_nesting-clause-moves : goal.returns-in_err-check_nestin
 returns-in_err-check_nesting-clause-moves g c =
     let a = assigned c.args.op c.requires.starts in
     let s = sign_of _ c.args.op a in
-    let p = err_from_is_err_and c.from_residual.result c.from_residual.ensures.1 in
-    rw (p.1, p.2) (λ o h.
+    rw (passed_on c.from_residual.result c.from_residual.ensures.1) (λ o h.
     nests h.path h.depth c.in_err-check_nesting.ensures.refused (λ depth.
     name_too_deep c.args.self.now.tokens.position _ h.path.ready.near depth Expression Mentioned a.named.name
     (Exactly s.m ∷ Part Expression ∷ Make (Store c.args.op) ∷ Close ∷ []) (store_chooses _ c.args.op a s)
@@ -24,8 +23,7 @@ pub returns-in_err-var-clause-moves : goal.returns-in_err-var-clause-moves
 returns-in_err-var-clause-moves g c =
     let a = assigned c.args.op c.requires.starts in
     let s = sign_of _ c.args.op a in
-    let p = err_from_is_err_and c.from_residual-in_err-var.result c.from_residual-in_err-var.ensures.1 in
-    rw (p.1, p.2) (λ o h.
+    rw (passed_on c.from_residual-in_err-var.result c.from_residual-in_err-var.ensures.1) (λ o h.
     falls (AName Mentioned ∷ []) _ c.in_err-var.field-0.0
     (store_path c.args.op a s (rw h.depth c.in_ok-check_nesting.ensures.ok) h.path) h.told c.in_err-var.ensures.kept
     c.in_err-var.ensures.matches)
@@ -42,8 +40,7 @@ pub returns-in_err-advance-clause-moves : goal.returns-in_err-advance-clause-mov
 returns-in_err-advance-clause-moves g c =
     let a = assigned c.args.op c.requires.starts in
     let s = sign_of _ c.args.op a in
-    let p = err_from_is_err_and c.from_residual-in_err-advance.result c.from_residual-in_err-advance.ensures.1 in
-    rw (p.1, p.2) (λ o h.
+    rw (passed_on c.from_residual-in_err-advance.result c.from_residual-in_err-advance.ensures.1) (λ o h.
     punctuator_falls s.m (sign_fits _ _ c.args.op c.in_ok-var.var a c.in_ok-var.ensures.matches s) h.told
     c.in_err-advance.ensures.kept c.in_err-advance.ensures.consumes
     (c.in_ok-var.ensures.passes _ _ _ _

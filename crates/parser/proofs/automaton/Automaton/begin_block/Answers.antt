@@ -1,8 +1,8 @@
 use Rattle.std.proofs.Common.{◌+◌, [], ◌∷◌, refl, ap, arith}
-use Rattle.std.proofs.lemmas.Result.{err_from_is_err_and}
 use Rattle.tokens.specs.declared.located_tokens.Punctuator.TheVariants as punctuator
 use Rattle.grammar.specs.Grammar.{Part, Block, Declarations}
 use Rattle.parser.specs.ScopedCursors.{token_of}
+use Rattle.parser.proofs.Passing.{passed_on}
 use Rattle.parser.proofs.AutomatonLaws.{comes_to, has_place, nests}
 use Rattle.parser.proofs.Forms.{begins_block, in_braces}
 use Rattle.parser.proofs.Parts.{punctuator_too_deep}
@@ -13,25 +13,21 @@ use Rattle.parser.proofs.automaton.Automaton.begin_block.Goals as goal
 pub returns-in_err-check_nesting-clause-moves : goal.returns-in_err-check_nesting-clause-moves
 returns-in_err-check_nesting-clause-moves g c =
     let b = begins_block (token_of c.args.self.now.tokens) c.requires.starts in
-    let p = err_from_is_err_and c.from_residual.result c.from_residual.ensures.1 in
-    rw (p.1, p.2) (λ o h.
+    rw (passed_on c.from_residual.result c.from_residual.ensures.1) (λ o h.
     nests (block_path c.requires.starts h.path) h.depth c.in_err-check_nesting.ensures.refused (λ depth.
     punctuator_too_deep _ _ h.path.ready.near depth Block punctuator.OpenCurly in_braces [] h.path.ready.sound
     b.chosen c.requires.starts b.opened))
 
 pub returns-in_err-advance-clause-moves : goal.returns-in_err-advance-clause-moves
 returns-in_err-advance-clause-moves g c =
-    let p = err_from_is_err_and c.from_residual-in_err-advance.result c.from_residual-in_err-advance.ensures.1 in
-    rw (p.1, p.2) (λ o h.
+    rw (passed_on c.from_residual-in_err-advance.result c.from_residual-in_err-advance.ensures.1) (λ o h.
     punctuator_falls punctuator.OpenCurly c.requires.starts h.told c.in_err-advance.ensures.kept
     c.in_err-advance.ensures.consumes (braces_path c.requires.starts (rw h.depth c.in_ok-check_nesting.ensures.ok)
     (block_path c.requires.starts h.path)))
 
 pub returns-in_err-declarations-clause-moves : goal.returns-in_err-declarations-clause-moves
 returns-in_err-declarations-clause-moves g c =
-    let p =
-    err_from_is_err_and c.from_residual-in_err-declarations.result c.from_residual-in_err-declarations.ensures.1 in
-    rw (p.1, p.2) (λ o h.
+    rw (passed_on c.from_residual-in_err-declarations.result c.from_residual-in_err-declarations.ensures.1) (λ o h.
     falls (Part Declarations ∷ []) _ c.in_err-declarations.field-0.0
     (punctuator_past punctuator.OpenCurly c.requires.starts c.in_ok-advance.ensures.consumes
     c.in_ok-advance.ensures.kept (braces_path c.requires.starts (rw h.depth c.in_ok-check_nesting.ensures.ok)

@@ -1,8 +1,8 @@
 use Rattle.std.proofs.Common.{◌≡◌, refl, true, false, arith}
-use Rattle.std.proofs.lemmas.Result.{err_from_is_err_and}
 use Rattle.tokens.specs.declared.located_tokens.Punctuator.TheVariants as punctuator
 use Rattle.grammar.specs.Grammar.{is_punctuator}
 use Rattle.parser.specs.ScopedCursors.{token_of}
+use Rattle.parser.proofs.Passing.{passed_on}
 use Rattle.parser.proofs.AutomatonLaws.{comes_to, has_place}
 use Rattle.parser.proofs.PathLaws.{closed, punctuator_falls, punctuator_past}
 use Rattle.parser.proofs.StatementSteps.{no_statement_path, statement_path}
@@ -21,8 +21,7 @@ returns-then-not-is_punctuator-clause-moves g c =
 pub returns-in_err-advance-clause-moves : goal.returns-in_err-advance-clause-moves
 returns-in_err-advance-clause-moves g c =
     let is : is_punctuator punctuator.CloseCurly (token_of c.args.self.now.tokens) ≡ true = cc in
-    let p = err_from_is_err_and c.from_residual.result c.from_residual.ensures.1 in
-    rw (p.1, p.2) (λ o h.
+    rw (passed_on c.from_residual.result c.from_residual.ensures.1) (λ o h.
     punctuator_falls punctuator.CloseCurly is h.told c.in_err-advance.ensures.kept c.in_err-advance.ensures.consumes
     (no_statement_path is h.path))
 

@@ -1,7 +1,7 @@
 use Rattle.std.proofs.Common.{◌+◌, [], ◌∷◌, refl, ap, arith}
-use Rattle.std.proofs.lemmas.Result.{err_from_is_err_and}
 use Rattle.tokens.specs.declared.located_tokens.Punctuator.TheVariants as punctuator
 use Rattle.grammar.specs.Grammar.{Close, Exactly, Expression, Part, Primary}
+use Rattle.parser.proofs.Passing.{passed_on}
 use Rattle.parser.proofs.AutomatonLaws.{awaits, comes_to, has_room, nests, shallow, under_tails}
 use Rattle.parser.proofs.OperandForms.{open_chooses, open_enters}
 use Rattle.parser.proofs.OperandSteps.{bracket_path, bracketed_path}
@@ -11,8 +11,7 @@ use Rattle.parser.proofs.automaton.Automaton.bracket.Goals as goal
 
 pub returns-in_err-check_nesting-clause-moves : goal.returns-in_err-check_nesting-clause-moves
 returns-in_err-check_nesting-clause-moves g c =
-    let p = err_from_is_err_and c.from_residual.result c.from_residual.ensures.1 in
-    rw (p.1, p.2) (λ o h.
+    rw (passed_on c.from_residual.result c.from_residual.ensures.1) (λ o h.
     nests (bracketed_path c.requires.starts h.path) (under_tails c.args.floor _ c.args.self.now.frames h.depth)
     c.in_err-check_nesting.ensures.refused (λ depth. punctuator_too_deep c.args.self.now.tokens.position _
     h.path.ready.near depth Primary punctuator.OpenRound
@@ -23,8 +22,7 @@ returns-in_err-check_nesting-clause-moves g c =
 
 pub returns-in_err-advance-clause-moves : goal.returns-in_err-advance-clause-moves
 returns-in_err-advance-clause-moves g c =
-    let p = err_from_is_err_and c.from_residual-in_err-advance.result c.from_residual-in_err-advance.ensures.1 in
-    rw (p.1, p.2) (λ o h.
+    rw (passed_on c.from_residual-in_err-advance.result c.from_residual-in_err-advance.ensures.1) (λ o h.
     punctuator_falls punctuator.OpenRound c.requires.starts h.told c.in_err-advance.ensures.kept
     c.in_err-advance.ensures.consumes
     (bracket_path c.requires.starts

@@ -1,8 +1,8 @@
 use Rattle.std.proofs.Common.{◌≡◌, ◌+◌, [], ◌∷◌, refl, ap, true, false, arith}
-use Rattle.std.proofs.lemmas.Result.{err_from_is_err_and}
 use Rattle.tokens.specs.declared.located_tokens.Punctuator.TheVariants as punctuator
 use Rattle.grammar.specs.Grammar.{AName, Arguments, Called, Close, Exactly, Invoke, Make, Part, Primary, is_punctuator}
 use Rattle.parser.specs.ScopedCursors.{token_of}
+use Rattle.parser.proofs.Passing.{passed_on}
 use Rattle.parser.proofs.AutomatonLaws.{awaits, comes_to, has_room, nests, refuses, shallow, under_tails}
 use Rattle.parser.proofs.NameLaws.{is_named, named_found}
 use Rattle.parser.proofs.OperandForms.{call_chooses, call_enters}
@@ -13,8 +13,7 @@ use Rattle.parser.proofs.automaton.Automaton.call.Goals as goal
 
 pub returns-in_err-check_nesting-clause-moves : goal.returns-in_err-check_nesting-clause-moves
 returns-in_err-check_nesting-clause-moves g c =
-    let p = err_from_is_err_and c.from_residual.result c.from_residual.ensures.1 in
-    rw (p.1, p.2) (λ o h.
+    rw (passed_on c.from_residual.result c.from_residual.ensures.1) (λ o h.
     nests (named_path (is_named _ c.requires.starts.named) h.path)
     (under_tails c.args.floor _ c.args.self.now.frames h.depth) c.in_err-check_nesting.ensures.refused
     (λ depth. name_too_deep c.args.self.now.tokens.position _ h.path.ready.near depth Primary Called _
@@ -25,8 +24,7 @@ returns-in_err-check_nesting-clause-moves g c =
 
 pub returns-in_err-callee-clause-moves : goal.returns-in_err-callee-clause-moves
 returns-in_err-callee-clause-moves g c =
-    let p = err_from_is_err_and c.from_residual-in_err-callee.result c.from_residual-in_err-callee.ensures.1 in
-    rw (p.1, p.2) (λ o h.
+    rw (passed_on c.from_residual-in_err-callee.result c.from_residual-in_err-callee.ensures.1) (λ o h.
     falls (AName Called ∷ []) _ c.in_err-callee.field-0.0
     (call_path c.requires.starts
     (shallow c.args.floor _ c.args.self.now.frames h.depth c.in_ok-check_nesting.ensures.ok) h.path) h.told
@@ -46,8 +44,7 @@ act-requires g c =
 
 pub returns-in_err-act-clause-moves : goal.returns-in_err-act-clause-moves
 returns-in_err-act-clause-moves g c =
-    let p = err_from_is_err_and c.from_residual-in_err-act.result c.from_residual-in_err-act.ensures.1 in
-    rw (p.1, p.2) (λ o h.
+    rw (passed_on c.from_residual-in_err-act.result c.from_residual-in_err-act.ensures.1) (λ o h.
     out_of_memory
     (c.in_ok-callee.ensures.passes _ _ _ _
     (call_path c.requires.starts
@@ -56,8 +53,7 @@ returns-in_err-act-clause-moves g c =
 
 pub returns-in_err-expect-clause-moves : goal.returns-in_err-expect-clause-moves
 returns-in_err-expect-clause-moves g c =
-    let p = err_from_is_err_and c.from_residual-in_err-expect.result c.from_residual-in_err-expect.ensures.1 in
-    rw (p.1, p.2) (λ o h.
+    rw (passed_on c.from_residual-in_err-expect.result c.from_residual-in_err-expect.ensures.1) (λ o h.
     falls (Exactly punctuator.OpenRound ∷ []) _ c.in_err-expect.field-0.0
     (c.in_ok-callee.ensures.passes _ _ _ _
     (call_path c.requires.starts

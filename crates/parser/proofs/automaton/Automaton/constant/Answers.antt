@@ -1,9 +1,9 @@
 use Rattle.std.proofs.Common.{ℤ, [], ◌∷◌, refl, sym, subst, w32, arith}
-use Rattle.std.proofs.lemmas.Result.{err_from_is_err_and}
 use Rattle.std.proofs.lemmas.Int.{to_z_pos}
 use Rattle.grammar.specs.declared.actions.Action.TheVariants.{PushConstant}
 use Rattle.grammar.specs.Building.{Appends, MayFollow}
 use Rattle.grammar.specs.Grammar.{AConstant}
+use Rattle.parser.proofs.Passing.{passed_on}
 use Rattle.parser.proofs.AutomatonLaws.{operand_done, refuses}
 use Rattle.parser.proofs.OperandForms.{constant_stops}
 use Rattle.parser.proofs.OperandSteps.{constant_path}
@@ -12,8 +12,7 @@ use Rattle.parser.proofs.automaton.Automaton.constant.Goals as goal
 
 pub returns-in_err-advance-clause-moves : goal.returns-in_err-advance-clause-moves
 returns-in_err-advance-clause-moves g c =
-    let p = err_from_is_err_and c.from_residual.result c.from_residual.ensures.1 in
-    rw (p.1, p.2) (λ o h.
+    rw (passed_on c.from_residual.result c.from_residual.ensures.1) (λ o h.
     falls (AConstant ∷ []) _ c.in_err-advance.field-0.0 (constant_path c.args.value c.requires.starts.is h.path) h.told
     c.in_err-advance.ensures.kept
     (constant_stops _ _ c.args.value _ c.requires.starts.is c.in_err-advance.ensures.consumes))
@@ -31,8 +30,7 @@ act-requires g c =
 
 pub returns-in_err-act-clause-moves : goal.returns-in_err-act-clause-moves
 returns-in_err-act-clause-moves g c =
-    let p = err_from_is_err_and c.from_residual-in_err-act.result c.from_residual-in_err-act.ensures.1 in
-    rw (p.1, p.2) (λ o h.
+    rw (passed_on c.from_residual-in_err-act.result c.from_residual-in_err-act.ensures.1) (λ o h.
     out_of_memory
     (constant_past c.args.value c.requires.starts.is c.in_ok-advance.ensures.consumes c.in_ok-advance.ensures.kept
     (constant_path c.args.value c.requires.starts.is h.path))

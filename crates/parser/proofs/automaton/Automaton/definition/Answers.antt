@@ -1,9 +1,9 @@
-use Rattle.std.proofs.lemmas.Result.{err_from_is_err_and}
 use Rattle.std.proofs.Common.{◌≡◌, ◌+◌, [], ◌∷◌, refl, ap, sym, true, false, arith}
 use Rattle.tokens.specs.declared.located_tokens.Punctuator.TheVariants as punctuator
 use Rattle.grammar.specs.Grammar.{Declarations, Empty, Part, is_punctuator}
 use Rattle.parser.specs.Declarations.{header_items}
 use Rattle.parser.specs.ScopedCursors.{token_of}
+use Rattle.parser.proofs.Passing.{passed_on}
 use Rattle.parser.proofs.AutomatonLaws.{comes_to}
 use Rattle.parser.proofs.PathLaws.{falls, made, may, out_of_memory, punctuator_falls, punctuator_past, told_more}
 use Rattle.parser.proofs.AutomatonLaws.{refuses}
@@ -12,8 +12,7 @@ use Rattle.parser.proofs.automaton.Automaton.definition.Goals as goal
 
 pub returns-in_err-number-clause-moves : goal.returns-in_err-number-clause-moves
 returns-in_err-number-clause-moves g c =
-    let p = err_from_is_err_and c.from_residual.result c.from_residual.ensures.1 in
-    rw (p.1, p.2) (λ o h.
+    rw (passed_on c.from_residual.result c.from_residual.ensures.1) (λ o h.
     falls header_items _ c.in_err-number.field-0.0 h.path h.told c.in_err-number.ensures.kept
     c.in_err-number.ensures.matches)
 
@@ -36,8 +35,7 @@ act-requires g c =
 
 pub returns-in_err-act-clause-moves : goal.returns-in_err-act-clause-moves
 returns-in_err-act-clause-moves g c =
-    let p = err_from_is_err_and c.from_residual-in_err-act.result c.from_residual-in_err-act.ensures.1 in
-    rw (p.1, p.2) (λ o h.
+    rw (passed_on c.from_residual-in_err-act.result c.from_residual-in_err-act.ensures.1) (λ o h.
     out_of_memory (c.in_ok-number.ensures.passes _ _ _ _ h.path)
     (refuses c.in_err-act.field-0.0 _ c.in_err-act.ensures.judged))
 
@@ -45,8 +43,7 @@ pub returns-in_err-advance-clause-moves : goal.returns-in_err-advance-clause-mov
 returns-in_err-advance-clause-moves g c =
     let is : is_punctuator punctuator.OpenCurly (token_of c.function_header.new.parser) ≡ true = cc in
     let added = rw (sym c.in_ok-number.ensures.begun.is, c.parameter_count.ensures.count) at c.in_ok-act.ensures.ok in
-    let p = err_from_is_err_and c.from_residual-in_err-advance.result c.from_residual-in_err-advance.ensures.1 in
-    rw (p.1, p.2) (λ o h.
+    rw (passed_on c.from_residual-in_err-advance.result c.from_residual-in_err-advance.ensures.1) (λ o h.
     punctuator_falls punctuator.OpenCurly is (told_more _ _ added h.told) c.in_err-advance.ensures.kept
     c.in_err-advance.ensures.consumes
     (function_block_path is (rw h.fits.0 (omega arith)) (c.in_ok-number.ensures.passes _ _ _ _ h.path)))
@@ -55,9 +52,7 @@ pub returns-in_err-declarations-clause-moves : goal.returns-in_err-declarations-
 returns-in_err-declarations-clause-moves g c =
     let is : is_punctuator punctuator.OpenCurly (token_of c.function_header.new.parser) ≡ true = cc in
     let added = rw (sym c.in_ok-number.ensures.begun.is, c.parameter_count.ensures.count) at c.in_ok-act.ensures.ok in
-    let p =
-    err_from_is_err_and c.from_residual-in_err-declarations.result c.from_residual-in_err-declarations.ensures.1 in
-    rw (p.1, p.2) (λ o h.
+    rw (passed_on c.from_residual-in_err-declarations.result c.from_residual-in_err-declarations.ensures.1) (λ o h.
     falls (Part Declarations ∷ []) _ c.in_err-declarations.field-0.0 (made Empty tt (punctuator_past
     punctuator.OpenCurly is c.in_ok-advance.ensures.consumes c.in_ok-advance.ensures.kept
     (function_block_path is (rw h.fits.0 (omega arith)) (c.in_ok-number.ensures.passes _ _ _ _ h.path))))

@@ -1,7 +1,7 @@
 use Rattle.std.proofs.Common.{refl, arith}
-use Rattle.std.proofs.lemmas.Result.{err_from_is_err_and}
 use Rattle.tokens.specs.declared.located_tokens.Keyword.TheVariants as keyword
 use Rattle.grammar.specs.Grammar.{Empty}
+use Rattle.parser.proofs.Passing.{passed_on}
 use Rattle.parser.proofs.AutomatonLaws.{comes_to, has_place, refuses}
 use Rattle.parser.proofs.PathLaws.{made, may, told_more, out_of_memory, word_falls, word_past}
 use Rattle.parser.proofs.StatementSteps.{else_path}
@@ -9,8 +9,7 @@ use Rattle.parser.proofs.automaton.Automaton.else_branch.Goals as goal
 
 pub returns-in_err-advance-clause-moves : goal.returns-in_err-advance-clause-moves
 returns-in_err-advance-clause-moves g c =
-    let p = err_from_is_err_and c.from_residual.result c.from_residual.ensures.1 in
-    rw (p.1, p.2) (λ o h.
+    rw (passed_on c.from_residual.result c.from_residual.ensures.1) (λ o h.
     word_falls keyword.Else c.requires.starts h.told c.in_err-advance.ensures.kept c.in_err-advance.ensures.consumes
     (else_path c.requires.starts h.path))
 
@@ -26,8 +25,7 @@ act-requires g c =
 
 pub returns-in_err-act-clause-moves : goal.returns-in_err-act-clause-moves
 returns-in_err-act-clause-moves g c =
-    let p = err_from_is_err_and c.from_residual-in_err-act.result c.from_residual-in_err-act.ensures.1 in
-    rw (p.1, p.2) (λ o h.
+    rw (passed_on c.from_residual-in_err-act.result c.from_residual-in_err-act.ensures.1) (λ o h.
     out_of_memory
     (word_past keyword.Else c.requires.starts c.in_ok-advance.ensures.consumes c.in_ok-advance.ensures.kept
     (else_path c.requires.starts h.path)) (refuses c.in_err-act.field-0.0 _ c.in_err-act.ensures.judged))

@@ -1,5 +1,5 @@
-use Rattle.std.proofs.lemmas.Result.{err_from_is_err_and}
 use Rattle.tokens.specs.declared.located_tokens.Punctuator.TheVariants as punctuator
+use Rattle.parser.proofs.Passing.{passed_on}
 use Rattle.parser.proofs.AutomatonLaws.{comes_to}
 use Rattle.parser.proofs.PathLaws.{punctuator_falls, punctuator_past}
 use Rattle.parser.proofs.StatementSteps.{empty_path}
@@ -7,8 +7,7 @@ use Rattle.parser.proofs.automaton.Automaton.empty_statement.Goals as goal
 
 pub returns-in_err-advance-clause-moves : goal.returns-in_err-advance-clause-moves
 returns-in_err-advance-clause-moves g c =
-    let p = err_from_is_err_and c.from_residual.result c.from_residual.ensures.1 in
-    rw (p.1, p.2) (λ o h.
+    rw (passed_on c.from_residual.result c.from_residual.ensures.1) (λ o h.
     punctuator_falls punctuator.Semicolon c.requires.starts h.told c.in_err-advance.ensures.kept
     c.in_err-advance.ensures.consumes (empty_path c.requires.starts h.path))
 

@@ -1,10 +1,10 @@
-use Rattle.std.proofs.lemmas.Result.{err_from_is_err_and}
 use Rattle.std.proofs.Common.{◌≡◌, [], ◌∷◌, ◌++◌, refl, sym, subst, true, arith, length}
 use Rattle.tokens.specs.declared.located_tokens.Punctuator.TheVariants as punctuator
 use Rattle.grammar.specs.Grammar.{Close, Exactly, Part, Source, is_punctuator}
 use Rattle.grammar.specs.Scope.{end_definition}
 use Rattle.parser.specs.FunctionEnds.{end_actions}
 use Rattle.parser.specs.ScopedCursors.{ScopedCursor, scope_of, token_of, with_scope}
+use Rattle.parser.proofs.Passing.{passed_on}
 use Rattle.parser.proofs.AutomatonLaws.{comes_to}
 use Rattle.parser.specs.Automata.{stack_of}
 use Rattle.parser.specs.Paths.{Path}
@@ -24,8 +24,7 @@ report_end-requires g c =
 
 pub returns-in_err-report_end-clause-moves : goal.returns-in_err-report_end-clause-moves
 returns-in_err-report_end-clause-moves g c =
-    let p = err_from_is_err_and c.from_residual.result c.from_residual.ensures.1 in
-    rw (p.1, p.2) (λ o h.
+    rw (passed_on c.from_residual.result c.from_residual.ensures.1) (λ o h.
     rw c.in_err-report_end.ensures.kept.tokens (end_refused c.in_err-report_end.field-0.0
     (no_statement_path c.requires.starts h.path) c.requires.starts h.told h.new
     c.in_err-report_end.ensures.ends))
@@ -39,8 +38,7 @@ returns-in_err-advance-clause-moves g c =
     let fits : is_punctuator punctuator.CloseCurly (token_of c.end_definition.new.self) ≡ true =
     subst (λ (t : ScopedCursor). is_punctuator punctuator.CloseCurly (token_of t) ≡ true) (sym same) c.requires.starts
     in
-    let p = err_from_is_err_and c.from_residual-in_err-advance.result c.from_residual-in_err-advance.ensures.1 in
-    rw (p.1, p.2) (λ o h.
+    rw (passed_on c.from_residual-in_err-advance.result c.from_residual-in_err-advance.ensures.1) (λ o h.
     punctuator_falls punctuator.CloseCurly fits (told_more _ _ closes.added h.told) c.in_err-advance.ensures.kept
     c.in_err-advance.ensures.consumes (subst (λ (t : ScopedCursor). Path o.origin
     (Exactly punctuator.CloseCurly ∷ Close ∷ Part Source ∷ stack_of c.args.self.now.frames) []

@@ -1,6 +1,6 @@
 use Rattle.std.proofs.Common.{arith}
-use Rattle.std.proofs.lemmas.Result.{err_from_is_err_and}
 use Rattle.parser.specs.UnaryOps.{actions_after_operand}
+use Rattle.parser.proofs.Passing.{passed_on}
 use Rattle.parser.proofs.AutomatonLaws.{closes, may_report, operand_stands, refuses, told_all}
 use Rattle.parser.proofs.OperandSteps.{signed_path}
 use Rattle.parser.proofs.PathLaws.{closed, out_of_memory}
@@ -19,8 +19,7 @@ report_after_operand-requires g c =
 
 pub returns-in_err-report_after_operand-clause-moves : goal.returns-in_err-report_after_operand-clause-moves
 returns-in_err-report_after_operand-clause-moves g c =
-    let p = err_from_is_err_and c.from_residual.result c.from_residual.ensures.1 in
-    rw (p.1, p.2) (λ o h.
+    rw (passed_on c.from_residual.result c.from_residual.ensures.1) (λ o h.
     out_of_memory h.path
     (refuses c.in_err-report_after_operand.field-0.0 _ c.in_err-report_after_operand.ensures.memory))
 

@@ -1,6 +1,6 @@
 use Rattle.std.proofs.Common.{arith}
-use Rattle.std.proofs.lemmas.Result.{err_from_is_err_and}
 use Rattle.grammar.specs.Grammar.{Repeat}
+use Rattle.parser.proofs.Passing.{passed_on}
 use Rattle.parser.proofs.AutomatonLaws.{comes_to, refuses}
 use Rattle.parser.proofs.PathLaws.{closed, made, may, told_more, out_of_memory}
 use Rattle.parser.proofs.automaton.Automaton.end_while.Goals as goal
@@ -11,8 +11,7 @@ act-requires g c =
 
 pub returns-in_err-act-clause-moves : goal.returns-in_err-act-clause-moves
 returns-in_err-act-clause-moves g c =
-    let p = err_from_is_err_and c.from_residual.result c.from_residual.ensures.1 in
-    rw (p.1, p.2) (λ o h.
+    rw (passed_on c.from_residual.result c.from_residual.ensures.1) (λ o h.
     out_of_memory h.path (refuses c.in_err-act.field-0.0 _ c.in_err-act.ensures.judged))
 
 pub returns-clause-moves : goal.returns-clause-moves

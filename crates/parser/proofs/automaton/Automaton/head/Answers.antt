@@ -1,4 +1,3 @@
-use Rattle.std.proofs.lemmas.Result.{err_from_is_err_and}
 use Rattle.std.proofs.Common.{◌≡◌, ◌∙◌, refl, ap, sym, true, false}
 use Rattle.tokens.specs.declared.located_tokens.LocatedToken.{LocatedToken}
 use Rattle.tokens.specs.declared.located_tokens.Punctuator.TheVariants as punctuator
@@ -6,6 +5,7 @@ use Rattle.grammar.specs.Grammar.{is_punctuator}
 use Rattle.parser.specs.declared.roles.Declared.TheVariants as kind
 use Rattle.parser.specs.Declarations.{names_items}
 use Rattle.parser.specs.ScopedCursors.{token_after}
+use Rattle.parser.proofs.Passing.{passed_on}
 use Rattle.parser.proofs.AutomatonLaws.{comes_to}
 use Rattle.parser.proofs.PathLaws.{falls}
 use Rattle.parser.proofs.SourceSteps.{external_path, head_definition_path, head_misfits}
@@ -24,8 +24,7 @@ pub returns-in_err-external_declaration-in-Name-2-clause-moves :
     goal.returns-in_err-external_declaration-in-Name-2-clause-moves
 returns-in_err-external_declaration-in-Name-2-clause-moves g c =
     let other : is_punctuator punctuator.OpenRound (token_after c.args.self.now.tokens) ≡ false = cc in
-    let p = err_from_is_err_and c.from_residual.result c.from_residual.ensures.1 in
-    rw (p.1, p.2) (λ o h.
+    rw (passed_on c.from_residual.result c.from_residual.ensures.1) (λ o h.
     falls (names_items kind.Externals) _ c.in_err-external_declaration-in-Name-2.field-0.0
     (external_path c.in-Name-2.field-0
     (ap (λ (l : LocatedToken). l.token) (sym c.peek.ensures.value) ∙ c.in-Name-2.is) other h.path) h.told

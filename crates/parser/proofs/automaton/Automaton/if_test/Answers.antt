@@ -1,15 +1,14 @@
 use Rattle.std.proofs.Common.{[], ◌∷◌, refl, arith}
-use Rattle.std.proofs.lemmas.Result.{err_from_is_err_and}
 use Rattle.tokens.specs.declared.located_tokens.Punctuator.TheVariants as punctuator
 use Rattle.grammar.specs.Grammar.{Exactly, Empty}
+use Rattle.parser.proofs.Passing.{passed_on}
 use Rattle.parser.proofs.AutomatonLaws.{comes_to, has_place, refuses}
 use Rattle.parser.proofs.PathLaws.{falls, made, may, told_more, out_of_memory}
 use Rattle.parser.proofs.automaton.Automaton.if_test.Goals as goal
 
 pub returns-in_err-expect-clause-moves : goal.returns-in_err-expect-clause-moves
 returns-in_err-expect-clause-moves g c =
-    let p = err_from_is_err_and c.from_residual.result c.from_residual.ensures.1 in
-    rw (p.1, p.2) (λ o h.
+    rw (passed_on c.from_residual.result c.from_residual.ensures.1) (λ o h.
     falls (Exactly punctuator.CloseRound ∷ []) _ c.in_err-expect.field-0.0 h.path h.told c.in_err-expect.ensures.kept
     c.in_err-expect.ensures.matches)
 
@@ -20,8 +19,7 @@ act-requires g c =
 
 pub returns-in_err-act-clause-moves : goal.returns-in_err-act-clause-moves
 returns-in_err-act-clause-moves g c =
-    let p = err_from_is_err_and c.from_residual-in_err-act.result c.from_residual-in_err-act.ensures.1 in
-    rw (p.1, p.2) (λ o h.
+    rw (passed_on c.from_residual-in_err-act.result c.from_residual-in_err-act.ensures.1) (λ o h.
     out_of_memory (c.in_ok-expect.ensures.passes _ _ _ _ h.path)
     (refuses c.in_err-act.field-0.0 _ c.in_err-act.ensures.judged))
 

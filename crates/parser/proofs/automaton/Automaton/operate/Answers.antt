@@ -1,10 +1,10 @@
 use Rattle.std.proofs.Common.{◌≡◌, ◌+◌, ◌-◌, ◌∙◌, ℕ, suc, sym, subst, arith}
 use Rattle.std.specs.Prelude.{None}
-use Rattle.std.proofs.lemmas.Result.{err_from_is_err_and}
 use Rattle.grammar.specs.Grammar.{Operate}
 use Rattle.grammar.specs.Laws.Climbing.{operator_from}
 use Rattle.parser.specs.Automata.{stack_of}
 use Rattle.parser.specs.ScopedCursors.{token_of}
+use Rattle.parser.proofs.Passing.{passed_on}
 use Rattle.parser.proofs.AutomatonLaws.{nested_tails, operators_stand, refuses}
 use Rattle.parser.proofs.PathLaws.{made, may, told_more, out_of_memory}
 use Rattle.parser.proofs.TreeLaws.{done_at, has_expr, on_both, valued}
@@ -21,8 +21,7 @@ act-requires g c =
 
 pub returns-in_err-act-clause-moves : goal.returns-in_err-act-clause-moves
 returns-in_err-act-clause-moves g c =
-    let p = err_from_is_err_and c.from_residual.result c.from_residual.ensures.1 in
-    rw (p.1, p.2) (λ o h.
+    rw (passed_on c.from_residual.result c.from_residual.ensures.1) (λ o h.
     out_of_memory h.path (refuses c.in_err-act.field-0.0 _ c.in_err-act.ensures.judged))
 
 pub returns-clause-moves : goal.returns-clause-moves

@@ -1,10 +1,10 @@
 use Rattle.std.proofs.Common.{◌≡◌, ◌+◌, ◌-◌, ◌∙◌, refl, arith}
 use Rattle.std.specs.Prelude.{Some, None}
-use Rattle.std.proofs.lemmas.Result.{err_from_is_err_and}
 use Rattle.grammar.specs.Actions.{middle}
 use Rattle.grammar.specs.Laws.Climbing.{operator_from}
 use Rattle.parser.specs.Automata.{stack_of}
 use Rattle.parser.specs.ScopedCursors.{token_of}
+use Rattle.parser.proofs.Passing.{passed_on}
 use Rattle.parser.proofs.AutomatonLaws.{comes_to, has_place, may_report, moves_from, nested_tails, refuses, told_all}
 use Rattle.parser.proofs.ExpressionSteps.{operand_path, operator_path}
 use Rattle.parser.proofs.Operators.{at_its_own, found, spells, ten_levels}
@@ -55,8 +55,7 @@ report_middle-requires g c =
 
 pub returns-in_err-report_middle-clause-moves : goal.returns-in_err-report_middle-clause-moves
 returns-in_err-report_middle-clause-moves g c =
-    let p = err_from_is_err_and c.from_residual.result c.from_residual.ensures.1 in
-    rw (p.1, p.2) (λ o h.
+    rw (passed_on c.from_residual.result c.from_residual.ensures.1) (λ o h.
     out_of_memory h.path (refuses c.in_err-report_middle.field-0.0 _ c.in_err-report_middle.ensures.memory))
 
 pub advance-requires : goal.advance-requires
@@ -73,8 +72,7 @@ returns-in_err-advance-clause-moves g c =
     let s =
     spells c.in-Some.binary.level c.in-Some.binary.op _
     (at_its_own _ c.in-Some.binary (found c.args.floor _ c.in-Some.binary is).0) in
-    let p = err_from_is_err_and c.from_residual-in_err-advance.result c.from_residual-in_err-advance.ensures.1 in
-    rw (p.1, p.2) (λ o h.
+    rw (passed_on c.from_residual-in_err-advance.result c.from_residual-in_err-advance.ensures.1) (λ o h.
     punctuator_falls s.m s.fits
     (told_all _ _ (middle c.in-Some.binary.op) c.in_ok-report_middle.ensures.reported h.told)
     c.in_err-advance.ensures.kept c.in_err-advance.ensures.consumes

@@ -1,7 +1,7 @@
 use Rattle.std.proofs.Common.{[], ◌∷◌, refl}
-use Rattle.std.proofs.lemmas.Result.{err_from_is_err_and}
 use Rattle.grammar.specs.Grammar.{AName, Mentioned, PrefixIncrement}
 use Rattle.parser.specs.UnaryOps.{increment_punctuator, increment_store_op, prefix_actions}
+use Rattle.parser.proofs.Passing.{passed_on}
 use Rattle.parser.proofs.AutomatonLaws.{may_report, operand_done, refuses, told_all}
 use Rattle.parser.proofs.OperandSteps.{prefix_path}
 use Rattle.parser.proofs.PathLaws.{falls, made, out_of_memory, punctuator_falls, punctuator_past}
@@ -9,16 +9,14 @@ use Rattle.parser.proofs.automaton.Automaton.prefix_increment.Goals as goal
 
 pub returns-in_err-advance-clause-moves : goal.returns-in_err-advance-clause-moves
 returns-in_err-advance-clause-moves g c =
-    let p = err_from_is_err_and c.from_residual.result c.from_residual.ensures.1 in
-    rw (p.1, p.2) (λ o h.
+    rw (passed_on c.from_residual.result c.from_residual.ensures.1) (λ o h.
     punctuator_falls (increment_punctuator c.args.increment) c.requires.starts h.told c.in_err-advance.ensures.kept
     c.in_err-advance.ensures.consumes
     (prefix_path c.args.increment c.requires.starts h.path))
 
 pub returns-in_err-var-clause-moves : goal.returns-in_err-var-clause-moves
 returns-in_err-var-clause-moves g c =
-    let p = err_from_is_err_and c.from_residual-in_err-var.result c.from_residual-in_err-var.ensures.1 in
-    rw (p.1, p.2) (λ o h.
+    rw (passed_on c.from_residual-in_err-var.result c.from_residual-in_err-var.ensures.1) (λ o h.
     falls (AName Mentioned ∷ []) _ c.in_err-var.field-0.0 (punctuator_past (increment_punctuator c.args.increment)
     c.requires.starts c.in_ok-advance.ensures.consumes c.in_ok-advance.ensures.kept
     (prefix_path c.args.increment c.requires.starts h.path)) h.told c.in_err-var.ensures.kept
@@ -38,9 +36,7 @@ report_prefix-requires g c =
 
 pub returns-in_err-report_prefix-clause-moves : goal.returns-in_err-report_prefix-clause-moves
 returns-in_err-report_prefix-clause-moves g c =
-    let p =
-    err_from_is_err_and c.from_residual-in_err-report_prefix.result c.from_residual-in_err-report_prefix.ensures.1 in
-    rw (p.1, p.2) (λ o h.
+    rw (passed_on c.from_residual-in_err-report_prefix.result c.from_residual-in_err-report_prefix.ensures.1) (λ o h.
     out_of_memory (c.in_ok-var.ensures.passes _ _ _ _ (punctuator_past (increment_punctuator c.args.increment)
     c.requires.starts c.in_ok-advance.ensures.consumes c.in_ok-advance.ensures.kept
     (prefix_path c.args.increment c.requires.starts h.path)))

@@ -1,7 +1,7 @@
 use Rattle.std.proofs.Common.{◌∙◌, refl, subst}
-use Rattle.std.proofs.lemmas.Result.{err_from_is_err_and}
 use Rattle.parser.specs.declared.frames.Front.{Front}
 use Rattle.parser.specs.Automata.{Stands}
+use Rattle.parser.proofs.Passing.{passed_on}
 use Rattle.parser.proofs.AutomatonLaws.{has_more}
 use Rattle.parser.proofs.automaton.Automaton.run.Goals as goal
 
@@ -25,8 +25,8 @@ step-requires g c = record {
 
 pub returns-in_err-front-clause-runs : goal.returns-in_err-front-clause-runs
 returns-in_err-front-clause-runs g c =
-    let p = err_from_is_err_and c.from_residual.result c.from_residual.ensures.1 in
-    rw (p.1, p.2) (λ o h. c.in_err-front.ensures.moves o (c.loop-front.invariant.moved o h))
+    rw (passed_on c.from_residual.result c.from_residual.ensures.1)
+    (λ o h. c.in_err-front.ensures.moves o (c.loop-front.invariant.moved o h))
 
 pub returns-in-End-clause-runs : goal.returns-in-End-clause-runs
 returns-in-End-clause-runs g c = λ o h.

@@ -1,7 +1,7 @@
 use Rattle.std.proofs.Common.{◌+◌, [], ◌∷◌, refl, ap, arith}
-use Rattle.std.proofs.lemmas.Result.{err_from_is_err_and}
 use Rattle.grammar.specs.Grammar.{Close, Make, Part, Unary}
 use Rattle.parser.specs.UnaryOps.{actions_before_operand, unary_action, unary_punctuator}
+use Rattle.parser.proofs.Passing.{passed_on}
 use Rattle.parser.proofs.AutomatonLaws.{comes_to, has_room, may_report, nests, refuses, shallow, told_all, under_tails}
 use Rattle.parser.proofs.OperandForms.{sign_chooses, sign_is_nested}
 use Rattle.parser.proofs.OperandSteps.{sign_path}
@@ -11,8 +11,7 @@ use Rattle.parser.proofs.automaton.Automaton.sign.Goals as goal
 
 pub returns-in_err-check_nesting-clause-moves : goal.returns-in_err-check_nesting-clause-moves
 returns-in_err-check_nesting-clause-moves g c =
-    let p = err_from_is_err_and c.from_residual.result c.from_residual.ensures.1 in
-    rw (p.1, p.2) (λ o h.
+    rw (passed_on c.from_residual.result c.from_residual.ensures.1) (λ o h.
     nests h.path (under_tails c.args.floor _ c.args.self.now.frames h.depth) c.in_err-check_nesting.ensures.refused (λ
     depth.
     punctuator_too_deep c.args.self.now.tokens.position _ h.path.ready.near depth Unary (unary_punctuator c.args.sign)
@@ -32,17 +31,15 @@ report_before_operand-requires g c =
 
 pub returns-in_err-report_before_operand-clause-moves : goal.returns-in_err-report_before_operand-clause-moves
 returns-in_err-report_before_operand-clause-moves g c =
-    let p =
-    err_from_is_err_and c.from_residual-in_err-report_before_operand.result
-    c.from_residual-in_err-report_before_operand.ensures.1 in
-    rw (p.1, p.2) (λ o h.
+    rw
+    (passed_on c.from_residual-in_err-report_before_operand.result
+    c.from_residual-in_err-report_before_operand.ensures.1) (λ o h.
     out_of_memory h.path
     (refuses c.in_err-report_before_operand.field-0.0 _ c.in_err-report_before_operand.ensures.memory))
 
 pub returns-in_err-advance-clause-moves : goal.returns-in_err-advance-clause-moves
 returns-in_err-advance-clause-moves g c =
-    let p = err_from_is_err_and c.from_residual-in_err-advance.result c.from_residual-in_err-advance.ensures.1 in
-    rw (p.1, p.2) (λ o h.
+    rw (passed_on c.from_residual-in_err-advance.result c.from_residual-in_err-advance.ensures.1) (λ o h.
     punctuator_falls (unary_punctuator c.args.sign) c.requires.starts
     (told_all _ _ (actions_before_operand c.args.sign) c.in_ok-report_before_operand.ensures.reported h.told)
     c.in_err-advance.ensures.kept c.in_err-advance.ensures.consumes

@@ -1,6 +1,6 @@
 use Rattle.std.proofs.Common.{[], ◌∷◌, refl}
-use Rattle.std.proofs.lemmas.Result.{err_from_is_err_and}
 use Rattle.grammar.specs.Grammar.{AName, Fetch, Mentioned}
+use Rattle.parser.proofs.Passing.{passed_on}
 use Rattle.parser.proofs.AutomatonLaws.{moves_from, operand_done, refuses}
 use Rattle.parser.proofs.OperandSteps.{variable_path}
 use Rattle.parser.proofs.PathLaws.{falls, made, may, told_more, out_of_memory}
@@ -8,8 +8,7 @@ use Rattle.parser.proofs.automaton.Automaton.variable.Goals as goal
 
 pub returns-in_err-var-clause-moves : goal.returns-in_err-var-clause-moves
 returns-in_err-var-clause-moves g c =
-    let p = err_from_is_err_and c.from_residual.result c.from_residual.ensures.1 in
-    rw (p.1, p.2) (λ o h.
+    rw (passed_on c.from_residual.result c.from_residual.ensures.1) (λ o h.
     falls (AName Mentioned ∷ []) _ c.in_err-var.field-0.0 (variable_path c.requires.starts h.path) h.told
     c.in_err-var.ensures.kept
     c.in_err-var.ensures.matches)
@@ -25,8 +24,7 @@ act-requires g c =
 
 pub returns-in_err-act-clause-moves : goal.returns-in_err-act-clause-moves
 returns-in_err-act-clause-moves g c =
-    let p = err_from_is_err_and c.from_residual-in_err-act.result c.from_residual-in_err-act.ensures.1 in
-    rw (p.1, p.2) (λ o h.
+    rw (passed_on c.from_residual-in_err-act.result c.from_residual-in_err-act.ensures.1) (λ o h.
     out_of_memory (c.in_ok-var.ensures.passes _ _ _ _ (variable_path c.requires.starts h.path))
     (refuses c.in_err-act.field-0.0 _ c.in_err-act.ensures.judged))
 

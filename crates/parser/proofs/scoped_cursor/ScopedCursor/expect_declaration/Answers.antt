@@ -2,10 +2,10 @@ use Rattle.std.proofs.Common.{◌≡◌, subst, sym, ap}
 use Rattle.std.proofs.lemmas.Result.{err_from_is_err_and}
 use Rattle.tokens.specs.Cursors.{IsNear}
 use Rattle.tokens.specs.declared.located_tokens.LocatedToken.{LocatedToken}
-use Rattle.tokens.specs.declared.located_tokens.Token.TheVariants as token
 use Rattle.parser.specs.Roles.{role_of}
 use Rattle.parser.specs.Segment.{IsNoName}
 use Rattle.parser.specs.ScopedCursors.{ScopedCursor}
+use Rattle.parser.proofs.Passing.{passed_on}
 use Rattle.parser.proofs.Items.{name_derives, name_misfits, name_refused, name_stops, no_tree}
 use Rattle.parser.proofs.Names.{declared_stays}
 use Rattle.parser.proofs.Segments.{refused_map}
@@ -14,8 +14,7 @@ use Rattle.parser.proofs.scoped_cursor.ScopedCursor.expect_declaration.Goals as 
 
 pub returns-in_err-name-clause-matches : goal.returns-in_err-name-clause-matches
 returns-in_err-name-clause-matches g c =
-    let p = err_from_is_err_and c.from_residual.result c.from_residual.ensures.1 in
-    rw (p.1, p.2)
+    rw (passed_on c.from_residual.result c.from_residual.ensures.1)
     (name_misfits _ _ (role_of c.args.declared) c.in_err-name.field-0.0 c.requires.ready.near
     (subst (λ (p : ScopedCursor). IsNoName p.position.lookahead.cursor.next c.in_err-name.field-0.0) c.self.view_is
     c.in_err-name.ensures.other))
@@ -24,35 +23,33 @@ pub returns-in_err-or_refusal-clause-matches : goal.returns-in_err-or_refusal-cl
 returns-in_err-or_refusal-clause-matches g c =
     let near : IsNear c.self.inside.cursor =
     subst (λ (p : ScopedCursor). IsNear p.position.lookahead.cursor) (sym c.self.view_is) c.requires.ready.near in
-    let found : c.self.inside.cursor.next.token ≡ token.Name c.in_ok-name.name.now =
-    c.in_ok-name.ensures.found in
     let line : c.peek.result.now.line ≡ c.self.inside.cursor.next.line =
     ap (λ (l : LocatedToken). l.line) c.peek.ensures.value in
     let refused = c.in_err-or_refusal.ensures.refused in
-    let p = err_from_is_err_and c.from_residual-in_err-or_refusal.result c.from_residual-in_err-or_refusal.ensures.1 in
-    rw (p.1, p.2, refused.is, line, sym c.self.view_is)
-    (name_refused _ (role_of c.args.declared) _ refused.code near found
+    rw (
+      passed_on c.from_residual-in_err-or_refusal.result c.from_residual-in_err-or_refusal.ensures.1,
+      refused.is,
+      line,
+      sym c.self.view_is,
+    )
+    (name_refused _ (role_of c.args.declared) _ refused.code near c.in_ok-name.ensures.found
     (rw refused.answered at c.declare_in.ensures.refused))
 
 pub returns-in_err-advance-clause-matches : goal.returns-in_err-advance-clause-matches
 returns-in_err-advance-clause-matches g c =
-    let found : c.self.inside.cursor.next.token ≡ token.Name c.in_ok-name.name.now =
-    c.in_ok-name.ensures.found in
     let p = err_from_is_err_and c.from_residual-in_err-advance.result c.from_residual-in_err-advance.ensures.1 in
     rw (p.1, p.2, sym c.self.view_is)
     (refused_map _ _ _ ⊥ ⊥ c.in_err-advance.field-0.0
     (name_stops c.self.inside.cursor c.self.inside.scope.now _ _ (role_of c.args.declared) c.in_ok-name.name.now
-    found ((rw c.in_ok-or_refusal.ensures.ok at c.declare_in.ensures.learned) _)) (λ same. same)
+    c.in_ok-name.ensures.found ((rw c.in_ok-or_refusal.ensures.ok at c.declare_in.ensures.learned) _)) (λ same. same)
     c.in_err-advance.ensures.consumes)
 
 pub returns-clause-matches : goal.returns-clause-matches
 returns-clause-matches g c =
-    let found : c.self.inside.cursor.next.token ≡ token.Name c.in_ok-name.name.now =
-    c.in_ok-name.ensures.found in
     rw (sym c.self.view_is)
     (name_derives c.self.inside.cursor c.self.inside.scope.now _ _ _ (role_of c.args.declared)
     c.in_ok-name.name.now _
-    found ((rw c.in_ok-or_refusal.ensures.ok at c.declare_in.ensures.learned) _)
+    c.in_ok-name.ensures.found ((rw c.in_ok-or_refusal.ensures.ok at c.declare_in.ensures.learned) _)
     (no_tree _ c.self.inside.scope.now c.args.declared)
     c.in_ok-advance.ensures.consumes)
 

@@ -1,7 +1,7 @@
 use Rattle.std.proofs.Common.{◌≡◌, true, false}
-use Rattle.std.proofs.lemmas.Result.{err_from_is_err_and}
 use Rattle.tokens.specs.declared.located_tokens.Keyword.TheVariants as keyword
-use Rattle.grammar.specs.Grammar.{is_lexical_error, is_keyword}
+use Rattle.grammar.specs.Grammar.{is_keyword}
+use Rattle.parser.proofs.Passing.{passed_on}
 use Rattle.parser.proofs.Items.{word_misfits, word_stops, word_derives}
 use Rattle.parser.proofs.Segments.{refused_map}
 use Rattle.parser.proofs.PathLaws.{word_past}
@@ -9,29 +9,23 @@ use Rattle.parser.proofs.scoped_cursor.ScopedCursor.expect_type.Goals as goal
 
 pub returns-then-not-is_keyword-clause-matches : goal.returns-then-not-is_keyword-clause-matches
 returns-then-not-is_keyword-clause-matches g c =
-    let sound : is_lexical_error c.args.self.now.position.lookahead.cursor.next.token ≡ false =
-    c.requires.ready.sound in
     let misses : is_keyword keyword.Type c.args.self.now.position.lookahead.cursor.next.token ≡ false = cc in
-    rw c.unexpected_token.ensures (word_misfits _ keyword.Type c.requires.ready.near sound misses)
+    rw c.unexpected_token.ensures (word_misfits _ keyword.Type c.requires.ready.near c.requires.ready.sound misses)
 
 pub returns-in_err-advance-clause-matches : goal.returns-in_err-advance-clause-matches
 returns-in_err-advance-clause-matches g c =
-    let sound : is_lexical_error c.args.self.now.position.lookahead.cursor.next.token ≡ false =
-    c.requires.ready.sound in
     let fits : is_keyword keyword.Type c.args.self.now.position.lookahead.cursor.next.token ≡ true = cc in
-    let p = err_from_is_err_and c.from_residual.result c.from_residual.ensures.1 in
-    rw (p.1, p.2)
+    rw (passed_on c.from_residual.result c.from_residual.ensures.1)
     (refused_map _ _ _ ⊥ ⊥ c.in_err-advance.field-0.0
-    (word_stops c.args.self.now.position.lookahead.cursor c.args.self.now.position.lookahead.scope _ keyword.Type sound
+    (word_stops c.args.self.now.position.lookahead.cursor c.args.self.now.position.lookahead.scope _ keyword.Type
+    c.requires.ready.sound
     fits) (λ same. same) c.in_err-advance.ensures.consumes)
 
 pub returns-clause-matches : goal.returns-clause-matches
 returns-clause-matches g c =
-    let sound : is_lexical_error c.args.self.now.position.lookahead.cursor.next.token ≡ false =
-    c.requires.ready.sound in
     let fits : is_keyword keyword.Type c.args.self.now.position.lookahead.cursor.next.token ≡ true = cc in
     word_derives c.args.self.now.position.lookahead.cursor c.args.self.now.position.lookahead.scope _ _ keyword.Type
-    sound
+    c.requires.ready.sound
     fits
     c.in_ok-advance.ensures.consumes
 

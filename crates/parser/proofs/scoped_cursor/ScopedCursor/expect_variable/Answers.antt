@@ -2,11 +2,11 @@ use Rattle.std.proofs.Common.{◌≡◌, subst, [], ◌∷◌, sym, ap}
 use Rattle.std.proofs.lemmas.Result.{err_from_is_err_and}
 use Rattle.tokens.specs.Cursors.{IsNear}
 use Rattle.tokens.specs.declared.located_tokens.LocatedToken.{LocatedToken}
-use Rattle.tokens.specs.declared.located_tokens.Token.TheVariants as token
 use Rattle.grammar.specs.Derivation.{AVariable}
 use Rattle.grammar.specs.Grammar.{Mentioned}
 use Rattle.parser.specs.Segment.{IsNoName}
 use Rattle.parser.specs.ScopedCursors.{ScopedCursor}
+use Rattle.parser.proofs.Passing.{passed_on}
 use Rattle.parser.proofs.Items.{name_derives, name_misfits, name_refused, name_stops}
 use Rattle.parser.proofs.Names.{mentioned_stays}
 use Rattle.parser.proofs.Segments.{refused_map}
@@ -15,8 +15,7 @@ use Rattle.parser.proofs.scoped_cursor.ScopedCursor.expect_variable.Goals as goa
 
 pub returns-in_err-name-clause-matches : goal.returns-in_err-name-clause-matches
 returns-in_err-name-clause-matches g c =
-    let p = err_from_is_err_and c.from_residual.result c.from_residual.ensures.1 in
-    rw (p.1, p.2)
+    rw (passed_on c.from_residual.result c.from_residual.ensures.1)
     (name_misfits _ _ Mentioned c.in_err-name.field-0.0 c.requires.ready.near
     (subst (λ (p : ScopedCursor). IsNoName p.position.lookahead.cursor.next c.in_err-name.field-0.0) c.self.view_is
     c.in_err-name.ensures.other))
@@ -25,32 +24,33 @@ pub returns-in_err-var-clause-matches : goal.returns-in_err-var-clause-matches
 returns-in_err-var-clause-matches g c =
     let near : IsNear c.self.inside.cursor =
     subst (λ (p : ScopedCursor). IsNear p.position.lookahead.cursor) (sym c.self.view_is) c.requires.ready.near in
-    let found : c.self.inside.cursor.next.token ≡ token.Name c.in_ok-name.name.now =
-    c.in_ok-name.ensures.found in
     let line : c.peek.result.now.line ≡ c.self.inside.cursor.next.line =
     ap (λ (l : LocatedToken). l.line) c.peek.ensures.value in
     let refused = c.in_err-var.ensures.refused in
-    let p = err_from_is_err_and c.from_residual-in_err-var.result c.from_residual-in_err-var.ensures.1 in
-    rw (p.1, p.2, refused.is, line, sym c.self.view_is)
-    (name_refused _ Mentioned _ refused.code near found (rw refused.answered at c.resolve_variable.ensures.refused))
+    rw (
+      passed_on c.from_residual-in_err-var.result c.from_residual-in_err-var.ensures.1,
+      refused.is,
+      line,
+      sym c.self.view_is,
+    )
+    (name_refused _ Mentioned _ refused.code near c.in_ok-name.ensures.found
+    (rw refused.answered at c.resolve_variable.ensures.refused))
 
 pub returns-in_err-advance-clause-matches : goal.returns-in_err-advance-clause-matches
 returns-in_err-advance-clause-matches g c =
-    let found : c.self.inside.cursor.next.token ≡ token.Name c.in_ok-name.name.now =
-    c.in_ok-name.ensures.found in
     let p = err_from_is_err_and c.from_residual-in_err-advance.result c.from_residual-in_err-advance.ensures.1 in
     rw (p.1, p.2, sym c.self.view_is)
     (refused_map _ _ _ ⊥ ⊥ c.in_err-advance.field-0.0
-    (name_stops c.self.inside.cursor c.self.inside.scope.now _ _ Mentioned c.in_ok-name.name.now found
+    (name_stops c.self.inside.cursor c.self.inside.scope.now _ _ Mentioned c.in_ok-name.name.now
+    c.in_ok-name.ensures.found
     ((rw c.in_ok-var.ensures.ok at c.resolve_variable.ensures.learned).1 _)) (λ same. same)
     c.in_err-advance.ensures.consumes)
 
 pub returns-clause-matches : goal.returns-clause-matches
 returns-clause-matches g c =
-    let found : c.self.inside.cursor.next.token ≡ token.Name c.in_ok-name.name.now =
-    c.in_ok-name.ensures.found in
     rw (sym c.self.view_is)
-    (name_derives c.self.inside.cursor c.self.inside.scope.now _ _ _ Mentioned c.in_ok-name.name.now _ found
+    (name_derives c.self.inside.cursor c.self.inside.scope.now _ _ _ Mentioned c.in_ok-name.name.now _
+    c.in_ok-name.ensures.found
     ((rw c.in_ok-var.ensures.ok at c.resolve_variable.ensures.learned).1 _)
     (ap (λ v. AVariable v ∷ []) (rw c.in_ok-var.ensures.ok at c.resolve_variable.ensures.learned).0)
     c.in_ok-advance.ensures.consumes)
