@@ -1,5 +1,5 @@
 -- What an explanation says of its robots.
-use Rattle.std.proofs.Common.{◌≡◌, List, Some}
+use Rattle.std.proofs.Common.{◌≡◌, ◌⊎◌, inl, inr, refl, List, Some}
 use Rattle.std.specs.Prelude.{slice_get}
 use Rattle.grammar.specs.ProfileNumbers.{profile_numbered}
 use Rattle.page.specs.declared.endings.Ending.{Ending}
@@ -9,21 +9,33 @@ use Rattle.page.specs.declared.robots.RobotFile.{RobotFile}
 use Rattle.page.specs.Explaining.{Explains, ExplainsFirst, ExplainsRobots}
 use Rattle.page.specs.Robots.{source_bytes}
 use Rattle.page.specs.Running.{IsAccepted}
+use Rattle.page.specs.Sheets.{IsFull}
+use Rattle.page.specs.declared.sheets.Sheet.{Sheet}
 
 -- what was said of the first one is said of it, whichever that is
-of_first : (order : Order) (robots : List RobotFile) (first : RobotFile) (ending : Ending)
+of_first : (order : Order) (robots : List RobotFile) (first : RobotFile) (ending : Ending) (sheet : Sheet)
     → IsAccepted order robots → slice_get robots 0 ≡ Some first
-    → Explains (profile_numbered order.profile) (source_bytes first) ending → ExplainsFirst order robots ending
-of_first order robots first ending accepted here is = record {
+    → Explains (profile_numbered order.profile) (source_bytes first) ending sheet
+    → ending ≡ Full ⊎ (IsFull sheet → ⊥) → ExplainsFirst order robots ending sheet
+of_first order robots first ending sheet accepted here is room = record {
   accepted = accepted;
   explains = λ robot there. let same : robot ≡ first = cc (there, here) in rw same is;
+  room = room;
 }
 
-pub explained : (order : Order) (robots : List RobotFile) (first : RobotFile) (ending : Ending)
+-- of a sheet with room
+pub explained : (order : Order) (robots : List RobotFile) (first : RobotFile) (ending : Ending) (sheet : Sheet)
     → IsAccepted order robots → slice_get robots 0 ≡ Some first
-    → Explains (profile_numbered order.profile) (source_bytes first) ending → ExplainsRobots order robots ending
-explained order robots first Done accepted here is = of_first order robots first Done accepted here is
-explained order robots first Faulty accepted here is = of_first order robots first Faulty accepted here is
-explained order robots first Full accepted here is = of_first order robots first Full accepted here is
-explained order robots first Refused accepted here is = absurd is
-explained order robots first GoesOn accepted here is = absurd is
+    → Explains (profile_numbered order.profile) (source_bytes first) ending sheet
+    → (IsFull sheet → ⊥) → ExplainsRobots order robots ending sheet
+explained order robots first Done sheet accepted here is room = of_first order robots first Done sheet accepted here is (inr room)
+explained order robots first Faulty sheet accepted here is room =
+    of_first order robots first Faulty sheet accepted here is (inr room)
+explained order robots first Full sheet accepted here is room = of_first order robots first Full sheet accepted here is (inl refl)
+explained order robots first Refused sheet accepted here is room = absurd is
+explained order robots first GoesOn sheet accepted here is room = absurd is
+
+-- of a full one
+pub cut : (order : Order) (robots : List RobotFile) (first : RobotFile) (sheet : Sheet)
+    → IsAccepted order robots → slice_get robots 0 ≡ Some first → ExplainsRobots order robots Full sheet
+cut order robots first sheet accepted here = of_first order robots first Full sheet accepted here tt (inl refl)

@@ -1,4 +1,5 @@
 mod ExplainingLemmas
+mod SheetLemmas
 mod RunningLemmas
 mod FilmLemmas
 mod FilmedRobots

@@ -3,6 +3,9 @@ use Rattle.std.proofs.Common.{◌≡◌, ◌⊎◌, ◌<◌, ◌≤◌, ◌+◌,
 use Rattle.std.specs.List.{concat}
 use Rattle.std.proofs.lemmas.Bool.Decides.{nat_tests}
 use Rattle.std.proofs.lemmas.List.{append-nil, take_more, take_more_set}
+use Rattle.explanations.specs.Faults.{IsOn}
+use Rattle.grammar.specs.declared.diagnostics.Diagnostic.{Diagnostic}
+use Rattle.page.specs.Explaining.{EndsOn}
 use Rattle.page.specs.declared.sheets.Sheet.{Sheet}
 use Rattle.page.specs.declared.sheets.SheetBlock.{SheetBlock}
 use Rattle.page.specs.Sheets.{Adds, AddsSome, IsFull, bytes_of, most_frames, refused, text_on}
@@ -15,18 +18,17 @@ one_more (first ∷ frames) frame =
     ap (λ (rest : List ℕ). bytes_of first ++ rest) (one_more frames frame)
     ∙ sym (append_assoc (bytes_of first) (concat (map bytes_of frames)) (bytes_of frame))
 
--- the last frame gets more bytes
-pub last_filled : (frames : List SheetBlock) (n : ℕ) (frame before : SheetBlock) (bytes : List ℕ)
-    → n < length frames → get_or frames n before ≡ before → bytes_of frame ≡ bytes_of before ++ bytes
-    → concat (map bytes_of (take (n + 1) (set frames n frame))) ≡ concat (map bytes_of (take (n + 1) frames)) ++ bytes
-last_filled frames n frame before bytes inside here more =
-    ap (λ (fs : List SheetBlock). concat (map bytes_of fs)) (take_more_set frames n frame inside)
+-- the last frame of m gets more bytes
+pub last_filled : (frames : List SheetBlock) (m n : ℕ) (frame d : SheetBlock) (bytes : List ℕ)
+    → m ≡ n + 1 → n < length frames → bytes_of frame ≡ bytes_of (get_or frames n d) ++ bytes
+    → concat (map bytes_of (take m (set frames n frame))) ≡ concat (map bytes_of (take m frames)) ++ bytes
+last_filled frames m n frame d bytes last inside more = rw last
+    (ap (λ (fs : List SheetBlock). concat (map bytes_of fs)) (take_more_set frames n frame inside)
     ∙ one_more (take n frames) frame
-    ∙ ap (λ (last : List ℕ). concat (map bytes_of (take n frames)) ++ last) more
-    ∙ sym (append_assoc (concat (map bytes_of (take n frames))) (bytes_of before) bytes)
+    ∙ ap (λ (end : List ℕ). concat (map bytes_of (take n frames)) ++ end) more
+    ∙ sym (append_assoc (concat (map bytes_of (take n frames))) (bytes_of (get_or frames n d)) bytes)
     ∙ ap (λ (all : List ℕ). all ++ bytes) (sym (ap (λ (fs : List SheetBlock). concat (map bytes_of fs))
-    (take_more frames n before inside ∙ ap (λ (f : SheetBlock). take n frames ++ f ∷ []) here)
-    ∙ one_more (take n frames) before))
+    (take_more frames n d inside) ∙ one_more (take n frames) (get_or frames n d))))
 
 -- a frame more has bytes
 pub next_put : (frames : List SheetBlock) (n : ℕ) (frame : SheetBlock) (bytes : List ℕ)
@@ -69,3 +71,14 @@ adds_some_both before between after second here there = record {
   text = here.text ++ second;
   adds = adds_both before between after here.text second here.adds there;
 }
+
+-- a note on a diagnostic is added
+note_told : (diagnostic : Diagnostic) (before after : Sheet) (note : List ℕ) → IsOn diagnostic note
+    → IsFull after ⊎ (text_on after ≡ text_on before ++ note) → IsFull after ⊎ EndsOn diagnostic (text_on after)
+note_told diagnostic before after note on (inl full) = inl full
+note_told diagnostic before after note on (inr is) =
+    inr (record { before = text_on before; note = note; is = is; on = on })
+
+pub ends_on : (diagnostic : Diagnostic) (before after : Sheet) (note : List ℕ)
+    → IsOn diagnostic note → Adds before after note → IsFull after ⊎ EndsOn diagnostic (text_on after)
+ends_on diagnostic before after note on adds = note_told diagnostic before after note on adds.told

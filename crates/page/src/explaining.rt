@@ -91,7 +91,7 @@ fn tell(text: &str, sheet: &mut Sheet)
     ensures { Adds sheet.old sheet.new text.now }
 {
     let mut rest = text.as_bytes();
-    for _ in 0..text.len() {
+    for _piece in 0..text.len() {
         let (part, behind) = rest.split_at(rest.len().min(FRAME_BYTES));
         sheet.add(part);
         rest = behind;

@@ -1,8 +1,8 @@
 //! Sheets: what a run writes, kept in memory that the caller lends.
 
-ghost use Rattle.std.specs.Prelude.{◌≡◌, ◌<◌, ◌≤◌, ◌++◌, [], length, true, false, IfOk, OnErr};
+ghost use Rattle.std.specs.Prelude.{◌≡◌, ◌<◌, ◌≤◌, ◌+◌, ◌++◌, [], length, true, false, IfOk, OnErr};
 ghost use Rattle.sinks.specs.Puts.{CanFail, TakesPortion, failed_once_more};
-ghost use Rattle.page.specs.Sheets.{Adds, IsFull, refused, text_on, told, written_of};
+ghost use Rattle.page.specs.Sheets.{Adds, IsFull, bytes_of, refused, text_on, told, written_of};
 
 use series::Sink;
 use tokens::DeviceFault;
@@ -21,6 +21,33 @@ pub struct SheetBlock {
     pub size: u8,
     /// The bytes, and what lies after them.
     pub bytes: [u8; FRAME_BYTES],
+}
+
+impl SheetBlock {
+    /// Has these bytes alone.
+    fn hold(&mut self, bytes: &[u8])
+        requires { length bytes.now ≤ FRAME_BYTES }
+        ensures { bytes_of self.new ≡ bytes.now }
+    {
+        self.size = 0;
+        let _ = self.add(bytes);
+    }
+
+    /// Adds bytes behind those that it has. Answers whether it had room for all of them.
+    fn add(&mut self, bytes: &[u8]) -> bool
+        ensures added { result ≡ true → bytes_of self.new ≡ bytes_of self.old ++ bytes.now }
+        ensures left { result ≡ false → self.new ≡ self.old }
+        ensures fits { self.old.size + length bytes.now ≤ FRAME_BYTES → result ≡ true }
+    {
+        let begin = self.size as usize;
+        if bytes.len() > FRAME_BYTES - begin {
+            return false;
+        }
+        let end = begin + bytes.len();
+        self.bytes[begin..end].copy_from_slice(bytes);
+        self.size = end as u8;
+        true
+    }
 }
 
 /// A text in memory that the caller lends: its first `used` frames. It has at most 32,768.
@@ -78,21 +105,13 @@ impl Sheet {
         ensures failures { self.new.failures ≡ self.old.failures }
         ensures used { self.new.used ≡ self.old.used }
         ensures filled { result ≡ true → text_on self.new ≡ text_on self.old ++ bytes.now }
-        ensures refused { result ≡ false → self.new ≡ self.old }
+        ensures refused { result ≡ false → text_on self.new ≡ text_on self.old }
     {
         let used = self.used as usize;
         if used == 0 || used > FRAMES {
             return false;
         }
-        let begin = self.frames[used - 1].size as usize;
-        if bytes.len() > FRAME_BYTES - begin {
-            return false;
-        }
-        let frame = &mut self.frames[used - 1];
-        let end = begin + bytes.len();
-        frame.bytes[begin..end].copy_from_slice(bytes);
-        frame.size = end as u8;
-        true
+        self.frames[used - 1].add(bytes)
     }
 
     /// Puts bytes into a frame of their own, up to 255 of them; fails if no frame is free.
@@ -111,9 +130,7 @@ impl Sheet {
             return Err(DeviceFault);
         }
         let size = bytes.len().min(FRAME_BYTES);
-        let frame = &mut self.frames[used];
-        frame.size = size as u8;
-        frame.bytes[..size].copy_from_slice(&bytes[..size]);
+        self.frames[used].hold(&bytes[..size]);
         self.used += 1;
         self.failures = 0;
         Ok(size)

@@ -1,4 +1,5 @@
 use Rattle.std.proofs.Common.{rules}
+use Rattle.page.proofs.SheetLemmas.{ends_on}
 use Rattle.page.proofs.explaining.explain_source.Goals as goal
 
 pub returns-in-Warnings : goal.returns-in-Warnings
@@ -15,4 +16,5 @@ pub returns-after-eq : goal.returns-after-eq
 returns-after-eq c = record {
   diagnostic = c.in-Err-Source.diagnostic;
   is = rw c.in-Err-Source.field-0-is at (c.in-Err-Source.ensures.fault c.args.source.now (search rules));
+  told = ends_on c.in-Err-Source.diagnostic _ _ c.as_str.result.now (rw c.as_str.ensures c.explain-note.ensures) c.tell.ensures;
 }
