@@ -10,7 +10,7 @@ function textOf(...words) {
     return JSON.stringify(words, (_, it) => plain(it));
 }
 
-/** What calls the engine in its worker, which has this address and takes this module. */
+/** What calls the engine in its worker, which has this address and takes this module, as the page carries it. */
 export class Caller {
     constructor(address, module) {
         this.address = address;

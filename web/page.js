@@ -193,18 +193,18 @@ class Page {
 const workerOf = ({worker}) => URL.createObjectURL(new Blob([worker], {type: "text/javascript"}));
 
 /** Shows the field alone, in a page that has no more. */
-export async function embed(module) {
+export async function embed() {
     const data = globalThis.CROBOTS;
     byId("main").hidden = false;
-    await new Alone(new Caller(workerOf(data), module), data.robots).show();
+    await new Alone(new Caller(workerOf(data), data.module), data.robots).show();
 }
 
-/** Makes the page of what it is built with and of the module: from a file nothing can be fetched, so all of it is a script. */
-export async function make(module) {
+/** Makes the page of what it is built with: from a file nothing can be fetched, so all of it is a script. */
+export async function make() {
     const data = globalThis.CROBOTS;
     const address = workerOf(data);
-    // the module is compiled in its worker meanwhile
-    const newCaller = () => new Caller(address, module);
+    // the module is unpacked and compiled in its worker meanwhile
+    const newCaller = () => new Caller(address, data.module);
     const runner = newCaller();
     const places = new Places({write: () => page.focusEditor(), watch: () => page.playing.focus()});
     const screen = new Screen(byId("film"), places);

@@ -1,10 +1,8 @@
 // Starts the page, if the browser has what it needs and the files are those that were built: it knows their SHA-256.
 import {hashOf} from "./hashes.js";
-import {unpacked} from "./player/packing.js";
 
-// put in when the page is built
-const HASHES = {data: "$data", page: "$page", module: "$module"};
-const MOST_MODULE_BYTES = 4 * 1024 * 1024;
+// put in when the page is built; the data have the module, as it is packed, and what unpacks it
+const HASHES = {data: "$data", page: "$page"};
 const AGAIN = "Unpack or copy all files of the page once more.";
 
 /** Says why the page isn't there, and shows nothing else. */
@@ -55,15 +53,6 @@ async function checkFile(name, isThere) {
     }
 }
 
-/** The module's bytes, if they are those that were built. */
-async function checkedModule() {
-    const bytes = await unpacked(globalThis.CROBOTS.module, MOST_MODULE_BYTES).catch(() => null);
-    if (!bytes || await hashOf(bytes) !== HASHES.module) {
-        throw new Error(`The page is damaged: its module isn't the one that was built. ${AGAIN}`);
-    }
-    return bytes;
-}
-
 async function start() {
     const lacks = lacking();
     if (lacks.length) {
@@ -71,16 +60,12 @@ async function start() {
         lack(`${needs} This browser lacks ${lacks.join(", ")}.`);
         return;
     }
-    // what is wrong with a file is said first
-    const checked = checkedModule();
-    checked.catch(() => {});
     await Promise.all([checkFile("data", globalThis.CROBOTS), checkFile("page", globalThis.CROBOTS_PAGE)]);
-    const module = await checked;
     // the page needs it too
     globalThis.CROBOTS_HASH = hashOf;
     document.getElementById("lacking").hidden = true;
     const {embed, make} = globalThis.CROBOTS_PAGE();
-    await (document.body.classList.contains("alone") ? embed : make)(module);
+    await (document.body.classList.contains("alone") ? embed : make)();
 }
 
 start().catch(fault => lack(fault.message));

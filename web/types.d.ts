@@ -7,7 +7,7 @@ declare var CROBOTS: {
     robots: {name: string, level: number, source: string}[], steps: Step[], functions: Help[], editor: boolean,
     player: string, worker: string, module: string,
 };
-type Start = (module: Uint8Array) => Promise<void>;
+type Start = () => Promise<void>;
 declare var CROBOTS_PAGE: () => {make: Start, embed: Start};
 declare var CROBOTS_HASH: (bytes: Uint8Array) => Promise<string>;
 declare var player: any;

@@ -2,7 +2,9 @@
 import {Engine} from "./engine.js";
 import {Ending} from "./limits.js";
 import {partingOf} from "./partings.js";
+import {bytesOfBase64} from "./player/base64.js";
 import {cyclesOf, filmOf, isFilm} from "./player/films.js";
+import {unpackedBytes} from "./unpacking.js";
 
 const FILMS = ["film", "windows"];
 
@@ -10,8 +12,7 @@ let bytes;
 let engine;
 
 /** Makes the engine of the module's bytes. */
-function start(module) {
-    bytes = module;
+function start() {
     engine = Engine.load(bytes);
     engine.catch(() => {
         // each call reports it
@@ -53,10 +54,16 @@ async function answer(data) {
     } catch (fault) {
         if (fault instanceof WebAssembly.RuntimeError) {
             // a call that was cut off leaves its stack; the next one gets a module of its own
-            start(bytes);
+            start();
         }
         postMessage({number, fault: fault.message});
     }
 }
 
-onmessage = ({data}) => data.module ? start(data.module) : answer(data);
+/** Takes the module, as the page carries it. */
+function take(module) {
+    bytes = unpackedBytes(bytesOfBase64(module));
+    start();
+}
+
+onmessage = ({data}) => data.module ? take(data.module) : answer(data);

@@ -391,6 +391,7 @@ def results(crobots: str, stages: str, folder: str) -> Iterator[tuple[str, list[
     yield "short names", slimmed.wrong_names()
     yield "hashes of what is started", slimmed.wrong_hashes(folder)
     yield "deflating", slimmed.wrong_deflating()
+    yield "packing", slimmed.wrong_packing(folder)
     yield "a zip", slimmed.wrong_zip()
     yield "modules together", slimmed.wrong_modules()
     yield "size", size(folder)

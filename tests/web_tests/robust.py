@@ -76,7 +76,6 @@ DAMAGES: dict[str, tuple[str, Callable[[str], str], str]] = {
     "a page that is cut off": ("page.js", lambda text: text[:len(text) // 2], "The page is not whole: its file page.js is missing, cut off or damaged."),
     "a letter of the page": ("page.js", lambda text: text.replace("No fault.", "no fault.", 1), "The page is damaged: its file page.js isn't"),
     "a start that is cut off": ("start.js", lambda text: text[:len(text) // 2], "This page needs JavaScript, "),
-    "another module's hash": ("start.js", lambda text: re.sub(r'(module:")[0-9a-f]{8}', r"\g<1>00000000", text), "The page is damaged: its module isn't"),
 }
 # a page that isn't served in a safe way has no hashes of the browser's
 UNSAFE = "Object.defineProperty(globalThis.crypto, 'subtle', {get() { return undefined; }})"

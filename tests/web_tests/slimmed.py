@@ -1,8 +1,9 @@
 """Tests of what makes the page small: of scripts comments and needless blanks go, variables get short names, and nothing else changes;
-the module is deflated into fewer bytes than by zlib, which reads them."""
+files are deflated into fewer bytes than by zlib, which reads them, and the page's script unpacks the module."""
 
 from __future__ import annotations
 
+import hashlib
 import os
 import random
 import subprocess
@@ -10,6 +11,7 @@ import sys
 import tempfile
 import zipfile
 import zlib
+from pathlib import Path
 from typing import Callable, Iterator
 
 HERE = os.path.dirname(os.path.abspath(__file__))
@@ -20,6 +22,7 @@ from packages import lacking  # noqa: E402
 from replays.modules import script_of, waiting_script  # noqa: E402
 from webs.deflating import DISTANCES, LENGTHS, deflated, distance_class  # noqa: E402
 from webs.laying import EDITOR, EDITOR_SCRIPTS, editor_script, scripts, small  # noqa: E402
+from webs.packing import packed  # noqa: E402
 from webs.renaming import renamed  # noqa: E402
 from webs.slimming import Unclear, short, short_style  # noqa: E402
 from webs.zipping import zipped  # noqa: E402
@@ -171,17 +174,16 @@ def wrong() -> list[str]:
 
 
 # What the scripts of a folder leave, as the page's start looks at it, and the hashes of that.
-HASHES = """const {readFileSync} = require("node:fs"), {createHash} = require("node:crypto"), {inflateRawSync} = require("node:zlib");
+HASHES = """const {readFileSync} = require("node:fs"), {createHash} = require("node:crypto");
 const text = name => readFileSync(`${process.argv[1]}/${name}.js`, "utf8"), hash = it => createHash("sha256").update(it).digest("hex");
 ["data", "page"].forEach(name => (0, eval)(text(name)));
-const parts = [JSON.stringify(CROBOTS), String(CROBOTS_PAGE), inflateRawSync(Buffer.from(CROBOTS.module, "base64"))];
-console.log(parts.map(hash).filter(it => text("start").includes(it)).length);"""
+console.log([JSON.stringify(CROBOTS), String(CROBOTS_PAGE)].map(hash).filter(it => text("start").includes(it)).length);"""
 
 
 def wrong_hashes(folder: str) -> list[str]:
-    """What is wrong if the script that starts the page has other hashes than those of its data, its function and its module."""
+    """What is wrong if the script that starts the page has other hashes than those of its data and its function."""
     ran = subprocess.run([NODE, "-e", HASHES, folder], capture_output=True, text=True, check=False)
-    return [] if ran.stdout == "3\n" else [f"{ran.stdout}{ran.stderr[-300:]}"]
+    return [] if ran.stdout == "2\n" else [f"{ran.stdout}{ran.stderr[-300:]}"]
 
 
 # The first values of some classes, and how many bits they have, as RFC 1951 has them in 3.2.5: of lengths and of distances.
@@ -224,6 +226,43 @@ def wrong_deflating() -> list[str]:
         own, least = len(deflated(text)), len(zlib.compress(text, 9, wbits=-15))
         wrong += [] if own < 0.985 * least else [f"{name}: {own}, and zlib {least}"]
     return wrong
+
+
+# Unpacks each line that is read, by the page's own script, and says its hash.
+UNPACKS = """import {createHash} from "node:crypto";
+import {readFileSync} from "node:fs";
+const {unpackedBytes} = await import("data:text/javascript," + encodeURIComponent(readFileSync(process.argv[1], "utf8")));
+for (const line of readFileSync(0, "utf8").split("\\n")) {
+    console.log(createHash("sha256").update(unpackedBytes(Buffer.from(line, "base64"))).digest("hex"));
+}"""
+
+
+def from_afar(seed: int) -> bytes:
+    """Bytes with copies from near and from up to a million bytes before, again and again from as far as the last ones."""
+    draw = random.Random(seed)
+    made = bytearray(draw.randbytes(1 << draw.choice((9, 14, 20))))
+    ways = [1]
+    for _ in range(200):
+        far = draw.choice(ways[-4:]) if draw.random() < 0.5 else min(len(made), 1 << draw.randrange(20)) - draw.randrange(3)
+        ways.append(max(far, 1))
+        for _ in range(draw.choice((1, 2, 9, 17, 18, 273, 300))):
+            made.append(made[-ways[-1]])
+        made += draw.randbytes(draw.randrange(3))
+    return bytes(made)
+
+
+def wrong_packing(folder: str) -> list[str]:
+    """What is wrong with what is packed: the page's script has to unpack it; the data have the module."""
+    data = text_of(folder, "data.js")
+    begin = data.index('"module":"') + 10
+    module = data[begin:data.index('"', begin)]
+    cases = [*texts(), *map(from_afar, range(12))]
+    script = os.path.join(HERE, "..", "..", "web", "unpacking.js")
+    lines = "\n".join([module, *map(packed, cases)])
+    ran = subprocess.run([NODE, "--input-type=module", "-e", UNPACKS, script], input=lines, capture_output=True, text=True, check=False)
+    wanted = [hashlib.sha256(it).hexdigest() for it in (Path(f"{folder}.wasm").read_bytes(), *cases)]
+    found = ran.stdout.split()
+    return [ran.stderr[-300:]] if len(found) != len(wanted) else [f"case {at}" for at, it in enumerate(wanted) if found[at] != it]
 
 
 FILES = {"index.html": b"<!DOCTYPE html>\n" * 40, "pages/a.html": b"", "start.js": bytes(range(256))}

@@ -1,5 +1,5 @@
 -- Texts that are added to a sheet.
-use Rattle.std.proofs.Common.{◌≡◌, ◌⊎◌, ◌<◌, ◌≤◌, ◌+◌, ◌-◌, ◌∙◌, inl, inr, ℕ, List, [], ◌∷◌, ◌++◌, false, map, refl, sym, ap, append_assoc, arith, length, take, set, get_or, nat_le}
+use Rattle.std.proofs.Common.{◌≡◌, ◌⊎◌, ◌<◌, ◌+◌, ◌-◌, ◌∙◌, inl, inr, ℕ, List, [], ◌∷◌, ◌++◌, map, sym, ap, append_assoc, arith, length, take, set, get_or}
 use Rattle.std.specs.List.{concat}
 use Rattle.std.proofs.lemmas.Bool.Decides.{nat_tests}
 use Rattle.std.proofs.lemmas.List.{append-nil, take_more, take_more_set}
@@ -8,7 +8,7 @@ use Rattle.grammar.specs.declared.diagnostics.Diagnostic.{Diagnostic}
 use Rattle.page.specs.Explaining.{EndsOn}
 use Rattle.page.specs.declared.sheets.Sheet.{Sheet}
 use Rattle.page.specs.declared.sheets.SheetBlock.{SheetBlock}
-use Rattle.page.specs.Sheets.{Adds, AddsSome, IsFull, bytes_of, most_frames, refused, text_on}
+use Rattle.page.specs.Sheets.{Adds, AddsSome, IsFull, bytes_of, refused, text_on}
 
 -- the text of frames, with one more behind them
 one_more : (frames : List SheetBlock) (frame : SheetBlock)
