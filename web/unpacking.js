@@ -110,8 +110,14 @@ class Unpacking {
         // how far back the last four copies begin, the last one first
         this.ways = [0, 0, 0, 0];
         this.literals = chances(LITERAL_CHANCES << LITERAL_BITS);
-        [this.isCopy, this.isRepeated, this.isEarlier, this.isThird, this.isFourth, this.isLong] = Array.from({length: 6}, () => chances(STATES));
-        [this.lengths, this.repeatedLengths] = [new Lengths(), new Lengths()];
+        this.isCopy = chances(STATES);
+        this.isRepeated = chances(STATES);
+        this.isEarlier = chances(STATES);
+        this.isThird = chances(STATES);
+        this.isFourth = chances(STATES);
+        this.isLong = chances(STATES);
+        this.lengths = new Lengths();
+        this.repeatedLengths = new Lengths();
         this.slots = Array.from({length: SLOT_KINDS}, () => chances(1 << SLOT_BITS));
         this.middle = chances(128);
         this.low = chances(1 << ALIGN_BITS);
