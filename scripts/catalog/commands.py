@@ -72,7 +72,7 @@ PROGRAMS = (
 SCRIPTS = (
     Script("crobots-tournament", "tournament", ("tools", "tournaments", "results", "sites", "replays"), "crobots"),
     Script("crobots-challenge", "challenge", ("tools", "tournaments", "results", "sites", "replays"), "crobots"),
-    Script("crobots-compare", "compare", ("tools", "comparisons", "tournaments", "results", "sites", "replays"), "crobots-trace"),
+    Script("crobots-compare", "compare", ("tools", "comparisons", "stepping", "tournaments", "results", "sites", "replays"), "crobots-trace"),
     Script("crobots-exercise", "exercise", ("tools", "exercises"), "crobots"),
     Script("crobots-league", "league", ("tools", "leagues", "ladder", "tournaments", "results", "sites", "replays"), "crobots"),
     Script("crobots-replay", "replay", ("tools", "replays"), "crobots-trace"),

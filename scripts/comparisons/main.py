@@ -7,6 +7,7 @@ import json
 from contextlib import ExitStack
 from dataclasses import dataclass
 
+from stepping.moments import Moment, Question, moment_of
 from tools.faults import plain, unreadable
 from tools.output import show
 from tools.programs import found as path_of
@@ -15,8 +16,7 @@ from tournaments.robots import names
 
 from . import traces, words
 from .columns import Row, columns, side_by_side
-from .moments import Moment, Values, moment
-from .questions import Comparison, Question, comparison, questions
+from .questions import Comparison, comparison, questions
 
 NOTHING = "nothing"
 # What is shown of a call or of the externals: a label and a text for each row.
@@ -52,10 +52,10 @@ def compared(trace: str, both: list[Version]) -> Comparison:
     return found
 
 
-def moment_of(trace: str, version: Version, cycle: int) -> Moment:
+def moment_after(trace: str, version: Version, cycle: int) -> Moment:
     """Where a version is after a cycle."""
     with traces.lines(trace, [f"--at={cycle}", *version.match]) as rows:
-        return moment(rows)
+        return moment_of([row.split("\t") for row in rows])
 
 
 def said(given: argparse.Namespace, both: list[Version], found: Comparison) -> str:
@@ -94,7 +94,7 @@ def groups_of(moment: Moment) -> dict[Place, Texts]:
     return {**calls, EXTERNALS: texts("", moment.externals)}
 
 
-def texts(indent: str, values: Values) -> Texts:
+def texts(indent: str, values: dict[str, int]) -> Texts:
     return {f"{indent}{name}": str(value) for name, value in values.items()}
 
 
@@ -113,7 +113,7 @@ def compare(name: str, arguments: list[str]) -> None:
     trace, both = path_of(traces.TRACE), versions(given)
     with stopping("stopped while the match was played"):
         found = compared(trace, both)
-        moments = [] if found.cycle is None else [moment_of(trace, version, found.cycle - 1) for version in both]
+        moments = [] if found.cycle is None else [moment_after(trace, version, found.cycle - 1) for version in both]
         show([data(given, both, found, moments) if given.json else shown(given, both, found, moments)])
 
 

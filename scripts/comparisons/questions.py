@@ -7,15 +7,9 @@ from __future__ import annotations
 
 from dataclasses import dataclass
 from itertools import zip_longest
-from typing import Iterable, Iterator, NamedTuple
+from typing import Iterable, Iterator
 
-
-class Question(NamedTuple):
-    """A call of an intrinsic function, as `scan(0, 10)`, its cycle, and its reply."""
-
-    cycle: int
-    call: str
-    reply: int
+from stepping.moments import Question
 
 
 def questions(rows: Iterable[str]) -> Iterator[Question]:
