@@ -59,6 +59,11 @@ class NoRow(ValueError):
         super().__init__(f"{PROGRAM} wrote what is no row")
 
 
+def of_kind(kind: str) -> cached_property[list[Row]]:
+    """The rows of a kind, which are read when they are asked for first."""
+    return cached_property(lambda known: known.rows(kind))
+
+
 class Known:
     """All that is known of a text. It grows as rows come: the first fault is read at once, and all else when it is asked for, since most
     texts change before that. The first fault comes twice: first without its hint."""
@@ -84,56 +89,31 @@ class Known:
         if not self.first and self._lines["first"]:
             self.first = parsed(self._lines["first"])[0]
 
-    def _rows(self, kind: str) -> list[Row]:
+    def rows(self, kind: str) -> list[Row]:
         """All rows of a kind. They are asked for only when all have come."""
         return parsed(self._lines[kind])
 
-    @cached_property
-    def faults(self) -> list[Row]:
-        """Faults and warnings, as they came."""
-        return self._rows("fault")
+    # Faults and warnings, as they came.
+    faults = of_kind("fault")
+    functions, loops, cycles, needs, words, intrinsics = map(of_kind, ("function", "loop", "cycles", "need", "word", "intrinsic"))
 
     @cached_property
     def tokens(self) -> list[Token]:
         try:
-            return [Token._make(one) for row in self._rows("tokens") for one in row["tokens"]]
+            return [Token._make(one) for row in self.rows("tokens") for one in row["tokens"]]
         except (KeyError, TypeError):
             raise NoRow from None
 
     @cached_property
     def names(self) -> list[Name]:
         try:
-            return [*map(Name._make, map(NAME, self._rows("name")))]
+            return [*map(Name._make, map(NAME, self.rows("name")))]
         except KeyError:
             raise NoRow from None
 
     @cached_property
-    def functions(self) -> list[Row]:
-        return self._rows("function")
-
-    @cached_property
-    def loops(self) -> list[Row]:
-        return self._rows("loop")
-
-    @cached_property
-    def cycles(self) -> list[Row]:
-        return self._rows("cycles")
-
-    @cached_property
-    def needs(self) -> list[Row]:
-        return self._rows("need")
-
-    @cached_property
-    def words(self) -> list[Row]:
-        return self._rows("word")
-
-    @cached_property
-    def intrinsics(self) -> list[Row]:
-        return self._rows("intrinsic")
-
-    @cached_property
     def room(self) -> Row | None:
-        return next(iter(self._rows("room")), None)
+        return next(iter(self.rows("room")), None)
 
     @cached_property
     def by_key(self) -> dict[tuple[str, int | None, str], list[Name]]:
