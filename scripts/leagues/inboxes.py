@@ -4,13 +4,12 @@ from __future__ import annotations
 
 import csv
 import os
-import stat
 from dataclasses import dataclass
 from typing import Iterator
 
 from tools.faults import FILE, Fault, unreadable
 
-from .entries import SOURCE_MAX
+from .entries import bytes_of
 
 ENDING = ".r"
 HEAD = ["folder", "author"]
@@ -61,17 +60,11 @@ def name_of(path: str) -> str:
 
 
 def read(path: str) -> bytes:
-    """A robot's bytes. What became a pipe meanwhile isn't waited for."""
+    """A robot's bytes. Links lead elsewhere."""
     try:
-        with open(os.open(path, os.O_RDONLY | os.O_NONBLOCK | os.O_NOFOLLOW | os.O_CLOEXEC), "rb") as file:
-            if not stat.S_ISREG(os.fstat(file.fileno()).st_mode):
-                raise Fault("is no file", FILE)
-            found = file.read(SOURCE_MAX + 1)
+        return bytes_of(path, os.O_NOFOLLOW)
     except OSError as why:
         raise Fault(f"can't be read: {why.strerror}", FILE) from why
-    if len(found) > SOURCE_MAX:
-        raise Fault(f"has more than {SOURCE_MAX} bytes")
-    return found
 
 
 def authors_of(path: str) -> dict[str, str]:
