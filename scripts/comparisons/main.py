@@ -10,13 +10,15 @@ from dataclasses import dataclass
 from stepping.moments import Moment, Question, moment_of
 from tools.faults import plain, unreadable
 from tools.output import show
+from tools.programs import TRACE, lines
 from tools.programs import found as path_of
 from tools.signals import stopping
 from tournaments.robots import names
 
-from . import traces, words
+from . import words
 from .columns import Row, columns, side_by_side
 from .questions import Comparison, comparison, questions
+from .traces import judge
 
 NOTHING = "nothing"
 # What is shown of a call or of the externals: a label and a text for each row.
@@ -47,14 +49,14 @@ def versions(given: argparse.Namespace) -> list[Version]:
 def compared(trace: str, both: list[Version]) -> Comparison:
     """Plays the match with both versions side by side, until they ask something else."""
     with ExitStack() as playing:
-        new, old = (questions(playing.enter_context(traces.lines(trace, ["--asks", *version.match]))) for version in both)
+        new, old = (questions(playing.enter_context(lines(trace, ["--asks", *version.match], judge))) for version in both)
         found = comparison(new, old)
     return found
 
 
 def moment_after(trace: str, version: Version, cycle: int) -> Moment:
     """Where a version is after a cycle."""
-    with traces.lines(trace, [f"--at={cycle}", *version.match]) as rows:
+    with lines(trace, [f"--at={cycle}", *version.match], judge) as rows:
         return moment_of([row.split("\t") for row in rows])
 
 
@@ -110,7 +112,7 @@ def line_of(version: Version, number: int) -> str:
 def compare(name: str, arguments: list[str]) -> None:
     """Does what the words ask for."""
     given = words.read(name, arguments)
-    trace, both = path_of(traces.TRACE), versions(given)
+    trace, both = path_of(TRACE), versions(given)
     with stopping("stopped while the match was played"):
         found = compared(trace, both)
         moments = [] if found.cycle is None else [moment_after(trace, version, found.cycle - 1) for version in both]

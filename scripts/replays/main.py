@@ -4,14 +4,12 @@ from __future__ import annotations
 
 from tools import output
 from tools.faults import UNWRITTEN, Ended, Fault
-from tools.programs import found, lines, number
+from tools.programs import TRACE, found, lines, number
 from tools.running import run as begin
 
 from .films import Film
 from .pages import page
 from .words import HELP, NAME, USAGE_LINE, Asked, read
-
-TRACE = "crobots-trace"
 
 
 def filmed(asked: Asked) -> Film:

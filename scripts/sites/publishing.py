@@ -8,6 +8,7 @@ from functools import partial
 from typing import Callable, Iterator, Sequence
 
 from tools.faults import FILE, Fault, unwritable
+from tools.programs import TRACE, installed
 
 from . import colours, data, films, places, robot_data
 from .facts import Battle, Facts
@@ -30,7 +31,7 @@ def publish(facts: Facts, folder: str, replays: int = 0, jobs: int = 1) -> None:
     Replays that the folder has from before are kept. Raises Foreign if a file is in the way, and OSError."""
     lookup, site = Lookup(facts), Folder(folder)
     with site.open():
-        wanted = chosen(lookup, site, replays if replays and films.can_film() else 0)
+        wanted = chosen(lookup, site, replays if replays and installed(TRACE) else 0)
         there = {*wanted.kept, *wanted.given, *wanted.orders}
         older = older_archives(site, facts)
         contents = files(lookup, there, older)

@@ -16,6 +16,8 @@ from .signals import watch
 HERE = os.path.dirname(os.path.realpath(__file__))
 # The version's number, in the repository and where this is installed.
 VERSION = os.path.normpath(os.path.join(HERE, "..", "..", "VERSION"))
+# The program that says what happened in a match.
+TRACE = "crobots-trace"
 # Looks at how a program ended: its status, and the lines that it said but its usage.
 Judge = Callable[[int, list[str]], None]
 
@@ -34,6 +36,14 @@ def found(name: str, given: str | None = None) -> str:
     if not path:
         raise Fault(f"{given or name} is not there, or is no program; README.md says how it is built")
     return path
+
+
+def installed(name: str) -> str:
+    """The path of a command's program, which may be lacking: nothing then."""
+    try:
+        return found(name)
+    except Fault:
+        return ""
 
 
 def number() -> str:
