@@ -8,7 +8,7 @@ from contextlib import ExitStack
 from dataclasses import dataclass
 
 from stepping.moments import Moment, Question, moment_of
-from tools.faults import plain, unreadable
+from tools.faults import plain, reading
 from tools.output import show
 from tools.programs import TRACE, lines
 from tools.programs import found as path_of
@@ -102,11 +102,8 @@ def texts(indent: str, values: dict[str, int]) -> Texts:
 
 def line_of(version: Version, number: int) -> str:
     """The text of a line of a version's source."""
-    try:
-        with open(version.path, encoding="utf-8", errors="replace", newline="\n") as file:
-            return next((plain(" ".join(line.split())) for at, line in enumerate(file, 1) if at == number), "")
-    except OSError as why:
-        unreadable(version.path, why)
+    with reading(version.path), open(version.path, encoding="utf-8", errors="replace", newline="\n") as file:
+        return next((plain(" ".join(line.split())) for at, line in enumerate(file, 1) if at == number), "")
 
 
 def compare(name: str, arguments: list[str]) -> None:

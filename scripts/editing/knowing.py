@@ -61,7 +61,10 @@ class NoRow(ValueError):
 
 def of_kind(kind: str) -> cached_property[list[Row]]:
     """The rows of a kind, which are read when they are asked for first."""
-    return cached_property(lambda known: known.rows(kind))
+    def read(known: Known) -> list[Row]:
+        return known.rows(kind)
+
+    return cached_property(read)
 
 
 class Known:

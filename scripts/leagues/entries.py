@@ -8,7 +8,7 @@ import re
 import stat
 from dataclasses import dataclass
 
-from tools.faults import FILE, Fault, unreadable
+from tools.faults import FILE, Fault, reading
 from tournaments import seats
 
 from .store import Store
@@ -86,12 +86,11 @@ def playing(happened: list[Entry]) -> dict[str, Entrant]:
 
 def read(path: str) -> bytes:
     """A robot's bytes, read once."""
-    try:
-        return bytes_of(path)
-    except Fault as why:
-        raise Fault(f"{path} {why}", why.status) from why
-    except OSError as why:
-        unreadable(path, why)
+    with reading(path):
+        try:
+            return bytes_of(path)
+        except Fault as why:
+            raise Fault(f"{path} {why}", why.status) from why
 
 
 def bytes_of(path: str, more: int = 0) -> bytes:

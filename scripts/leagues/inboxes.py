@@ -7,7 +7,7 @@ import os
 from dataclasses import dataclass
 from typing import Iterator
 
-from tools.faults import FILE, Fault, unreadable
+from tools.faults import FILE, Fault, reading
 
 from .entries import bytes_of
 
@@ -26,11 +26,9 @@ class Inbox:
 
 def inboxes(path: str, authors: dict[str, str] | None) -> list[Inbox]:
     """The authors' folders in the order of their names. Without a table an author has the folder's name."""
-    try:
+    with reading(path):
         found = sorted(folder.name for folder in os.scandir(path) if folder.is_dir() and not folder.name.startswith("."))
         return [Inbox(name, author(name, authors), tuple(robots(os.path.join(path, name)))) for name in found]
-    except OSError as why:
-        unreadable(path, why)
 
 
 def strays(path: str) -> list[str]:
@@ -70,10 +68,8 @@ def read(path: str) -> bytes:
 def authors_of(path: str) -> dict[str, str]:
     """Reads a table of comma-separated values, which says of each folder who its author is."""
     try:
-        with open(path, encoding="utf-8-sig", newline="") as file:
+        with reading(path), open(path, encoding="utf-8-sig", newline="") as file:
             return {folder: name for folder, name in rows(path, csv.reader(file))}
-    except OSError as why:
-        unreadable(path, why)
     except (UnicodeDecodeError, csv.Error) as why:
         raise Fault(f"{path} is no table of comma-separated values in UTF-8", FILE) from why
 

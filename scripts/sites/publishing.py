@@ -7,7 +7,7 @@ from dataclasses import dataclass
 from functools import partial
 from typing import Callable, Iterator, Sequence
 
-from tools.faults import FILE, Fault, unwritable
+from tools.faults import FILE, Fault, writing
 from tools.programs import TRACE, installed
 
 from . import colours, data, films, places, robot_data
@@ -47,11 +47,10 @@ def publish(facts: Facts, folder: str, replays: int = 0, jobs: int = 1) -> None:
 def published(facts: Facts, folder: str, replays: int, jobs: int) -> None:
     """Does the same, or says why the folder can't have it."""
     try:
-        publish(facts, folder, replays, jobs)
+        with writing(folder):
+            publish(facts, folder, replays, jobs)
     except Foreign as why:
         raise Fault(str(why), FILE) from why
-    except OSError as why:
-        unwritable(folder, why)
 
 
 @dataclass(frozen=True)

@@ -10,7 +10,7 @@ import tempfile
 from subprocess import DEVNULL, PIPE
 from typing import IO, Callable, Iterable, Iterator
 
-from .faults import Fault, unreadable
+from .faults import Fault, reading
 from .signals import watch
 
 HERE = os.path.dirname(os.path.realpath(__file__))
@@ -48,11 +48,8 @@ def installed(name: str) -> str:
 
 def number() -> str:
     """The version's number, which the programs have too."""
-    try:
-        with open(VERSION, encoding="utf-8", errors="replace") as file:
-            return file.readline().strip()
-    except OSError as why:
-        unreadable(VERSION, why)
+    with reading(VERSION), open(VERSION, encoding="utf-8", errors="replace") as file:
+        return file.readline().strip()
 
 
 @contextlib.contextmanager

@@ -11,7 +11,7 @@ from results.standings import Standing
 from results.tallies import Tally
 from sites.publishing import published
 from sites.tournament_facts import facts_of_tournament, kept_sources
-from tools.faults import Fault, unwritable
+from tools.faults import Fault, writing
 from tools.output import say, show, write
 from tools.tables import comma_separated
 
@@ -121,18 +121,13 @@ class Forms:
 
 def write_file(path: str, pieces: Iterable[str]) -> None:
     """Writes a text into a file."""
-    try:
-        with open(path, "wb") as file:
-            write(file.fileno(), pieces)
-    except OSError as why:
-        unwritable(path, why)
+    with writing(path), open(path, "wb") as file:
+        write(file.fileno(), pieces)
 
 
 def check_files(given: Sequence[tuple[str, str]]) -> None:
     """Refuses files that can't be written, before anything is played."""
     for _, path in given:
-        try:
+        with writing(path):
             if not os.path.exists(path) or os.path.isfile(path) or os.path.isdir(path):
                 os.close(os.open(path, os.O_WRONLY | os.O_CREAT | os.O_CLOEXEC, 0o666))
-        except OSError as why:
-            unwritable(path, why)

@@ -9,7 +9,7 @@ from dataclasses import dataclass
 from fractions import Fraction
 from typing import Callable, Iterable, Sequence
 
-from tools.faults import Fault, unreadable
+from tools.faults import Fault, reading
 from tools.samples import of_level
 from tournaments import robots
 from tournaments.robots import Robot
@@ -96,10 +96,8 @@ def robots_of(path: str) -> list[str]:
     """A file, or the robots of a folder: its files that end with '.r'."""
     if not os.path.isdir(path):
         return [path]
-    try:
+    with reading(path):
         found = sorted(os.path.join(path, name) for name in os.listdir(path) if name.endswith(".r"))
-    except OSError as why:
-        unreadable(path, why)
     if not found:
         raise Fault(f"{path} has no robots, whose names end with '.r'")
     return found
