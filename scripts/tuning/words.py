@@ -7,7 +7,7 @@ import re
 from fractions import Fraction
 
 from tools.faults import Fault
-from tournaments.words import Parser, common, settle, within
+from tournaments.words import Parser, common, fitting, settle, within
 
 from . import outputs
 from .marks import STAGES, Place, Range, ranged
@@ -21,9 +21,7 @@ LEVEL = re.compile(r"([0-9]{1,3})(?:=([0-9]{1,6}(?:\.[0-9]{1,3})?))?")
 
 def numbered(text: str) -> tuple[Place, Range]:
     """Reads LINE:COLUMN=LOW..HIGH/STEP,NAME, of which step and name may lack."""
-    found = PLACED.fullmatch(text)
-    if not found:
-        raise argparse.ArgumentTypeError(f"'{text}' isn't LINE:COLUMN=LOW..HIGH, which /STEP and ,NAME may follow")
+    found = fitting(PLACED, text, "isn't LINE:COLUMN=LOW..HIGH, which /STEP and ,NAME may follow")
     line, column, bounds, step, name = found.groups()
     place = Place(int(line), int(column))
     try:
@@ -34,9 +32,7 @@ def numbered(text: str) -> tuple[Place, Range]:
 
 def weighed(text: str) -> tuple[str, Fraction]:
     """Reads FILE=WEIGHT or FOLDER=WEIGHT."""
-    found = WEIGHT.fullmatch(text)
-    if not found:
-        raise argparse.ArgumentTypeError(f"'{text}' isn't FILE=WEIGHT or FOLDER=WEIGHT")
+    found = fitting(WEIGHT, text, "isn't FILE=WEIGHT or FOLDER=WEIGHT")
     return found[1], Fraction(found[2])
 
 
@@ -50,9 +46,7 @@ def league(text: str) -> League:
 
 def level(text: str) -> Level:
     """Reads N or N=WEIGHT."""
-    found = LEVEL.fullmatch(text)
-    if not found:
-        raise argparse.ArgumentTypeError(f"'{text}' isn't N or N=WEIGHT")
+    found = fitting(LEVEL, text, "isn't N or N=WEIGHT")
     return Level(int(found[1]), Fraction(found[2] or 1))
 
 
@@ -76,9 +70,7 @@ def parser(name: str) -> Parser:
     it.add_argument("--minutes", metavar="MINUTES", type=within(1, 100_000), help="end the search after this time, too")
     it.add_argument("--round", metavar="MATCHES", type=within(2, 1_000_000), help=f"matches of each trial of the search (default {ROUND})")
     it.add_argument("--plan", metavar="FOLDER", help="with --sweep: put the variants into this folder, print the command lines, and play nothing")
-    forms = it.add_mutually_exclusive_group()
-    for form, does in {"csv": "comma-separated values", "json": "JSON"}.items():
-        forms.add_argument(f"--{form}", dest="form", action="store_const", const=form, default="table", help=f"print {does}")
+    it.add_forms(csv="comma-separated values", json="JSON")
     it.add_argument("-o", dest="output", metavar="FILE", help="write the tuned robot into this file; with --sweep a picture, as SVG")
     it.add_argument("--stages", metavar="PROGRAM", help=f"the program that finds numbers (default: {STAGES} on the path, or the one installed or built with this script)")
     it.add_argument("robot", metavar="ROBOT", help="the robot; a comment as /* tune 100..900 */ behind a number marks it")
