@@ -12,6 +12,7 @@ from flask import Flask, Response, abort, redirect, request
 from leagues import naming
 from leagues.entries import source
 from leagues.store import Store
+from replays.modules import text_of
 from tools.faults import Fault
 from werkzeug.exceptions import HTTPException
 
@@ -66,7 +67,7 @@ def tag() -> Response:
 def shared(name: str) -> Response:
     """A style or the script."""
     folder = os.path.join(HERE, "..", "sites") if name == STYLES[0] else HERE
-    answer = of_type(name, workbench.text_of(os.path.join(folder, name)))
+    answer = of_type(name, text_of(os.path.join(folder, name)))
     answer.headers["Cache-Control"] = "max-age=300"
     return answer
 

@@ -38,8 +38,3 @@ def page(film: Film, number: int) -> str:
 def framed_script() -> str:
     """The script of the page in a frame."""
     return script_of(os.path.join(PLAYER, "framed.js"))
-
-
-def framed() -> str:
-    """The page that another page shows in a frame, and hands films in."""
-    return put_together(framed_script(), style_of_page())

@@ -5,6 +5,7 @@ from __future__ import annotations
 import os
 from dataclasses import dataclass
 from functools import partial
+from pathlib import Path
 from typing import Callable, Iterator, Sequence
 
 from tools.faults import FILE, Fault, writing
@@ -120,12 +121,7 @@ def sources(facts: Facts) -> dict[str, Content]:
 
 def archive(facts: Facts) -> dict[str, Content]:
     """The archive, if there is one."""
-    return {places.archive_file(facts.archive): partial(read, facts.archive)} if facts.archive else {}
-
-
-def read(path: str) -> bytes:
-    with open(path, "rb") as file:
-        return file.read()
+    return {places.archive_file(facts.archive): Path(facts.archive).read_bytes} if facts.archive else {}
 
 
 def encoded(make: Callable[[], str]) -> bytes:
@@ -139,4 +135,4 @@ def style() -> str:
 
 def text_of(name: str) -> str:
     """A file of this folder."""
-    return read(os.path.join(HERE, name)).decode()
+    return Path(HERE, name).read_text(encoding="utf-8")

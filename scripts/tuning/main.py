@@ -8,6 +8,7 @@ import shlex
 import shutil
 import sys
 from functools import partial
+from pathlib import Path
 from typing import Iterable, Sequence
 
 from tools.faults import Fault
@@ -52,8 +53,7 @@ def prepared(given: argparse.Namespace, folder: str, kept: Journal, program: pro
     others = opponents(given.field, given.league, given.weight, folder, given.level)
     robots.compiled(program, given.profile, [robot, *(it.robot for it in others)], folder)
     place = os.path.join(folder, robot.sha256)
-    with open(place, "rb") as file:
-        source = file.read()
+    source = Path(place).read_bytes()
     seen = tokens(place, given.robot, source, given.profile, given.stages)
     found = numbers(source, seen, given.robot, given.number)
     itself = Itself(robot.sha256, but_numbers(source, found))

@@ -7,6 +7,7 @@ import os
 import re
 from dataclasses import dataclass
 from fractions import Fraction
+from pathlib import Path
 from typing import Callable, Iterable, Sequence
 
 from tools.faults import Fault, reading
@@ -44,8 +45,7 @@ class Itself:
     def has_copy(self, other: Opponent, folder: str) -> bool:
         """Whether an opponent, whose bytes the folder has, is the robot with other numbers or comments: the one without marks, an earlier
         copy, or what a search wrote."""
-        with open(os.path.join(folder, other.robot.sha256), "rb") as file:
-            return bool(self.but_numbers.fullmatch(bare(file.read())))
+        return bool(self.but_numbers.fullmatch(bare(Path(folder, other.robot.sha256).read_bytes())))
 
 
 @dataclass(frozen=True)

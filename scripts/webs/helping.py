@@ -7,6 +7,7 @@ import glob
 import html
 import os
 import re
+from pathlib import Path
 from typing import Any
 
 from .manuals import Page, summary
@@ -18,8 +19,7 @@ STEP = re.compile(r"/\* (?P<title>[^\n]*)\n(?P<text>.*?)\s*Against (?P<against>\
 
 def text_of(*path: str) -> str:
     """The text of a file."""
-    with open(os.path.join(*path), encoding="utf-8") as file:
-        return file.read()
+    return Path(*path).read_text(encoding="utf-8")
 
 
 def examples(web: str) -> dict[str, str]:
