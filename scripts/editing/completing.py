@@ -11,7 +11,7 @@ from .manual import Entry
 
 # Kinds of items, as the protocol numbers them.
 FUNCTION, VARIABLE, KEYWORD, SNIPPET = 3, 6, 14, 15
-PLAIN_TEXT, SNIPPET_TEXT = 1, 2
+SNIPPET_TEXT = 2
 # What words stand before, with places to fill in.
 SNIPPETS = {
     "while": "while (${1:condition}) {\n\t$0\n}",

@@ -10,7 +10,6 @@ from .knowing import Known, Name, Row
 from .manual import Entry
 
 Answer = dict[str, Any]
-READ, WRITTEN = 2, 3
 SYMBOL_FUNCTION, SYMBOL_VARIABLE = 12, 13
 
 

@@ -5,8 +5,7 @@ from __future__ import annotations
 import math
 
 from results.scores import Score
-
-NORMAL = 1.959964
+from tournaments.intervals import NORMAL
 
 
 def interval(score: Score) -> tuple[float, float]:

@@ -6,6 +6,7 @@ nearly a mark is refused, since it was hardly meant as anything else."""
 
 from __future__ import annotations
 
+import itertools
 import re
 from dataclasses import dataclass
 from typing import Iterator, NamedTuple, Sequence
@@ -88,12 +89,8 @@ class Number:
 
 def coarse(width: int, many: int) -> int:
     """The next of 1, 2, 5, 10, 20, .. by which a width has at most so many steps."""
-    power = 1
-    while True:
-        for factor in (1, 2, 5):
-            if factor * power * many >= width:
-                return factor * power
-        power *= 10
+    steps = (factor * 10**power for power in itertools.count() for factor in (1, 2, 5))
+    return next(step for step in steps if step * many >= width)
 
 
 def tokens(path: str, shown: str, source: bytes, profile: int, program: str | None = None) -> list[Token]:
