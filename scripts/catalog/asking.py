@@ -1,8 +1,6 @@
 """How a script of the repository begins, and what it answers that is asked about itself: its page of help, which is its own text, and
 its version; and what is wrong with words that are names alone."""
 
-from __future__ import annotations
-
 import sys
 from typing import Callable, NoReturn, Sequence
 

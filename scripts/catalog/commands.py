@@ -3,8 +3,6 @@
 A new command is a line of COMMANDS, a crate or a file of scripts/, and a manual page of its name. Beside the commands stand the
 programs that aren't installed."""
 
-from __future__ import annotations
-
 from dataclasses import dataclass
 from pathlib import Path
 

@@ -1,7 +1,5 @@
 """Completions of the commands for bash, zsh and fish, made of their manual pages."""
 
-from __future__ import annotations
-
 import shlex
 from pathlib import Path
 

@@ -1,7 +1,5 @@
 """The script `compare`: where a robot and its older version first do something else in the same match."""
 
-from __future__ import annotations
-
 import argparse
 import json
 from contextlib import ExitStack

@@ -3,8 +3,6 @@
 They are all that can be seen of a robot from outside. What it computes and what its variables hold is seen only if it asks
 something else for it, or in another cycle."""
 
-from __future__ import annotations
-
 from dataclasses import dataclass
 from itertools import zip_longest
 from typing import Iterable, Iterator

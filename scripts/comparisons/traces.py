@@ -1,7 +1,5 @@
 """How `crobots-trace` ended."""
 
-from __future__ import annotations
-
 from tools.faults import FAULTY, FILE, PROGRAM, USAGE, Ended, Fault
 from tools.programs import TRACE
 

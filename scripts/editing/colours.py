@@ -1,7 +1,5 @@
 """Semantic tokens, and the hints within lines: the cycles of calls and turns."""
 
-from __future__ import annotations
-
 from typing import Any
 
 from .documents import Text

@@ -1,7 +1,5 @@
 """Completion, and what is shown while arguments are typed."""
 
-from __future__ import annotations
-
 import re
 from typing import Any
 

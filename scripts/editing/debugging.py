@@ -1,7 +1,5 @@
 """The debug adapter: what a client asks of a match, and what it is told."""
 
-from __future__ import annotations
-
 import os
 import re
 import signal

@@ -1,7 +1,5 @@
 """The code of a robot, as the rows of `crobots-debug` say it: where each instruction comes from, and which lines are entered."""
 
-from __future__ import annotations
-
 from bisect import bisect_left
 from dataclasses import dataclass
 

@@ -1,7 +1,5 @@
 """A loop that waits for standard input and for running programs, and lets each go on as it can."""
 
-from __future__ import annotations
-
 import os
 import selectors
 from typing import Any, Callable, Protocol

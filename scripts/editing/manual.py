@@ -1,7 +1,5 @@
 """What the manual page on robots says of each intrinsic function: read there, and shown as Markdown."""
 
-from __future__ import annotations
-
 import gzip
 import os
 import re

@@ -1,7 +1,5 @@
 """Diagnostics, the fixes that go with them, and new names."""
 
-from __future__ import annotations
-
 import re
 from functools import lru_cache
 from typing import Any

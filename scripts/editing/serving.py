@@ -1,7 +1,5 @@
 """The language server: what a client asks for, and what it is told."""
 
-from __future__ import annotations
-
 from dataclasses import dataclass, field
 from typing import Any, Callable
 

@@ -1,7 +1,5 @@
 """What is shown of a match: open calls, variables, and instructions of each robot."""
 
-from __future__ import annotations
-
 import os
 from typing import Any
 

@@ -1,7 +1,5 @@
 """What stops a match: breakpoints with conditions and counts, and log points."""
 
-from __future__ import annotations
-
 import re
 from dataclasses import dataclass, field
 

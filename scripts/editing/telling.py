@@ -1,7 +1,5 @@
 """What is told of a place: a description, where it is declared, and where else it is used."""
 
-from __future__ import annotations
-
 from typing import Any
 
 from .completing import parameters_of

@@ -1,7 +1,5 @@
 """Marks what is handed in: blanks and line ends don't count."""
 
-from __future__ import annotations
-
 import os
 import re
 from dataclasses import dataclass

@@ -1,7 +1,5 @@
 """The addresses of the ladder, and what each answers."""
 
-from __future__ import annotations
-
 import json
 import logging
 import os

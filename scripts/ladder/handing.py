@@ -3,8 +3,6 @@
 All of it is one transaction, which is on the disk when 'taken' is answered. The same bytes again are taken again: whoever heard no
 answer may ask twice."""
 
-from __future__ import annotations
-
 import functools
 import shutil
 import time

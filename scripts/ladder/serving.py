@@ -1,7 +1,5 @@
 """The command serve: one process looks after two others, the web server and the player, and begins them anew if they end."""
 
-from __future__ import annotations
-
 import argparse
 import contextlib
 import glob

@@ -1,8 +1,6 @@
 """A trial: a source that isn't handed in plays a few matches against a robot of the ladder. Its author learns how these ended, and
 nothing of the other's source."""
 
-from __future__ import annotations
-
 import os
 import secrets
 import tempfile

@@ -1,7 +1,5 @@
 """The page that plays in a browser as a workbench: its own files, of which the first page may reach the ladder's Send and nothing else."""
 
-from __future__ import annotations
-
 import contextlib
 import functools
 import os

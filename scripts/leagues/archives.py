@@ -1,7 +1,5 @@
 """Archives: a league as a file that anybody can read and check, with its sources, rules and results."""
 
-from __future__ import annotations
-
 import contextlib
 import csv
 import io

@@ -1,7 +1,5 @@
 """A league as it is published: a copy of one instant, which has the publication, while the league itself goes on."""
 
-from __future__ import annotations
-
 import contextlib
 import os
 import sqlite3

@@ -1,7 +1,5 @@
 """The commands that say who plays and by which rules: init, rules, add, change, withdraw."""
 
-from __future__ import annotations
-
 import argparse
 import os
 

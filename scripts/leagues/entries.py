@@ -1,7 +1,5 @@
 """Who plays: robots join, get other bytes, and leave, each on a day. Nothing of that is ever forgotten."""
 
-from __future__ import annotations
-
 import hashlib
 import os
 import re

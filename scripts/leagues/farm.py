@@ -3,8 +3,6 @@
 A line names the file, where in it the first series begins, and how many follow. So it is short, however many series it has, and an
 array of jobs needn't be large. All names are relative to the league's folder, which may be anywhere on another machine."""
 
-from __future__ import annotations
-
 import contextlib
 import hashlib
 import os

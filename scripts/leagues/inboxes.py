@@ -1,7 +1,5 @@
 """Folders into which authors put their robots: a folder for each author, and the files in it, the newest first."""
 
-from __future__ import annotations
-
 import csv
 import os
 from dataclasses import dataclass

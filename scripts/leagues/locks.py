@@ -1,7 +1,5 @@
 """One `play` at a time: a lock on a file of the league, which ends with the process that has it."""
 
-from __future__ import annotations
-
 import contextlib
 import fcntl
 import os

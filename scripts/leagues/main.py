@@ -1,7 +1,5 @@
 """The script `league`: does what a command asks for."""
 
-from __future__ import annotations
-
 import argparse
 from typing import Callable
 

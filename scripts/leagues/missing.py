@@ -1,7 +1,5 @@
 """What is to be played now: the matches that a season wants and that weren't played."""
 
-from __future__ import annotations
-
 from dataclasses import dataclass
 from typing import Callable, Iterable, Iterator
 

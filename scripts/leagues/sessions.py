@@ -1,7 +1,5 @@
 """A session: plays what a league wants, keeps each series when it ends, and looks again what is wanted."""
 
-from __future__ import annotations
-
 import argparse
 import math
 from dataclasses import dataclass, replace

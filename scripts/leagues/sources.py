@@ -1,7 +1,5 @@
 """The robots' sources as files, from which they are played: in a folder of the league, named by their hashes."""
 
-from __future__ import annotations
-
 import contextlib
 import hashlib
 import os

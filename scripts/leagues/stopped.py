@@ -5,8 +5,6 @@ first look isn't chosen by anything. What is expected of it, if only the counts 
 differs less: the mean over all ways that lead to these counts without stopping before, of which each is alike probable. Matches that
 count a half are taken to be spread evenly."""
 
-from __future__ import annotations
-
 import functools
 import math
 from typing import NamedTuple

@@ -3,8 +3,6 @@
 It is written ahead (WAL) and forced to the disk with each transaction. So what was reported as done stays done, also when
 the power fails. Readers never wait for a writer."""
 
-from __future__ import annotations
-
 import contextlib
 import os
 import shutil

@@ -1,7 +1,5 @@
 """What robots did in some of their matches, as `crobots-trace` sums it up."""
 
-from __future__ import annotations
-
 import subprocess
 from concurrent.futures import ThreadPoolExecutor
 from typing import Sequence

@@ -1,7 +1,5 @@
 """The command season: lists the seasons, ends one, begins one."""
 
-from __future__ import annotations
-
 import argparse
 from dataclasses import replace
 

@@ -1,7 +1,5 @@
 """The command verify: replays matches of an archive, works its table out anew, and says what differs."""
 
-from __future__ import annotations
-
 import argparse
 import os
 import random

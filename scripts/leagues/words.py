@@ -1,7 +1,5 @@
 """The words of the command lines."""
 
-from __future__ import annotations
-
 import argparse
 import os
 from dataclasses import replace

@@ -1,7 +1,5 @@
 """The script `replay`: has a match played by `trace`, and writes its page."""
 
-from __future__ import annotations
-
 from tools import output
 from tools.faults import UNWRITTEN, Ended, Fault
 from tools.programs import TRACE, found, lines, number

@@ -1,7 +1,5 @@
 """Puts modules of JavaScript together as one script: a browser that opens a page from a file loads no modules."""
 
-from __future__ import annotations
-
 import os
 import re
 from pathlib import Path

@@ -1,7 +1,5 @@
 """Makes the page of a match: one file with its style, its script and its film."""
 
-from __future__ import annotations
-
 import html
 import os
 from string import Template

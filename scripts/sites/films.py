@@ -1,7 +1,5 @@
 """Makes pages that play matches: each by a child that does what scripts/replay does, if `crobots-trace` is there."""
 
-from __future__ import annotations
-
 import html
 import os
 import subprocess

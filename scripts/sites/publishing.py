@@ -1,7 +1,5 @@
 """Publishes a site: all its pages and files, from the facts, into a folder."""
 
-from __future__ import annotations
-
 import os
 from dataclasses import dataclass
 from functools import partial

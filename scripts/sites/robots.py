@@ -1,7 +1,5 @@
 """The page of a robot: where it is in the table, its opponents, its versions and its source."""
 
-from __future__ import annotations
-
 from itertools import compress
 from typing import Sequence
 

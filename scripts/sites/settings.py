@@ -1,7 +1,5 @@
 """The page of settings: what was played by which program, and how that is checked."""
 
-from __future__ import annotations
-
 import hashlib
 import os
 import shlex

@@ -1,7 +1,5 @@
 """The facts of a tournament, from what it comes to."""
 
-from __future__ import annotations
-
 import contextlib
 import hashlib
 from pathlib import Path

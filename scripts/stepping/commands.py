@@ -1,7 +1,5 @@
 """The commands of a session, by their words and letters."""
 
-from __future__ import annotations
-
 import re
 from dataclasses import dataclass
 from typing import Callable, Sequence

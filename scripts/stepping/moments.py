@@ -1,7 +1,5 @@
 """Moments: where the robot is after a cycle, as the rows of `crobots-debug` say, and those of `crobots-trace --at`."""
 
-from __future__ import annotations
-
 from dataclasses import dataclass, field
 from typing import NamedTuple
 

@@ -1,7 +1,5 @@
 """What ends a script before its time: a line for its user, and a status."""
 
-from __future__ import annotations
-
 import contextlib
 from typing import Iterable, Iterator
 

@@ -1,7 +1,5 @@
 """The programs that scripts run: where they are, which version they have, and what they write and say."""
 
-from __future__ import annotations
-
 import contextlib
 import os
 import shutil

@@ -1,7 +1,5 @@
 """The sample robots: where they are, and on which level of the ladder each stands."""
 
-from __future__ import annotations
-
 import os
 import re
 

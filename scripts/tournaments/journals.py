@@ -4,8 +4,6 @@ A match is found again by what decides it: the bytes of its robots in the order 
 and its number. So a robot whose bytes changed plays anew, and one that came or went leaves the matches of the others as
 they were. Limit, profile and program are one for the whole journal."""
 
-from __future__ import annotations
-
 import contextlib
 import fcntl
 import os

@@ -1,7 +1,5 @@
 """Puts the records that a plan's command lines wrote together again, if each match is there exactly once."""
 
-from __future__ import annotations
-
 import contextlib
 from collections import Counter, defaultdict
 from typing import IO, Iterable, Iterator

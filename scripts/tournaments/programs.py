@@ -1,7 +1,5 @@
 """The program `crobots`: where it is, and the hash of its bytes, by which records name it."""
 
-from __future__ import annotations
-
 import contextlib
 import hashlib
 import os

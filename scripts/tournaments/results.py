@@ -1,7 +1,5 @@
 """What a tournament comes to: its matches added up, and the forms that are written of it."""
 
-from __future__ import annotations
-
 import argparse
 import os
 from functools import cached_property

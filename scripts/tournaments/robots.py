@@ -3,8 +3,6 @@
 A file is read once, and what is compiled and played is a copy in a private folder, named by its hash: so a robot that is
 edited meanwhile changes nothing."""
 
-from __future__ import annotations
-
 import contextlib
 import hashlib
 import os

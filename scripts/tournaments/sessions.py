@@ -1,7 +1,5 @@
 """A session: plays what the journal doesn't have, says how far it is, and ends when a signal asks for it."""
 
-from __future__ import annotations
-
 import argparse
 from contextlib import closing, contextmanager
 from functools import partial

@@ -1,7 +1,5 @@
 """A spool: the records of a tournament in a temporary file, so that memory doesn't grow with the matches."""
 
-from __future__ import annotations
-
 import tempfile
 from typing import Iterator
 

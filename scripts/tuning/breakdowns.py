@@ -1,7 +1,5 @@
 """Whom variants met, and what each of them did against each opponent."""
 
-from __future__ import annotations
-
 from dataclasses import dataclass
 from fractions import Fraction
 from typing import Any, Mapping

@@ -5,8 +5,6 @@ the middle, by ranks: so it doesn't matter how far apart the scores are, only wh
 takes much of the chance away. The steps follow from how the middle moves (Ros and Hansen, separable CMA-ES, 2008).
 All numbers go from 0 to 1 here."""
 
-from __future__ import annotations
-
 import math
 import random
 from typing import Sequence

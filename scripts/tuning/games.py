@@ -2,8 +2,6 @@
 
 Each opponent has starts of its own, and in each seat all variants have the same: so they are compared in the same matches."""
 
-from __future__ import annotations
-
 import argparse
 import os
 from dataclasses import dataclass, field, replace

@@ -1,7 +1,5 @@
 """What a search found is judged by matches that it has never seen."""
 
-from __future__ import annotations
-
 from dataclasses import dataclass
 from typing import Iterator
 

@@ -1,7 +1,5 @@
 """The script `tune`: reads a robot, sweeps or tunes its numbers, and says what they are worth."""
 
-from __future__ import annotations
-
 import argparse
 import os
 import shlex

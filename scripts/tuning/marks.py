@@ -4,8 +4,6 @@ The proved lexer says where constants stand. Between a token and the next one ar
 a mark is looked for: `/* tune 100..900 */`, which may go on with `step 50` and with `name near`. A comment behind a number that is
 nearly a mark is refused, since it was hardly meant as anything else."""
 
-from __future__ import annotations
-
 import itertools
 import re
 from dataclasses import dataclass

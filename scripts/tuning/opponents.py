@@ -1,7 +1,5 @@
 """Whom a robot is tuned against: files, folders, samples of a level, and the best robots of a league, each with a weight; never itself."""
 
-from __future__ import annotations
-
 import importlib
 import os
 import re

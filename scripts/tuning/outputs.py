@@ -1,7 +1,5 @@
 """The file that `-o` names: the tuned robot, or the picture of a sweep. What can be known of it beforehand is refused beforehand."""
 
-from __future__ import annotations
-
 import contextlib
 import errno
 import os

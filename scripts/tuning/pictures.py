@@ -1,7 +1,5 @@
 """A sweep as a picture: points over the values with the interval of each change, or a map of two numbers. It stands alone, as SVG."""
 
-from __future__ import annotations
-
 import math
 from typing import Sequence
 

@@ -1,7 +1,5 @@
 """The best robots of a league."""
 
-from __future__ import annotations
-
 from leagues.entries import source
 from leagues.seasons import season
 from leagues.showing import rated

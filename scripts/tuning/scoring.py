@@ -3,8 +3,6 @@
 Variants play an opponent in the same seats from the same starts, so the differences of two matches with one seat and number are
 independent of each other."""
 
-from __future__ import annotations
-
 import statistics
 from collections import defaultdict
 from dataclasses import dataclass, field

@@ -4,8 +4,6 @@ Where an evolution begins matters: a number that does nothing up to a threshold 
 So the first races look everywhere, each with a part of the budget. What an evolution comes to is a mean of places that had few matches
 each; the last race tells whether it is better than where it began, and than today's values."""
 
-from __future__ import annotations
-
 import random
 import statistics
 import time

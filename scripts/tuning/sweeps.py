@@ -3,8 +3,6 @@
 It is played in rounds, each of which has as many matches as all before it. Under `--until sure` a value that is surely worse, than
 today's or than the best one so far, has no more of them."""
 
-from __future__ import annotations
-
 from dataclasses import dataclass
 from itertools import product
 from typing import Iterator, Sequence

@@ -1,7 +1,5 @@
 """The forms of an answer: columns, comma-separated values, JSON. Each says against whom."""
 
-from __future__ import annotations
-
 import json
 from dataclasses import replace
 from typing import Any, Iterator, Sequence

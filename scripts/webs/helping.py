@@ -1,8 +1,6 @@
 """Makes what the page says of the language: the manual's own text, the thirteen functions with an example each, and the
 five steps with which one begins."""
 
-from __future__ import annotations
-
 import glob
 import html
 import os

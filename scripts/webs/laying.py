@@ -1,7 +1,5 @@
 """Lays the page into its folder: its modules as scripts, what it is built with as another one, the editor, pages, and a zip."""
 
-from __future__ import annotations
-
 import base64
 import contextlib
 import glob

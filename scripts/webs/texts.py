@@ -1,7 +1,5 @@
 """The pages of docs/ that lie beside the page in the browser, as HTML: what a class reads."""
 
-from __future__ import annotations
-
 import html
 import posixpath
 from string import Template
