@@ -128,10 +128,10 @@ class Known:
 
     def name_at(self, offset: int) -> Name | None:
         """The name at an offset, or right before it."""
-        return next((it for it in self.names if it.start <= offset <= it.end), None)
+        return next((name for name in self.names if name.start <= offset <= name.end), None)
 
     def token_at(self, offset: int) -> Token | None:
-        return next((it for it in self.tokens if it.start <= offset <= it.end), None)
+        return next((token for token in self.tokens if token.start <= offset <= token.end), None)
 
     def declaration(self, name: Name) -> Name | None:
         """Where what a name names is declared: an undeclared variable where it is first mentioned."""
@@ -139,26 +139,26 @@ class Known:
             return None
         uses = self.by_key[name.key()]
         for role in ("defined", "parameter", "declared"):
-            if found := next((it for it in uses if it.role == role), None):
+            if found := next((use for use in uses if use.role == role), None):
                 return found
         return None if name.kind == "function" else uses[0]
 
     def function_at(self, offset: int) -> Row | None:
         """The function whose name, parameters or block are at an offset."""
-        return next((it for it in self.functions if it["start"] <= offset <= it["close"]), None)
+        return next((row for row in self.functions if row["start"] <= offset <= row["close"]), None)
 
     def function_named(self, name: str) -> Row | None:
-        return next((it for it in self.functions if it["name"] == name), None)
+        return next((row for row in self.functions if row["name"] == name), None)
 
     def parameters(self, function: Row) -> list[str]:
         """The names of a function's parameters."""
         number = function["function"]
-        return [it.name for it in self.names if it.role == "parameter" and it.function == number]
+        return [name.name for name in self.names if name.role == "parameter" and name.function == number]
 
     def locals(self, function: Row) -> list[str]:
         """The names of a function's variables, its parameters among them, each once."""
         number = function["function"]
-        return [*dict.fromkeys(it.name for it in self.names if it.kind == "local" and it.function == number)]
+        return [*dict.fromkeys(name.name for name in self.names if name.kind == "local" and name.function == number)]
 
 
 def parsed(lines: list[bytes]) -> list[Row]:

@@ -174,14 +174,14 @@ class Server:
     # Documents.
 
     def opened(self, params: Fields) -> None:
-        it = params.fields("textDocument")
-        uri = it.text("uri")
+        given = params.fields("textDocument")
+        uri = given.text("uri")
         waiting: list[Asked] = []
         if uri in self._documents:
             self._stop(self._documents[uri])
             waiting = self._documents[uri].asked
-        text = Text(it.text("text"), self._settings.encoding)
-        self._documents[uri] = Document(uri, text, it.number_or("version", 0), self._settings.profile, asked=waiting)
+        text = Text(given.text("text"), self._settings.encoding)
+        self._documents[uri] = Document(uri, text, given.number_or("version", 0), self._settings.profile, asked=waiting)
         self._know(self._documents[uri])
 
     def changed(self, params: Fields) -> None:
@@ -209,7 +209,7 @@ class Server:
     def cancelled(self, params: Fields) -> None:
         number_ = params.value("id")
         for document in self._documents.values():
-            for asked in [it for it in document.asked if is_number(number_) and it.number == number_]:
+            for asked in [one for one in document.asked if is_number(number_) and one.number == number_]:
                 document.asked.remove(asked)
                 send(failure(asked.number, CANCELLED, "cancelled"))
 
@@ -260,7 +260,7 @@ class Server:
             return
         self._said = ""
         document.known = known
-        told = [(it["row"], self._diagnostic(document, it)) for it in known.faults]
+        told = [(row["row"], self._diagnostic(document, row)) for row in known.faults]
         document.warnings = [diagnostic for kind, diagnostic in told if kind == "warning"]
         publish(document, [diagnostic for _, diagnostic in told])
         waiting, document.asked = document.asked, []
@@ -319,7 +319,7 @@ class Server:
 
     def references(self, document: Document, params: Fields) -> Answer:
         with_declaration = params.fields_or("context").truth("includeDeclaration", True)
-        return [{"uri": document.uri, "range": it} for it in telling.references(*placed(document, params), with_declaration)]
+        return [{"uri": document.uri, "range": where} for where in telling.references(*placed(document, params), with_declaration)]
 
     def hints(self, document: Document, params: Fields) -> Answer:
         text, known = whole(document)
@@ -346,13 +346,13 @@ class Server:
             raise Failed(str(why)) from why
         if new != old.name:
             mending.check_meaning(known, after, uses, new)
-        edits = [{"range": text.range(it.start, it.end), "newText": new} for it in uses]
+        edits = [{"range": text.range(use.start, use.end), "newText": new} for use in uses]
         return {"changes": {document.uri: edits}}
 
     def _execute(self, number_: Any, params: Fields) -> None:
         """Begins a command, which says what it found when it has it."""
         command = params.text("command")
-        uris = [it for it in params.items("arguments") if isinstance(it, str)]
+        uris = [uri for uri in params.items("arguments") if isinstance(uri, str)]
         if command not in COMMANDS:
             raise Failed(f"{command} isn't known", WRONG_PARAMS)
         if not uris or uris[0] not in self._documents:

@@ -65,7 +65,7 @@ class Level:
 def opponents(paths: Sequence[str], league: League | None, weights: Sequence[tuple[str, Fraction]], folder: str,
               levels: Sequence[Level] = ()) -> list[Opponent]:
     """The robots of these words, copied into a folder, in an order that doesn't depend on that of the words."""
-    samples = {path: it.weight for it in levels for path in of_level(it.number)}
+    samples = {path: level.weight for level in levels for path in of_level(level.number)}
     files = [*(file for path in paths for file in robots_of(path)), *samples]
     found = robots.copied(files, folder) + (of_league(league, folder) if league else [])
     unused = {path for path, _ in weights}
@@ -76,7 +76,7 @@ def opponents(paths: Sequence[str], league: League | None, weights: Sequence[tup
         them.append(Opponent(robot, weight, robot.path in paths))
     if unused:
         raise Fault(f"--weight names {min(unused)}, which isn't played against")
-    return [it for it in them if it.weight]
+    return [opponent for opponent in them if opponent.weight]
 
 
 def without(found: Sequence[Opponent], itself: Itself, folder: str) -> tuple[list[Opponent], list[str]]:

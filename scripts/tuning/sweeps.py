@@ -123,7 +123,7 @@ class Sweep:
 def swept(games: Games) -> list[Values]:
     """The values of a sweep in their order."""
     many = {1: 20, 2: OF_TWO}[len(games.numbers)]
-    return [*product(*(it.range.values(it.value, many) for it in games.numbers))]
+    return [*product(*(number.range.values(number.value, many) for number in games.numbers))]
 
 
 def sweep(games: Games, starts: Starts, each: int, until_sure: bool) -> list[Row]:
