@@ -15,7 +15,6 @@ from tools.output import replaced
 from tournaments.plans import SERIES, Plan, one_write
 from tournaments.records import Record
 
-
 NAME = "plans"
 CHUNK = os.path.join(os.path.dirname(os.path.realpath(__file__)), "chunk.sh")
 # A plan is needed as long as its lines are played. Older ones are removed when another is made.

@@ -4,7 +4,6 @@ from typing import Iterable, Iterator
 
 from tools.rules import DEADLY
 
-
 from .facts import Battle, Notable, RobotId
 
 

@@ -16,7 +16,6 @@ from .numbers import count, counted
 from .tables import command_line, listed
 
 
-
 def settings_page(lookup: Lookup, older: Sequence[str] = ()) -> str:
     """The page of settings, with the archives that were published before."""
     title = "Settings"

@@ -27,7 +27,6 @@ from .sessions import session, tell_rounded
 from .settings import Settings
 from .versions import CHALLENGER, NEW, OLD, Place, Versions
 
-
 AGAINST = "against"
 
 

@@ -67,7 +67,6 @@ class Results:
         for fault in faults[-1:]:
             raise fault
 
-
     def _tell_apart(self) -> None:
         """Says if there are robots whose ratings can't be compared."""
         many = len(parts((seats[0], other) for seats in self._tally.seatings for other in seats[1:]))

@@ -14,7 +14,6 @@ from tools.rules import (CYCLES_DEFAULT, MOST_CYCLES, MOST_MATCHES, MOST_PROFILE
                          SEED_DEFAULT)
 from tools.words import PROFILE_HELP
 
-
 # How many robots a match of a tournament may have.
 SIZES = range(2, MOST_ROBOTS + 1)
 # The settings of matches that weren't given: what each is then.

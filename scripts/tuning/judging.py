@@ -12,7 +12,6 @@ from .games import Games, Starts, Stretch, Values
 from .sweeps import Row, row
 from .verdicts import BETTER, levels
 
-
 # The judgement has this part of the budget besides, if no number of matches was given.
 PART = 0.1
 
