@@ -87,7 +87,7 @@ class Number:
 
 def coarse(width: int, many: int) -> int:
     """The next of 1, 2, 5, 10, 20, .. by which a width has at most so many steps."""
-    steps = (factor * 10**power for power in itertools.count() for factor in (1, 2, 5))
+    steps: Iterator[int] = (factor * 10**power for power in itertools.count() for factor in (1, 2, 5))
     return next(step for step in steps if step * many >= width)
 
 
