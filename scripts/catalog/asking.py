@@ -1,22 +1,36 @@
-"""What a script answers that is asked about itself: its page of help, which is its own text, and its version; and what is wrong
-with words that are names alone."""
-
-from __future__ import annotations
+"""How a script of the repository begins, and what it answers that is asked about itself: its page of help, which is its own text, and
+its version; and what is wrong with words that are names alone."""
 
 import sys
-from typing import Sequence
+from typing import Callable, NoReturn, Sequence
 
-from tools.faults import Misuse
+from tools.faults import Fault, Misuse
 from tools.output import OUTPUT
 from tools.output import write as write_pieces
 from tools.programs import number
+from tools.running import run
+
+
+def begin(name: str, page: str | None, does: Callable[[list[str]], int | None]) -> int:
+    """Runs a script that its page explains, unless it is asked about itself; answers its status. Its usage follows wrong words."""
+    words, text = sys.argv[1:], page or ""
+    return run(name, lambda: None if is_asked(name, text, words) else does(words), usage_of(text))
+
+
+def usage_of(page: str) -> str:
+    """A script's usage, with which its page begins."""
+    return f"usage: {page.partition(': ')[0]}"
+
+
+def fail(why: str, status: int = 1) -> NoReturn:
+    raise Fault(why, status)
 
 
 def is_asked(name: str, page: str, words: list[str]) -> bool:
     """Writes what words ask for, if that is the page of help or the version; reports whether it is."""
     if words in (["-h"], ["--help"]):
-        use, _, does = page.partition(": ")
-        write(name, f"usage: {use}\n\n{does[0].upper()}{does[1:].rstrip()}\n")
+        does = page.partition(": ")[2]
+        write(name, f"{usage_of(page)}\n\n{does[0].upper()}{does[1:].rstrip()}\n")
         return True
     if words == ["--version"]:
         write(name, f"{name} {number()}\n")

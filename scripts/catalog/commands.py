@@ -3,8 +3,6 @@
 A new command is a line of COMMANDS, a crate or a file of scripts/, and a manual page of its name. Beside the commands stand the
 programs that aren't installed."""
 
-from __future__ import annotations
-
 from dataclasses import dataclass
 from pathlib import Path
 
@@ -72,7 +70,7 @@ PROGRAMS = (
 SCRIPTS = (
     Script("crobots-tournament", "tournament", ("tools", "tournaments", "results", "sites", "replays"), "crobots"),
     Script("crobots-challenge", "challenge", ("tools", "tournaments", "results", "sites", "replays"), "crobots"),
-    Script("crobots-compare", "compare", ("tools", "comparisons", "tournaments", "results", "sites", "replays"), "crobots-trace"),
+    Script("crobots-compare", "compare", ("tools", "comparisons", "stepping", "tournaments", "results", "sites", "replays"), "crobots-trace"),
     Script("crobots-exercise", "exercise", ("tools", "exercises"), "crobots"),
     Script("crobots-league", "league", ("tools", "leagues", "ladder", "tournaments", "results", "sites", "replays"), "crobots"),
     Script("crobots-replay", "replay", ("tools", "replays"), "crobots-trace"),

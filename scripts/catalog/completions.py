@@ -1,7 +1,5 @@
 """Completions of the commands for bash, zsh and fish, made of their manual pages."""
 
-from __future__ import annotations
-
 import shlex
 from pathlib import Path
 
@@ -78,7 +76,8 @@ def bash_words(command: Command) -> str:
 
 def for_zsh(command: Command) -> str:
     """The completion of a command for zsh."""
-    first = [zsh_words(command)] if words(command) else []
+    names = " ".join(name for name, _ in words(command))
+    first = [shlex.quote(f"1:what to do:({names})")] if names else []
     lines = [line for option in options(command) for line in zsh_option(option)]
     rest = "'*:robot:_files -g \"*.r(-.) *(-/)\"'"
     return f"#compdef {command.name}\n_arguments \\\n    " + " \\\n    ".join([*lines, *first, rest]) + "\n"
@@ -96,10 +95,6 @@ def zsh_values(option: Option) -> str:
     if values(option):
         return f"({' '.join(values(option))})"
     return {None: " ", False: "_files", True: "_files -/"}[PATHS.get(option.value)]
-
-
-def zsh_words(command: Command) -> str:
-    return shlex.quote(f"1:what to do:({' '.join(name for name, _ in words(command))})")
 
 
 def for_fish(command: Command) -> str:

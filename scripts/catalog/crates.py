@@ -1,7 +1,5 @@
 """The crates of this repository, as crates.txt lists them."""
 
-from __future__ import annotations
-
 from pathlib import Path
 from typing import Collection
 

@@ -1,7 +1,5 @@
 """The options of a command, as its manual page lists them."""
 
-from __future__ import annotations
-
 import re
 from dataclasses import dataclass
 

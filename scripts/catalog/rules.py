@@ -1,8 +1,6 @@
 """The rules of the game as `crates/rules` writes them, and the files that are made of them: what stands there was compared with the
 program by the gate, so no program is needed to read it."""
 
-from __future__ import annotations
-
 import json
 from pathlib import Path
 from typing import Any, Iterable, Iterator, Sequence

@@ -1,7 +1,5 @@
 """Workshops: folders in which crates are proved and built apart, over links to what was built of the crates below them."""
 
-from __future__ import annotations
-
 import glob
 import os
 import shutil

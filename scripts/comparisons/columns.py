@@ -1,7 +1,5 @@
 """Two columns of texts, side by side, with labels before them. A bar stands between two texts that differ."""
 
-from __future__ import annotations
-
 import os
 from typing import NamedTuple
 

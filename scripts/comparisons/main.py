@@ -1,22 +1,22 @@
 """The script `compare`: where a robot and its older version first do something else in the same match."""
 
-from __future__ import annotations
-
 import argparse
 import json
 from contextlib import ExitStack
 from dataclasses import dataclass
 
-from tools.faults import plain, unreadable
+from stepping.moments import Moment, Question, moment_of
+from tools.faults import plain, reading
 from tools.output import show
+from tools.programs import TRACE, lines
 from tools.programs import found as path_of
 from tools.signals import stopping
 from tournaments.robots import names
 
-from . import traces, words
+from . import words
 from .columns import Row, columns, side_by_side
-from .moments import Moment, Values, moment
-from .questions import Comparison, Question, comparison, questions
+from .questions import Comparison, comparison, questions
+from .traces import judge
 
 NOTHING = "nothing"
 # What is shown of a call or of the externals: a label and a text for each row.
@@ -47,15 +47,15 @@ def versions(given: argparse.Namespace) -> list[Version]:
 def compared(trace: str, both: list[Version]) -> Comparison:
     """Plays the match with both versions side by side, until they ask something else."""
     with ExitStack() as playing:
-        new, old = (questions(playing.enter_context(traces.lines(trace, ["--asks", *version.match]))) for version in both)
+        new, old = (questions(playing.enter_context(lines(trace, ["--asks", *version.match], judge))) for version in both)
         found = comparison(new, old)
     return found
 
 
-def moment_of(trace: str, version: Version, cycle: int) -> Moment:
+def moment_after(trace: str, version: Version, cycle: int) -> Moment:
     """Where a version is after a cycle."""
-    with traces.lines(trace, [f"--at={cycle}", *version.match]) as rows:
-        return moment(rows)
+    with lines(trace, [f"--at={cycle}", *version.match], judge) as rows:
+        return moment_of([row.split("\t") for row in rows])
 
 
 def said(given: argparse.Namespace, both: list[Version], found: Comparison) -> str:
@@ -94,26 +94,23 @@ def groups_of(moment: Moment) -> dict[Place, Texts]:
     return {**calls, EXTERNALS: texts("", moment.externals)}
 
 
-def texts(indent: str, values: Values) -> Texts:
+def texts(indent: str, values: dict[str, int]) -> Texts:
     return {f"{indent}{name}": str(value) for name, value in values.items()}
 
 
 def line_of(version: Version, number: int) -> str:
     """The text of a line of a version's source."""
-    try:
-        with open(version.path, encoding="utf-8", errors="replace", newline="\n") as file:
-            return next((plain(" ".join(line.split())) for at, line in enumerate(file, 1) if at == number), "")
-    except OSError as why:
-        unreadable(version.path, why)
+    with reading(version.path), open(version.path, encoding="utf-8", errors="replace", newline="\n") as file:
+        return next((plain(" ".join(line.split())) for at, line in enumerate(file, 1) if at == number), "")
 
 
 def compare(name: str, arguments: list[str]) -> None:
     """Does what the words ask for."""
     given = words.read(name, arguments)
-    trace, both = path_of(traces.TRACE), versions(given)
+    trace, both = path_of(TRACE), versions(given)
     with stopping("stopped while the match was played"):
         found = compared(trace, both)
-        moments = [] if found.cycle is None else [moment_of(trace, version, found.cycle - 1) for version in both]
+        moments = [] if found.cycle is None else [moment_after(trace, version, found.cycle - 1) for version in both]
         show([data(given, both, found, moments) if given.json else shown(given, both, found, moments)])
 
 

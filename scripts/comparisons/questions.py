@@ -3,19 +3,11 @@
 They are all that can be seen of a robot from outside. What it computes and what its variables hold is seen only if it asks
 something else for it, or in another cycle."""
 
-from __future__ import annotations
-
 from dataclasses import dataclass
 from itertools import zip_longest
-from typing import Iterable, Iterator, NamedTuple
+from typing import Iterable, Iterator
 
-
-class Question(NamedTuple):
-    """A call of an intrinsic function, as `scan(0, 10)`, its cycle, and its reply."""
-
-    cycle: int
-    call: str
-    reply: int
+from stepping.moments import Question
 
 
 def questions(rows: Iterable[str]) -> Iterator[Question]:

@@ -1,19 +1,7 @@
-"""What `crobots-trace` writes about a match, line by line."""
+"""How `crobots-trace` ended."""
 
-from __future__ import annotations
-
-import contextlib
-from typing import Iterable, Iterator
-
-from tools import programs
 from tools.faults import FAULTY, FILE, PROGRAM, USAGE, Ended, Fault
-
-TRACE = "crobots-trace"
-
-
-def lines(trace: str, words: Iterable[str]) -> contextlib.AbstractContextManager[Iterator[str]]:
-    """The lines that `crobots-trace` writes with these words. It ends when they are needed no more."""
-    return programs.lines(trace, words, judge)
+from tools.programs import TRACE
 
 
 def judge(status: int, said: list[str]) -> None:

@@ -1,7 +1,5 @@
 """The words of the command line."""
 
-from __future__ import annotations
-
 import argparse
 from typing import NoReturn
 

@@ -1,7 +1,5 @@
 """Semantic tokens, and the hints within lines: the cycles of calls and turns."""
 
-from __future__ import annotations
-
 from typing import Any
 
 from .documents import Text
@@ -19,11 +17,11 @@ PADDED = {"paddingLeft": True}
 
 def tokens(text: Text, known: Known) -> list[int]:
     """The tokens of a text as the protocol packs them: each by its distance from the one before."""
-    names = {it.start: it for it in known.names}
-    parameters = {(it.function, it.name) for it in known.names if it.role == "parameter"}
+    names = {name.start: name for name in known.names}
+    parameters = {(name.function, name.name) for name in known.names if name.role == "parameter"}
     packed: list[int] = []
     last_line = last_column = 0
-    for token, (line, column, length) in zip(known.tokens, text.places((it.start, it.end) for it in known.tokens)):
+    for token, (line, column, length) in zip(known.tokens, text.places((one.start, one.end) for one in known.tokens)):
         kind, modifiers = kind_of(token.kind, names.get(token.start), parameters)
         if kind is None or not length:
             continue
@@ -48,6 +46,6 @@ def kind_of(kind: str, name: Name | None, parameters: set[tuple[int | None, str]
 
 def hints(text: Text, known: Known, first: int, last: int) -> list[dict[str, Any]]:
     """The cycles of each function's call and each loop's turn that begin between two offsets."""
-    found = [(it["start"], it["end"], "call") for it in known.functions] + [(it["start"], it["end"], "turn") for it in known.loops]
+    found = [(row["start"], row["end"], "call") for row in known.functions] + [(row["start"], row["end"], "turn") for row in known.loops]
     told = ((end, cycles_at(text, known, what, start)) for start, end, what in sorted(found) if first <= start <= last)
     return [{"position": text.position(end), "label": cycles} | PADDED for end, cycles in told if cycles]

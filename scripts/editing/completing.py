@@ -1,7 +1,5 @@
 """Completion, and what is shown while arguments are typed."""
 
-from __future__ import annotations
-
 import re
 from typing import Any
 
@@ -11,7 +9,7 @@ from .manual import Entry
 
 # Kinds of items, as the protocol numbers them.
 FUNCTION, VARIABLE, KEYWORD, SNIPPET = 3, 6, 14, 15
-PLAIN_TEXT, SNIPPET_TEXT = 1, 2
+SNIPPET_TEXT = 2
 # What words stand before, with places to fill in.
 SNIPPETS = {
     "while": "while (${1:condition}) {\n\t$0\n}",
@@ -23,7 +21,7 @@ Item = dict[str, Any]
 
 def is_in_comment(text: Text, known: Known, offset: int) -> bool:
     """Whether an offset is in a comment: tokens have none in them."""
-    start = max((it.end for it in known.tokens if it.end <= offset), default=0)
+    start = max((token.end for token in known.tokens if token.end <= offset), default=0)
     return is_open(text.content[start:offset])
 
 
@@ -65,7 +63,7 @@ def of_intrinsic(row: Item, manual: dict[str, Entry], has_snippets: bool) -> Ite
 def of_call(name: str, parameters: list[str], has_snippets: bool) -> Item:
     item: Item = {"label": name, "kind": FUNCTION, "detail": f"{name}({', '.join(parameters)})"}
     if has_snippets:
-        places = ", ".join(f"${{{number}:{it}}}" for number, it in enumerate(parameters, 1))
+        places = ", ".join(f"${{{number}:{parameter}}}" for number, parameter in enumerate(parameters, 1))
         item |= {"insertTextFormat": SNIPPET_TEXT, "insertText": f"{name}({places})$0"}
     return item
 
@@ -74,10 +72,10 @@ def variables(known: Known, offset: int) -> list[Item]:
     """The variables that are in scope: those of the function, and of the file those that are declared before."""
     function = known.function_at(offset)
     own = known.locals(function) if function else []
-    here = next((it.name for it in known.names if it.start < offset == it.end), None)
-    outer = [it.name for it in known.names if (it.kind, it.role) == ("external", "declared") and it.end < offset]
+    here = next((name.name for name in known.names if name.start < offset == name.end), None)
+    outer = [name.name for name in known.names if (name.kind, name.role) == ("external", "declared") and name.end < offset]
     told = [*((name, "a variable of the function") for name in own), *((name, "an external") for name in outer if name not in own)]
-    seen = {it.name for it in known.names if it.end < offset or it.start > offset}
+    seen = {name.name for name in known.names if name.end < offset or name.start > offset}
     # the name that is being typed is none yet
     return [{"label": name, "kind": VARIABLE, "detail": what} for name, what in dict(told).items() if name != here or name in seen]
 
@@ -86,7 +84,7 @@ def signature(text: Text, known: Known, offset: int, manual: dict[str, Entry]) -
     """The function whose arguments are typed at an offset, and which of them."""
     if is_in_comment(text, known, offset):
         return None
-    found = call_around(text, [it for it in known.tokens if it.end <= offset])
+    found = call_around(text, [token for token in known.tokens if token.end <= offset])
     if not found:
         return None
     name, number = found
@@ -94,14 +92,14 @@ def signature(text: Text, known: Known, offset: int, manual: dict[str, Entry]) -
     if parameters is None:
         return None
     entry = manual.get(name)
-    shown: Item = {"label": f"{name}({', '.join(parameters)})", "parameters": [{"label": it} for it in parameters]}
+    shown: Item = {"label": f"{name}({', '.join(parameters)})", "parameters": [{"label": parameter} for parameter in parameters]}
     if entry and is_intrinsic(known, name):
         shown["documentation"] = {"kind": "markdown", "value": entry.text}
     return {"signatures": [shown], "activeSignature": 0, "activeParameter": number}
 
 
 def is_intrinsic(known: Known, name: str) -> bool:
-    return any(it["name"] == name for it in known.intrinsics)
+    return any(row["name"] == name for row in known.intrinsics)
 
 
 def parameters_of(known: Known, name: str, manual: dict[str, Entry]) -> list[str] | None:

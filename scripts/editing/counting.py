@@ -1,7 +1,5 @@
 """Lines, columns and paths as a client of the debug adapter has them: counted from 0 or from 1, paths or URIs."""
 
-from __future__ import annotations
-
 import pathlib
 import urllib.parse
 from dataclasses import dataclass

@@ -1,7 +1,5 @@
 """The debug adapter: what a client asks of a match, and what it is told."""
 
-from __future__ import annotations
-
 import os
 import re
 import signal
@@ -193,7 +191,7 @@ class Adapter:
 
     def _finished(self) -> None:
         """Tells that the match is over, with its report."""
-        words = [found(GAME), "-m1", *(f"-f{it[2:]}" if it.startswith("-k") else it for it in self._launch.options), "--", *self._launch.files]
+        words = [found(GAME), "-m1", *(f"-f{option[2:]}" if option.startswith("-k") else option for option in self._launch.options), "--", *self._launch.files]
         ran = subprocess.run(words, stdin=subprocess.DEVNULL, capture_output=True, text=True, errors="replace", check=False)
         self._event("output", {"category": "stdout", "output": ran.stdout or ran.stderr})
         self._event("exited", {"exitCode": 0})
@@ -235,7 +233,7 @@ class Adapter:
             return
         told = [(hit.cycle, robot, stop.told(hit)) for stop, robot in self._stops_of_robots() if stop.message
                 for hit in self._of().hits(stop.wanted(robot), stop.shown()) if begun < hit.cycle <= last]
-        for _, _, text in sorted(told, key=lambda it: it[:2]):
+        for _, _, text in sorted(told, key=lambda said: said[:2]):
             self._say(text)
 
     def _come_to_end(self, way: str, robot: int) -> None:
@@ -352,13 +350,13 @@ class Adapter:
 
     def set_exceptions(self, given: Fields) -> Answer:
         """Sets what happens to the watched robot, by the names of filters."""
-        known = {it["filter"] for it in filters()}
+        known = {row["filter"] for row in filters()}
         asked = given.texts("filters")
-        wrong = [it for it in asked if it not in known]
+        wrong = [name for name in asked if name not in known]
         if wrong:
             raise Failed(f"{wrong[0]}: no filter")
         watched = (self._launch.watched,)
-        self._stops[EXCEPTIONS] = [Stop(self._new_number(), it, watched, EXCEPTIONS) for it in asked]
+        self._stops[EXCEPTIONS] = [Stop(self._new_number(), name, watched, EXCEPTIONS) for name in asked]
         return {"breakpoints": [{"verified": True} for _ in asked]}
 
     def data_info(self, given: Fields) -> Answer:
@@ -396,7 +394,7 @@ class Adapter:
 
     def sources(self, _: Fields) -> Answer:
         match = self._of()
-        files = {it["path"]: it for it in (source(match, robot) for robot in match.robots())}
+        files = {file["path"]: file for file in (source(match, robot) for robot in match.robots())}
         return {"sources": [*files.values()]}
 
     def stack_trace(self, given: Fields) -> Answer:

@@ -46,13 +46,13 @@ class Text:
     def _starts(self) -> list[int]:
         """The places at which lines begin."""
         if "\r" in self.text:
-            return [0, *(it.end() for it in ENDS.finditer(self.text))]
+            return [0, *(found.end() for found in ENDS.finditer(self.text))]
         return [0, *accumulate(len(line) + 1 for line in self.text.split("\n")[:-1])]
 
     @cached_property
     def line_feeds(self) -> list[int]:
         """The offsets at which lines begin as the programs count them: LF alone ends one."""
-        return [0, *(it.end() for it in re.finditer(b"\n", self.content))]
+        return [0, *(found.end() for found in re.finditer(b"\n", self.content))]
 
     @cached_property
     def _wide(self) -> Wide:

@@ -64,7 +64,7 @@ class Fields:
 
     def all(self, name: str) -> list[Fields]:
         """The objects of a list."""
-        return [Fields(it, f"{self._path}.{name}[{number}]") for number, it in enumerate(self.items(name))]
+        return [Fields(value, f"{self._path}.{name}[{number}]") for number, value in enumerate(self.items(name))]
 
     def changed(self, change: Callable[[Any], Any]) -> Fields:
         """An object of other values."""

@@ -1,7 +1,5 @@
 """The frames of both protocols: a head with the length of a message, an empty line, and the message in JSON."""
 
-from __future__ import annotations
-
 import json
 import re
 from typing import Any

@@ -59,6 +59,14 @@ class NoRow(ValueError):
         super().__init__(f"{PROGRAM} wrote what is no row")
 
 
+def of_kind(kind: str) -> cached_property[list[Row]]:
+    """The rows of a kind, which are read when they are asked for first."""
+    def read(known: Known) -> list[Row]:
+        return known.rows(kind)
+
+    return cached_property(read)
+
+
 class Known:
     """All that is known of a text. It grows as rows come: the first fault is read at once, and all else when it is asked for, since most
     texts change before that. The first fault comes twice: first without its hint."""
@@ -84,56 +92,31 @@ class Known:
         if not self.first and self._lines["first"]:
             self.first = parsed(self._lines["first"])[0]
 
-    def _rows(self, kind: str) -> list[Row]:
+    def rows(self, kind: str) -> list[Row]:
         """All rows of a kind. They are asked for only when all have come."""
         return parsed(self._lines[kind])
 
-    @cached_property
-    def faults(self) -> list[Row]:
-        """Faults and warnings, as they came."""
-        return self._rows("fault")
+    # Faults and warnings, as they came.
+    faults = of_kind("fault")
+    functions, loops, cycles, needs, words, intrinsics = map(of_kind, ("function", "loop", "cycles", "need", "word", "intrinsic"))
 
     @cached_property
     def tokens(self) -> list[Token]:
         try:
-            return [Token._make(one) for row in self._rows("tokens") for one in row["tokens"]]
+            return [Token._make(one) for row in self.rows("tokens") for one in row["tokens"]]
         except (KeyError, TypeError):
             raise NoRow from None
 
     @cached_property
     def names(self) -> list[Name]:
         try:
-            return [*map(Name._make, map(NAME, self._rows("name")))]
+            return [*map(Name._make, map(NAME, self.rows("name")))]
         except KeyError:
             raise NoRow from None
 
     @cached_property
-    def functions(self) -> list[Row]:
-        return self._rows("function")
-
-    @cached_property
-    def loops(self) -> list[Row]:
-        return self._rows("loop")
-
-    @cached_property
-    def cycles(self) -> list[Row]:
-        return self._rows("cycles")
-
-    @cached_property
-    def needs(self) -> list[Row]:
-        return self._rows("need")
-
-    @cached_property
-    def words(self) -> list[Row]:
-        return self._rows("word")
-
-    @cached_property
-    def intrinsics(self) -> list[Row]:
-        return self._rows("intrinsic")
-
-    @cached_property
     def room(self) -> Row | None:
-        return next(iter(self._rows("room")), None)
+        return next(iter(self.rows("room")), None)
 
     @cached_property
     def by_key(self) -> dict[tuple[str, int | None, str], list[Name]]:
@@ -145,10 +128,10 @@ class Known:
 
     def name_at(self, offset: int) -> Name | None:
         """The name at an offset, or right before it."""
-        return next((it for it in self.names if it.start <= offset <= it.end), None)
+        return next((name for name in self.names if name.start <= offset <= name.end), None)
 
     def token_at(self, offset: int) -> Token | None:
-        return next((it for it in self.tokens if it.start <= offset <= it.end), None)
+        return next((token for token in self.tokens if token.start <= offset <= token.end), None)
 
     def declaration(self, name: Name) -> Name | None:
         """Where what a name names is declared: an undeclared variable where it is first mentioned."""
@@ -156,26 +139,26 @@ class Known:
             return None
         uses = self.by_key[name.key()]
         for role in ("defined", "parameter", "declared"):
-            if found := next((it for it in uses if it.role == role), None):
+            if found := next((use for use in uses if use.role == role), None):
                 return found
         return None if name.kind == "function" else uses[0]
 
     def function_at(self, offset: int) -> Row | None:
         """The function whose name, parameters or block are at an offset."""
-        return next((it for it in self.functions if it["start"] <= offset <= it["close"]), None)
+        return next((row for row in self.functions if row["start"] <= offset <= row["close"]), None)
 
     def function_named(self, name: str) -> Row | None:
-        return next((it for it in self.functions if it["name"] == name), None)
+        return next((row for row in self.functions if row["name"] == name), None)
 
     def parameters(self, function: Row) -> list[str]:
         """The names of a function's parameters."""
         number = function["function"]
-        return [it.name for it in self.names if it.role == "parameter" and it.function == number]
+        return [name.name for name in self.names if name.role == "parameter" and name.function == number]
 
     def locals(self, function: Row) -> list[str]:
         """The names of a function's variables, its parameters among them, each once."""
         number = function["function"]
-        return [*dict.fromkeys(it.name for it in self.names if it.kind == "local" and it.function == number)]
+        return [*dict.fromkeys(name.name for name in self.names if name.kind == "local" and name.function == number)]
 
 
 def parsed(lines: list[bytes]) -> list[Row]:

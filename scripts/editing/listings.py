@@ -1,7 +1,5 @@
 """The code of a robot, as the rows of `crobots-debug` say it: where each instruction comes from, and which lines are entered."""
 
-from __future__ import annotations
-
 from bisect import bisect_left
 from dataclasses import dataclass
 
@@ -28,7 +26,7 @@ class Listing:
 
     def __init__(self, rows: list[Row]) -> None:
         self.instructions = [instruction_of(fields) for _, *fields in rows]
-        self._lines = sorted({it.line for it in self.instructions if it.how == ENTERS})
+        self._lines = sorted({instruction.line for instruction in self.instructions if instruction.how == ENTERS})
 
     def line_from(self, line: int) -> int | None:
         """The first line from one on at which a breakpoint makes sense."""

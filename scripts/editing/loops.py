@@ -1,7 +1,5 @@
 """A loop that waits for standard input and for running programs, and lets each go on as it can."""
 
-from __future__ import annotations
-
 import os
 import selectors
 from typing import Any, Callable, Protocol
@@ -47,7 +45,7 @@ class Loop:
         """Goes on until the client has gone, or is done. What the client wrote comes before what programs did."""
         while not self.is_over:
             ready = self._selector.select()
-            for key, _ in sorted(ready, key=lambda it: it[0].fd != INPUT):
+            for key, _ in sorted(ready, key=lambda pair: pair[0].fd != INPUT):
                 if self._selector.get_map().get(key.fd) is key and not self.is_over:
                     key.data()
 

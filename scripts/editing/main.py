@@ -1,7 +1,5 @@
 """The scripts `lsp` and `dap`: servers on standard input and output."""
 
-from __future__ import annotations
-
 import importlib
 from typing import Callable
 

@@ -1,13 +1,11 @@
 """What the manual page on robots says of each intrinsic function: read there, and shown as Markdown."""
 
-from __future__ import annotations
-
 import gzip
 import os
 import re
 from dataclasses import dataclass
 
-from tools.faults import unreadable
+from tools.faults import reading
 
 HERE = os.path.dirname(os.path.realpath(__file__))
 PAGE = "crobots-robots.6"
@@ -36,11 +34,8 @@ def page() -> str:
     """The text of the page."""
     places = [os.path.normpath(os.path.join(HERE, *place)) for place in PLACES]
     path = next((place for place in places if os.path.exists(place)), places[0])
-    try:
-        with open(path, "rb") as file:
-            content = file.read()
-    except OSError as why:
-        unreadable(path, why)
+    with reading(path), open(path, "rb") as file:
+        content = file.read()
     return (gzip.decompress(content) if path.endswith(".gz") else content).decode("utf-8", "replace")
 
 

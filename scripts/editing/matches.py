@@ -3,8 +3,6 @@
 One `crobots-debug` runs as long as the match is looked into. What it has found is kept: an event that comes next after one cycle
 is the next one up to that cycle, and all cycles in which an event happens are found in one pass."""
 
-from __future__ import annotations
-
 import contextlib
 import os
 from dataclasses import dataclass

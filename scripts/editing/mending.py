@@ -1,7 +1,5 @@
 """Diagnostics, the fixes that go with them, and new names."""
 
-from __future__ import annotations
-
 import re
 from functools import lru_cache
 from typing import Any
@@ -76,20 +74,20 @@ def title(text: Text, fix: Row) -> str:
 def renamed(text: Text, found: list[Name], name: str) -> bytes:
     """The bytes of a text in which some names are another one."""
     parts, last = [], 0
-    for it in sorted(found, key=lambda it: it.start):
-        parts += [text.content[last : it.start], name.encode("utf-8", "surrogatepass")]
-        last = it.end
+    for use in sorted(found, key=lambda use: use.start):
+        parts += [text.content[last : use.start], name.encode("utf-8", "surrogatepass")]
+        last = use.end
     return b"".join([*parts, text.content[last:]])
 
 
 def check_name(alone: Known, name: str) -> None:
     """Refuses a name that is none, by what is known of it as a source of its own."""
-    kinds = [(it.kind, it.end - it.start) for it in alone.tokens]
+    kinds = [(token.kind, token.end - token.start) for token in alone.tokens]
     if kinds == [("name", len(name))]:
         return
     if len(kinds) == 1 and kinds[0][0] in ("keyword", "type", "reserved"):
         raise Refusal(f"{name} is a word of the language")
-    faults = [it["message"] for it in alone.faults if it["row"] == "fault"]
+    faults = [row["message"] for row in alone.faults if row["row"] == "fault"]
     raise Refusal(f"{name or 'nothing'} is no name{f': {faults[0]}' if kinds and kinds[0][0] == 'fault' and faults else ''}")
 
 
@@ -103,7 +101,7 @@ def check_meaning(before: Known, after: Known, found: list[Name], name: str) -> 
         is_same = keys.setdefault(old.key(), new.key()) == new.key() and back.setdefault(new.key(), old.key()) == old.key()
         if not is_same or (old.kind, old.role) != (new.kind, new.role):
             raise Refusal(f"{name} is taken")
-    if [it for it in map(fault_of, after.faults) if it] != [it for it in map(fault_of, before.faults) if it]:
+    if [code for code in map(fault_of, after.faults) if code] != [code for code in map(fault_of, before.faults) if code]:
         raise Refusal(f"{name} can't be the name: there would be another fault")
 
 

@@ -1,7 +1,5 @@
 """The commands of the server: a robot plays the samples, and its worst match is shown."""
 
-from __future__ import annotations
-
 import os
 import pathlib
 import re

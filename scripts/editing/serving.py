@@ -1,7 +1,5 @@
 """The language server: what a client asks for, and what it is told."""
 
-from __future__ import annotations
-
 from dataclasses import dataclass, field
 from typing import Any, Callable
 
@@ -24,7 +22,7 @@ ERROR, WARNING, INFO = 1, 2, 3
 # How a message ends that publishes none.
 NO_DIAGNOSTICS = b"[]}}"
 Answer = Any
-Ask = Callable[["Document", Fields], Answer]
+Ask = Callable[["Server", "Document", Fields], Answer]
 
 
 class Failed(Exception):
@@ -85,7 +83,7 @@ class Server:
 
     def __init__(self) -> None:
         self._knowers = Knowers(found(PROGRAM))
-        self._manual = entries(page())
+        self.manual = entries(page())
         self._pages = pages()
         self._settings = Settings()
         self._documents: dict[str, Document] = {}
@@ -148,7 +146,7 @@ class Server:
         elif method == "workspace/executeCommand":
             self._execute(number_, params)
         elif method in ASKS:
-            self._ask(Asked(number_, ASKS[method](self), params), self._document(params))
+            self._ask(Asked(number_, ASKS[method], params), self._document(params))
         else:
             raise Failed(f"{method} isn't known", NO_METHOD)
 
@@ -176,14 +174,14 @@ class Server:
     # Documents.
 
     def opened(self, params: Fields) -> None:
-        it = params.fields("textDocument")
-        uri = it.text("uri")
+        given = params.fields("textDocument")
+        uri = given.text("uri")
         waiting: list[Asked] = []
         if uri in self._documents:
             self._stop(self._documents[uri])
             waiting = self._documents[uri].asked
-        text = Text(it.text("text"), self._settings.encoding)
-        self._documents[uri] = Document(uri, text, it.number_or("version", 0), self._settings.profile, asked=waiting)
+        text = Text(given.text("text"), self._settings.encoding)
+        self._documents[uri] = Document(uri, text, given.number_or("version", 0), self._settings.profile, asked=waiting)
         self._know(self._documents[uri])
 
     def changed(self, params: Fields) -> None:
@@ -211,7 +209,7 @@ class Server:
     def cancelled(self, params: Fields) -> None:
         number_ = params.value("id")
         for document in self._documents.values():
-            for asked in [it for it in document.asked if is_number(number_) and it.number == number_]:
+            for asked in [one for one in document.asked if is_number(number_) and one.number == number_]:
                 document.asked.remove(asked)
                 send(failure(asked.number, CANCELLED, "cancelled"))
 
@@ -262,7 +260,7 @@ class Server:
             return
         self._said = ""
         document.known = known
-        told = [(it["row"], self._diagnostic(document, it)) for it in known.faults]
+        told = [(row["row"], self._diagnostic(document, row)) for row in known.faults]
         document.warnings = [diagnostic for kind, diagnostic in told if kind == "warning"]
         publish(document, [diagnostic for _, diagnostic in told])
         waiting, document.asked = document.asked, []
@@ -299,7 +297,7 @@ class Server:
 
     def _answer(self, asked: Asked, document: Document) -> None:
         try:
-            answer = asked.ask(document, asked.params)
+            answer = asked.ask(self, document, asked.params)
         except (Wrong, Failed, NoRow, mending.Refusal) as why:
             code = WRONG_PARAMS if isinstance(why, Wrong) else FAILED
             send(failure(asked.number, code, str(why)))
@@ -310,14 +308,8 @@ class Server:
 
     def completion(self, document: Document, params: Fields) -> Answer:
         text, known, offset = placed(document, params)
-        found_ = completing.items(text, known, offset, self._manual, self._settings.has_snippets)
+        found_ = completing.items(text, known, offset, self.manual, self._settings.has_snippets)
         return {"isIncomplete": False, "items": found_}
-
-    def signature(self, document: Document, params: Fields) -> Answer:
-        return completing.signature(*placed(document, params), self._manual)
-
-    def hover(self, document: Document, params: Fields) -> Answer:
-        return telling.hover(*placed(document, params), self._manual)
 
     def definition(self, document: Document, params: Fields) -> Answer:
         text, known, offset = placed(document, params)
@@ -327,19 +319,7 @@ class Server:
 
     def references(self, document: Document, params: Fields) -> Answer:
         with_declaration = params.fields_or("context").truth("includeDeclaration", True)
-        return [{"uri": document.uri, "range": it} for it in telling.references(*placed(document, params), with_declaration)]
-
-    def highlights(self, document: Document, params: Fields) -> Answer:
-        return [{"range": it} for it in telling.references(*placed(document, params), True)]
-
-    def symbols(self, document: Document, _: Fields) -> Answer:
-        return telling.symbols(*whole(document))
-
-    def folds(self, document: Document, _: Fields) -> Answer:
-        return telling.folds(*whole(document))
-
-    def colours(self, document: Document, _: Fields) -> Answer:
-        return {"data": colours.tokens(*whole(document))}
+        return [{"uri": document.uri, "range": where} for where in telling.references(*placed(document, params), with_declaration)]
 
     def hints(self, document: Document, params: Fields) -> Answer:
         text, known = whole(document)
@@ -366,13 +346,13 @@ class Server:
             raise Failed(str(why)) from why
         if new != old.name:
             mending.check_meaning(known, after, uses, new)
-        edits = [{"range": text.range(it.start, it.end), "newText": new} for it in uses]
+        edits = [{"range": text.range(use.start, use.end), "newText": new} for use in uses]
         return {"changes": {document.uri: edits}}
 
     def _execute(self, number_: Any, params: Fields) -> None:
         """Begins a command, which says what it found when it has it."""
         command = params.text("command")
-        uris = [it for it in params.items("arguments") if isinstance(it, str)]
+        uris = [uri for uri in params.items("arguments") if isinstance(uri, str)]
         if command not in COMMANDS:
             raise Failed(f"{command} isn't known", WRONG_PARAMS)
         if not uris or uris[0] not in self._documents:
@@ -486,12 +466,14 @@ NOTIFICATIONS: dict[str, Callable[[Server, Fields], None]] = {
     "workspace/didChangeConfiguration": Server.configured, "$/cancelRequest": Server.cancelled, "exit": Server.exited,
 }
 IGNORED = {"initialized", "textDocument/didSave", "textDocument/willSave", "workspace/didChangeWatchedFiles"}
-ASKS: dict[str, Callable[[Server], Ask]] = {
-    "textDocument/completion": lambda it: it.completion, "textDocument/signatureHelp": lambda it: it.signature,
-    "textDocument/hover": lambda it: it.hover, "textDocument/definition": lambda it: it.definition,
-    "textDocument/references": lambda it: it.references, "textDocument/documentHighlight": lambda it: it.highlights,
-    "textDocument/documentSymbol": lambda it: it.symbols, "textDocument/foldingRange": lambda it: it.folds,
-    "textDocument/semanticTokens/full": lambda it: it.colours, "textDocument/inlayHint": lambda it: it.hints,
-    "textDocument/codeAction": lambda it: it.actions, "textDocument/prepareRename": lambda it: it.prepare,
-    "textDocument/rename": lambda it: it.rename,
+ASKS: dict[str, Ask] = {
+    "textDocument/completion": Server.completion, "textDocument/definition": Server.definition, "textDocument/references": Server.references,
+    "textDocument/signatureHelp": lambda server, document, params: completing.signature(*placed(document, params), server.manual),
+    "textDocument/hover": lambda server, document, params: telling.hover(*placed(document, params), server.manual),
+    "textDocument/documentHighlight": lambda _, document, params: [{"range": one} for one in telling.references(*placed(document, params), True)],
+    "textDocument/documentSymbol": lambda _, document, __: telling.symbols(*whole(document)),
+    "textDocument/foldingRange": lambda _, document, __: telling.folds(*whole(document)),
+    "textDocument/semanticTokens/full": lambda _, document, __: {"data": colours.tokens(*whole(document))},
+    "textDocument/inlayHint": Server.hints, "textDocument/codeAction": Server.actions,
+    "textDocument/prepareRename": Server.prepare, "textDocument/rename": Server.rename,
 }

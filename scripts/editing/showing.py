@@ -1,7 +1,5 @@
 """What is shown of a match: open calls, variables, and instructions of each robot."""
 
-from __future__ import annotations
-
 import os
 from typing import Any
 
@@ -81,11 +79,11 @@ def state(match: Match, robot: int) -> list[tuple[str, str]]:
     """Where a robot is in the field, and what it asked last."""
     moment = match.moment(robot)
     told = [("cycle", str(moment.cycle)), ("instruction", moment.instruction)]
-    for it in (it for it in moment.robots if it.number == robot):
-        told += [("x", f"{it.x / 10:g}"), ("y", f"{it.y / 10:g}"), ("heading", str(it.heading)), ("speed", str(it.speed)),
-                 ("damage", f"{it.damage}%"), ("state", "alive" if it.is_alive else "dead")]
+    for own in (own for own in moment.robots if own.number == robot):
+        told += [("x", f"{own.x / 10:g}"), ("y", f"{own.y / 10:g}"), ("heading", str(own.heading)), ("speed", str(own.speed)),
+                 ("damage", f"{own.damage}%"), ("state", "alive" if own.is_alive else "dead")]
     asked = {"asked": moment.asked, SCAN: match.last(robot, SCAN)}
-    return told + [(name, f"{it.call} = {it.reply} in cycle {it.cycle}") for name, it in asked.items() if it]
+    return told + [(name, f"{question.call} = {question.reply} in cycle {question.cycle}") for name, question in asked.items() if question]
 
 
 def address_of(robot: int, address: int) -> str:
@@ -103,13 +101,13 @@ def disassembled(match: Match, reference: str, offset: int, count: int) -> list[
     if count > MOST_INSTRUCTIONS:
         raise NoPlace(f"{count} instructions: at most {MOST_INSTRUCTIONS} are shown")
     listing = match.listing(robot)
-    return [instruction(match, robot, listing, it) for it in range(address + offset, address + offset + count)]
+    return [instruction(match, robot, listing, at) for at in range(address + offset, address + offset + count)]
 
 
 def instruction(match: Match, robot: int, listing: Listing, address: int) -> Answer:
     """An instruction as the protocol has it; where there is none, one that says so."""
-    it = listing.at(address)
-    if not it:
+    found = listing.at(address)
+    if not found:
         return {"address": address_of(robot, address), "instruction": "no instruction", "presentationHint": "invalid"}
-    return {"address": address_of(robot, address), "instruction": it.text, "symbol": it.function, "line": it.line, "column": max(it.column, 1),
+    return {"address": address_of(robot, address), "instruction": found.text, "symbol": found.function, "line": found.line, "column": max(found.column, 1),
             "location": source(match, robot)}

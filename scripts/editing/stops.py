@@ -1,7 +1,5 @@
 """What stops a match: breakpoints with conditions and counts, and log points."""
 
-from __future__ import annotations
-
 import re
 from dataclasses import dataclass, field
 
@@ -29,16 +27,16 @@ class Stop:
 
     def holes(self) -> list[str]:
         """The expressions of the message."""
-        return [on_one_line(it) for it in HOLE.findall(self.message)]
+        return [on_one_line(hole) for hole in HOLE.findall(self.message)]
 
     def shown(self) -> list[str]:
         """Those that have values."""
-        return [it for it in self.holes() if it not in self.wrong]
+        return [hole for hole in self.holes() if hole not in self.wrong]
 
     def told(self, hit: Hit) -> str:
         """What a log point says: expressions in curly brackets by their values."""
         values = iter(hit.values)
-        return HOLE.sub(lambda it: f"{{{self.wrong[on_one_line(it[1])]}}}" if on_one_line(it[1]) in self.wrong else next(values), self.message)
+        return HOLE.sub(lambda found: f"{{{self.wrong[on_one_line(found[1])]}}}" if on_one_line(found[1]) in self.wrong else next(values), self.message)
 
 
 def on_one_line(text: str) -> str:

@@ -1,7 +1,5 @@
 """What is told of a place: a description, where it is declared, and where else it is used."""
 
-from __future__ import annotations
-
 from typing import Any
 
 from .completing import parameters_of
@@ -10,7 +8,6 @@ from .knowing import Known, Name, Row
 from .manual import Entry
 
 Answer = dict[str, Any]
-READ, WRITTEN = 2, 3
 SYMBOL_FUNCTION, SYMBOL_VARIABLE = 12, 13
 
 
@@ -57,7 +54,7 @@ def of_function(text: Text, known: Known, name: Name, manual: dict[str, Entry]) 
 
 def room(text: Text, known: Known, offset: int) -> list[str]:
     """The room that a call of the function at an offset needs, in words; nothing if it isn't known."""
-    row = next((it for it in known.needs if offset_of(text, it) == offset), None)
+    row = next((need for need in known.needs if offset_of(text, need) == offset), None)
     if not row:
         return []
     if row["words"] is None:
@@ -70,12 +67,12 @@ def counted(count: int, what: str) -> str:
 
 
 def function_of(known: Known, name: Name) -> str:
-    return next((it["name"] for it in known.functions if it["function"] == name.function), "?")
+    return next((row["name"] for row in known.functions if row["function"] == name.function), "?")
 
 
 def cycles_at(text: Text, known: Known, what: str, offset: int) -> str:
     """The cycles of the call or the turn that begins at an offset, in words; nothing if they aren't known."""
-    row = next((it for it in known.cycles if it["of"] == what and offset_of(text, it) == offset), None)
+    row = next((entry for entry in known.cycles if entry["of"] == what and offset_of(text, entry) == offset), None)
     return span(row) if row and row["least"] is not None else ""
 
 
@@ -100,15 +97,15 @@ def uses(known: Known, offset: int) -> list[Name]:
 def references(text: Text, known: Known, offset: int, with_declaration: bool) -> list[Range]:
     found = uses(known, offset)
     declared = known.declaration(found[0]) if found else None
-    return [text.range(it.start, it.end) for it in found if with_declaration or it != declared]
+    return [text.range(use.start, use.end) for use in found if with_declaration or use != declared]
 
 
 def symbols(text: Text, known: Known) -> list[Answer]:
     """The functions and the externals of a document, in their order."""
-    found = [symbol(text, it["name"], SYMBOL_FUNCTION, (it["start"], it["close"]), (it["start"], it["end"])) for it in known.functions]
-    found += [symbol(text, it.name, SYMBOL_VARIABLE, (it.start, it.end), (it.start, it.end))
-              for it in known.names if (it.kind, it.role) == ("external", "declared")]
-    return sorted(found, key=lambda it: (it["range"]["start"]["line"], it["range"]["start"]["character"]))
+    found = [symbol(text, row["name"], SYMBOL_FUNCTION, (row["start"], row["close"]), (row["start"], row["end"])) for row in known.functions]
+    found += [symbol(text, name.name, SYMBOL_VARIABLE, (name.start, name.end), (name.start, name.end))
+              for name in known.names if (name.kind, name.role) == ("external", "declared")]
+    return sorted(found, key=lambda told: (told["range"]["start"]["line"], told["range"]["start"]["character"]))
 
 
 def symbol(text: Text, name: str, kind: int, whole: tuple[int, int], own: tuple[int, int]) -> Answer:
@@ -127,15 +124,15 @@ def folds(text: Text, known: Known) -> list[Answer]:
             found.append((opened.pop(), token.start, None))
     found += [(start, end, "comment") for start, end in comments(text, known)]
     lines = ((text.position(start)["line"], text.position(end)["line"], kind) for start, end, kind in found)
-    return [{"startLine": first, "endLine": last} | ({"kind": kind} if kind else {}) for first, last, kind in sorted(lines, key=lambda it: it[:2])
+    return [{"startLine": first, "endLine": last} | ({"kind": kind} if kind else {}) for first, last, kind in sorted(lines, key=lambda fold: fold[:2])
             if first < last]
 
 
 def comments(text: Text, known: Known) -> list[tuple[int, int]]:
     """Where comments begin and end: in what is between tokens."""
     found = []
-    ends = [0, *(it.end for it in known.tokens)]
-    starts = [*(it.start for it in known.tokens), len(text.content)]
+    ends = [0, *(token.end for token in known.tokens)]
+    starts = [*(token.start for token in known.tokens), len(text.content)]
     for end, start in zip(ends, starts):
         between = text.content[end:start]
         at = between.find(b"/*")

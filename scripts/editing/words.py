@@ -1,7 +1,5 @@
 """The names of the two servers, their help, and where their pages are."""
 
-from __future__ import annotations
-
 import os
 import pathlib
 

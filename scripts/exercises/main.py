@@ -1,7 +1,5 @@
 """The script `exercise`: prints an exercise, or marks what was handed in."""
 
-from __future__ import annotations
-
 import os
 
 from tools.faults import FAULTY, Fault, Misuse, file_word, plain

@@ -1,13 +1,11 @@
 """Marks what is handed in: blanks and line ends don't count."""
 
-from __future__ import annotations
-
 import os
 import re
 from dataclasses import dataclass
 from typing import Iterable
 
-from tools.faults import plain, unreadable
+from tools.faults import plain, reading
 
 from .programs import Programs
 from .tasks import TASKS, task_of
@@ -65,11 +63,8 @@ def difference(given: list[str], right: list[str]) -> str:
 
 def text_of(path: str) -> str:
     """The text of a hand-in."""
-    try:
-        with open(path, "rb") as file:
-            return file.read(MOST_BYTES).decode("utf-8-sig", "replace").replace("\r\n", "\n").replace("\r", "\n")
-    except OSError as why:
-        unreadable(path, why)
+    with reading(path), open(path, "rb") as file:
+        return file.read(MOST_BYTES).decode("utf-8-sig", "replace").replace("\r\n", "\n").replace("\r", "\n")
 
 
 def named(path: str) -> Key | None:

@@ -1,7 +1,5 @@
 """The exercises that programs can mark. Each has numbers of a reader's own, by a seed; its answer is asked of the proved programs."""
 
-from __future__ import annotations
-
 from dataclasses import dataclass
 from random import Random
 from typing import Callable

@@ -1,7 +1,5 @@
 """The words of the command line."""
 
-from __future__ import annotations
-
 from dataclasses import dataclass
 
 from tools.faults import Misuse

@@ -2,8 +2,6 @@
 
 Nobody has a password. A token has 128 bits of chance, and is kept as its hash, by which it is found."""
 
-from __future__ import annotations
-
 import hashlib
 import secrets
 import time

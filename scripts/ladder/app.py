@@ -1,7 +1,5 @@
 """The addresses of the ladder, and what each answers."""
 
-from __future__ import annotations
-
 import json
 import logging
 import os
@@ -12,6 +10,7 @@ from flask import Flask, Response, abort, redirect, request
 from leagues import naming
 from leagues.entries import source
 from leagues.store import Store
+from replays.modules import text_of
 from tools.faults import Fault
 from werkzeug.exceptions import HTTPException
 
@@ -58,23 +57,15 @@ def unwritten(_: sqlite3.OperationalError) -> Response:
     return Response(f"{FULL}: the league's disk is full, or can't be written now: ask the organiser\n", FULL, mimetype="text/plain")
 
 
-def index() -> Response:
-    return html(pages.index(site(), store(), who()))
-
-
 def tag() -> Response:
     """What changes if the table does: readers poll it."""
     return Response(read(site().folder).tag, mimetype="text/plain")
 
 
-def table() -> Response:
-    return html(pages.standing(site(), store(), read(site().folder)))
-
-
 def shared(name: str) -> Response:
     """A style or the script."""
     folder = os.path.join(HERE, "..", "sites") if name == STYLES[0] else HERE
-    answer = of_type(name, workbench.text_of(os.path.join(folder, name)))
+    answer = of_type(name, text_of(os.path.join(folder, name)))
     answer.headers["Cache-Control"] = "max-age=300"
     return answer
 
@@ -82,10 +73,6 @@ def shared(name: str) -> Response:
 def of_type(name: str, text: str) -> Response:
     """A file's text, of the type that its name says."""
     return Response(text, mimetype=TYPES.get(name.rpartition(".")[2], "text/plain"))
-
-
-def workbench_page() -> Response:
-    return workbench_file(workbench.INDEX)
 
 
 def workbench_file(name: str) -> Response:
@@ -135,10 +122,6 @@ def version(name: str, number: int) -> Response:
     answer.headers["Content-Disposition"] = f'attachment; filename="{robot}.r"'
     answer.headers["Content-Security-Policy"] = SOURCE_POLICY
     return answer
-
-
-def join_page() -> Response:
-    return html(pages.join(site(), can_sign_up(store())))
 
 
 def can_sign_up(store: Store) -> bool:
@@ -206,10 +189,6 @@ def mine() -> Response:
     return html(pages.mine(site(), store(), by, origin())) if by else away("join")
 
 
-def handed(name: str, text: bytes, by: Who) -> Response:
-    return answered(handing.hand_in(store(), by, name, text, site().programs, address()), by)
-
-
 def filled_in() -> tuple[str, bytes]:
     """The name and the source of a form: of a file, or what was written. A browser sends line ends that nobody typed."""
     file, name = request.files.get("file"), request.form.get("robot", "").strip()
@@ -243,7 +222,8 @@ def check() -> Response:
 
 def by_file(name: str) -> Response:
     """A robot that `curl -T` or `crobots-league send` sends."""
-    return handed(name, request.get_data(cache=False), writer())
+    text, by = request.get_data(cache=False), writer()
+    return answered(handing.hand_in(store(), by, name, text, site().programs, address()), by)
 
 
 def back(name: str) -> Response:
@@ -268,14 +248,6 @@ def replay(seating: int, number: int) -> Response:
     return answer
 
 
-def wall() -> Response:
-    return html(walls.wall(site(), store()))
-
-
-def organiser_page() -> Response:
-    return html(organisers.organiser(site(), store(), organiser()))
-
-
 def invite() -> Response:
     """Makes an author, or gives one a new link, which is shown once."""
     by = organiser()
@@ -296,10 +268,6 @@ def withdraw_link() -> Response:
     return answered(Answer(TAKEN, f"the link of {name} is withdrawn"), by)
 
 
-def checklist() -> Response:
-    return html(organisers.checklist(site(), store(), organiser()))
-
-
 def checklist_csv() -> Response:
     organiser()
     answer = Response(organisers.checklist_csv(store(), site().folder), mimetype="text/csv")
@@ -310,13 +278,16 @@ def checklist_csv() -> Response:
 Does = Callable[..., Response]
 GET, POST, PUT = "GET", "POST", "PUT"
 ROUTES: tuple[tuple[str, Does, str], ...] = (
-    ("/", index, GET), ("/tag", tag, GET), ("/table", table, GET), ("/wall", wall, GET),
+    ("/", lambda: html(pages.index(site(), store(), who())), GET), ("/tag", tag, GET),
+    ("/table", lambda: html(pages.standing(site(), store(), read(site().folder))), GET), ("/wall", lambda: html(walls.wall(site(), store())), GET),
     (f"/{STYLES[0]}", lambda: shared(STYLES[0]), GET), (f"/{STYLES[1]}", lambda: shared(STYLES[1]), GET), (f"/{SCRIPT}", lambda: shared(SCRIPT), GET),
-    ("/workbench/", workbench_page, GET), ("/workbench/<path:name>", workbench_file, GET), (f"/{workbench.SCRIPT}", lambda: shared(workbench.SCRIPT), GET),
+    ("/workbench/", lambda: workbench_file(workbench.INDEX), GET), ("/workbench/<path:name>", workbench_file, GET), (f"/{workbench.SCRIPT}", lambda: shared(workbench.SCRIPT), GET),
     ("/send", send, POST),
-    ("/join", join_page, GET), ("/join", join, POST), ("/leave", leave, POST), ("/sign-up", sign_up, POST),
+    ("/join", lambda: html(pages.join(site(), can_sign_up(store()))), GET), ("/join", join, POST), ("/leave", leave, POST), ("/sign-up", sign_up, POST),
     ("/mine", mine, GET), ("/robots", by_form, POST), ("/check", check, POST), ("/robots/<name>", robot, GET), ("/robots/<name>", by_file, PUT),
     ("/robots/<name>/versions/<int:number>", version, GET), ("/robots/<name>/back", back, POST), ("/robots/<name>/withdraw", withdraw, POST),
-    ("/replays/<int:seating>/<int:number>", replay, GET), ("/organiser", organiser_page, GET), ("/organiser/invite", invite, POST),
-    ("/organiser/withdraw", withdraw_link, POST), ("/checklist", checklist, GET), ("/checklist.csv", checklist_csv, GET),
+    ("/replays/<int:seating>/<int:number>", replay, GET),
+    ("/organiser", lambda: html(organisers.organiser(site(), store(), organiser())), GET), ("/organiser/invite", invite, POST),
+    ("/organiser/withdraw", withdraw_link, POST), ("/checklist", lambda: html(organisers.checklist(site(), store(), organiser())), GET),
+    ("/checklist.csv", checklist_csv, GET),
 )

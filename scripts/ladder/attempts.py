@@ -1,7 +1,5 @@
 """A limit of attempts: who gives wrong tokens often, or has much compiled, has to wait."""
 
-from __future__ import annotations
-
 import threading
 import time
 

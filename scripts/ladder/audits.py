@@ -1,7 +1,5 @@
 """The audit: each write and each joining, with who did it and when, and the address as a hash with a key of the league."""
 
-from __future__ import annotations
-
 import hashlib
 import time
 from typing import NamedTuple

@@ -1,7 +1,5 @@
 """Pages that play matches: made when they are asked for, some at a time, and kept."""
 
-from __future__ import annotations
-
 import contextlib
 import os
 import threading

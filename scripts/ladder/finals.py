@@ -1,7 +1,5 @@
 """The command final: a last season with a fresh seed, in which nothing is handed in any more, and the checklist that comes of it."""
 
-from __future__ import annotations
-
 import argparse
 import time
 from dataclasses import replace

@@ -1,7 +1,5 @@
 """The frame of the ladder's pages. Every text gets in through `sites.markup`, so it is escaped."""
 
-from __future__ import annotations
-
 from dataclasses import dataclass
 
 from sites.markup import Markup, joined, tag

@@ -3,11 +3,11 @@
 All of it is one transaction, which is on the disk when 'taken' is answered. The same bytes again are taken again: whoever heard no
 answer may ask twice."""
 
-from __future__ import annotations
-
+import functools
 import shutil
 import time
 from dataclasses import dataclass
+from typing import Callable, ParamSpec
 
 from leagues import entries, naming, seasons
 from leagues.days import today
@@ -28,6 +28,7 @@ HAND_IN = "hand in"
 MEGABYTE = 1_000_000
 CHECKS = 60
 checks = Attempts(CHECKS)
+With = ParamSpec("With")
 
 
 @dataclass(frozen=True)
@@ -50,38 +51,45 @@ class Refused(Exception):
         self.answer = Answer(status, words)
 
 
+def answering(does: Callable[With, Answer]) -> Callable[With, Answer]:
+    """What answers also what it refuses, or what is at fault."""
+
+    @functools.wraps(does)
+    def answer(*words: With.args, **named: With.kwargs) -> Answer:
+        try:
+            return does(*words, **named)
+        except Refused as why:
+            return why.answer
+        except Fault as why:
+            return Answer(FAULTY, str(why))
+
+    return answer
+
+
+@answering
 def hand_in(store: Store, who: Who, name: str, source: bytes, programs: Programs, address: str = HERE) -> Answer:
     """Takes a robot of an author, or says why not."""
-    try:
-        robot = id_of(name)
-        refuse_size(store, source)
+    robot = id_of(name)
+    refuse_size(store, source)
+    if again := same(store, who, robot, source):
+        return again
+    allowed(store, who, robot)
+    refuse_fault(store, source, programs, robot)
+    with store.change():
         if again := same(store, who, robot, source):
             return again
         allowed(store, who, robot)
-        refuse_fault(store, source, programs, robot)
-        with store.change():
-            if again := same(store, who, robot, source):
-                return again
-            allowed(store, who, robot)
-            return entered(store, who, robot, source, address)
-    except Refused as why:
-        return why.answer
-    except Fault as why:
-        return Answer(FAULTY, str(why))
+        return entered(store, who, robot, source, address)
 
 
+@answering
 def checked(store: Store, who: Who, name: str, source: bytes, programs: Programs) -> Answer:
     """What the compiler says of a source. So many are compiled for an author within a minute."""
     if checks.are_many(who.name):
         return Answer(MANY, "many sources were compiled for you within a minute: wait a while")
     checks.count(who.name)
-    try:
-        refuse_size(store, source)
-        refuse_fault(store, source, programs, name or "robot")
-    except Refused as why:
-        return why.answer
-    except Fault as why:
-        return Answer(FAULTY, str(why))
+    refuse_size(store, source)
+    refuse_fault(store, source, programs, name or "robot")
     return Answer(TAKEN, "it compiles; it isn't handed in yet")
 
 
@@ -222,23 +230,19 @@ def back(store: Store, who: Who, robot: str, number: int, programs: Programs, ad
     return hand_in(store, who, robot, source, programs, address)
 
 
+@answering
 def withdraw(store: Store, who: Who, robot: str, address: str = HERE) -> Answer:
     """Lets a robot leave."""
-    try:
-        with store.change():
-            refuse_season(store)
-            if not is_theirs(store, who, robot):
-                raise Refused(NOT_THEIRS, f"{robot} is no robot of yours")
-            by = seasons.season(store).rules
-            if robot in (by.anchor, by.champion):
-                raise Refused(NOT_THEIRS, f"the rules name the robot {robot}, so it can't leave")
-            entries.withdraw(store, robot, day_of(store))
-            note(store, who.name, "withdraw", robot, address)
-            return Answer(TAKEN, f"{robot} left; its matches are kept")
-    except Refused as why:
-        return why.answer
-    except Fault as why:
-        return Answer(FAULTY, str(why))
+    with store.change():
+        refuse_season(store)
+        if not is_theirs(store, who, robot):
+            raise Refused(NOT_THEIRS, f"{robot} is no robot of yours")
+        by = seasons.season(store).rules
+        if robot in (by.anchor, by.champion):
+            raise Refused(NOT_THEIRS, f"the rules name the robot {robot}, so it can't leave")
+        entries.withdraw(store, robot, day_of(store))
+        note(store, who.name, "withdraw", robot, address)
+        return Answer(TAKEN, f"{robot} left; its matches are kept")
 
 
 def is_theirs(store: Store, who: Who | None, robot: str) -> bool:

@@ -1,7 +1,5 @@
 """The commands invite and terms: an organiser's, on the command line."""
 
-from __future__ import annotations
-
 import argparse
 from dataclasses import replace
 

@@ -1,7 +1,5 @@
 """What the compiler says of a stranger's source. It runs with limits of time and memory, and can write no file."""
 
-from __future__ import annotations
-
 import os
 import subprocess
 import tempfile

@@ -1,7 +1,5 @@
 """The live table: what the player writes and the pages show, as one small file that is replaced in one piece."""
 
-from __future__ import annotations
-
 import contextlib
 import functools
 import hashlib

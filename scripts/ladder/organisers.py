@@ -1,7 +1,5 @@
 """What the organiser and the teacher see: authors, the terms, the audit, and the checklist of rungs."""
 
-from __future__ import annotations
-
 import datetime
 from collections import Counter
 from typing import Mapping, NamedTuple

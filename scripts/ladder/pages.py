@@ -1,7 +1,5 @@
 """The pages: the table, an author's robots, a robot, joining, and what refuses something."""
 
-from __future__ import annotations
-
 import threading
 import time
 from typing import Iterable, Mapping, Sequence

@@ -3,8 +3,6 @@
 A pass has a piece of each seating that wants more. First a new robot meets some opponents all over the table, then each pair plays
 once from each seat, then all of them go deeper by equal pieces."""
 
-from __future__ import annotations
-
 from collections import Counter
 from dataclasses import dataclass
 from typing import Iterable, Iterator, Mapping

@@ -2,8 +2,6 @@
 
 What was played is kept in batches: a match that is lost by a kill is played again, and comes out the same."""
 
-from __future__ import annotations
-
 import os
 import shlex
 import time

@@ -1,7 +1,5 @@
 """Why a robot lost: the pairs that it lost, with its worst matches as films, and what `crobots-trace --sum` says of them."""
 
-from __future__ import annotations
-
 from collections import Counter
 from dataclasses import dataclass
 from typing import Iterator

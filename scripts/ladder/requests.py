@@ -1,7 +1,5 @@
 """Requests: whose they are, whether they may change something, and how they are answered."""
 
-from __future__ import annotations
-
 import hmac
 import threading
 

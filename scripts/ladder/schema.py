@@ -2,8 +2,6 @@
 
 A token is kept as its hash alone. Rows of the audit are added and never changed."""
 
-from __future__ import annotations
-
 from leagues.store import Store
 
 SCHEMA = """

@@ -1,8 +1,6 @@
 """The seed of a final: it may be drawn while robots are still handed in, and its hash is shown then. So nobody who hands in knows it,
 and nobody can choose another one later."""
 
-from __future__ import annotations
-
 import hashlib
 import secrets
 from typing import NamedTuple

@@ -1,7 +1,5 @@
 """The command send: hands a robot in by its author's link."""
 
-from __future__ import annotations
-
 import argparse
 import os
 import urllib.error

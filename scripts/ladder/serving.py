@@ -1,7 +1,5 @@
 """The command serve: one process looks after two others, the web server and the player, and begins them anew if they end."""
 
-from __future__ import annotations
-
 import argparse
 import contextlib
 import glob
@@ -21,7 +19,7 @@ from urllib.parse import urlsplit
 from leagues.store import opened
 from tools.faults import FILE, Fault
 from tools.output import say, show
-from tools.programs import found
+from tools.programs import TRACE, installed
 from tools.signals import Stopped, heeded
 from tournaments.programs import program
 
@@ -77,16 +75,8 @@ def site_of(given: argparse.Namespace) -> Site:
     """What all pages share, by the words. An address from outside may have a path, below which the ladder is."""
     folder = os.path.abspath(given.league)
     parts = urlsplit(given.url or "")
-    return Site(folder, given.title or os.path.basename(folder), Programs(program(given.crobots).path, there("crobots-why"), there("crobots-trace")),
+    return Site(folder, given.title or os.path.basename(folder), Programs(program(given.crobots).path, installed("crobots-why"), installed(TRACE)),
                 parts.path.rstrip("/"), f"{parts.scheme}://{parts.netloc}" if given.url else "", workbench.folder(given.workbench))
-
-
-def there(name: str) -> str:
-    """A program that may be lacking."""
-    try:
-        return found(name)
-    except Fault:
-        return ""
 
 
 def listening(given: argparse.Namespace) -> socket.socket:

@@ -1,7 +1,5 @@
 """The terms of a hand-in: how much an author may hand in, when, and what others see of it."""
 
-from __future__ import annotations
-
 import datetime
 import json
 from dataclasses import asdict, dataclass, fields

@@ -1,8 +1,6 @@
 """A trial: a source that isn't handed in plays a few matches against a robot of the ladder. Its author learns how these ended, and
 nothing of the other's source."""
 
-from __future__ import annotations
-
 import os
 import secrets
 import tempfile
@@ -16,7 +14,7 @@ from tools.rules import MOST_SEED
 
 from .accounts import Who
 from .audits import note
-from .handing import FAULTY, GONE, MANY, SHUT, TAKEN, Answer, Refused, done_of_late, id_of, refuse_fault, refuse_size
+from .handing import GONE, MANY, SHUT, TAKEN, Answer, Refused, answering, done_of_late, id_of, refuse_fault, refuse_size
 from .judging import Programs, ran
 from .terms import terms
 
@@ -30,21 +28,17 @@ def opponents(store: Store) -> list[str]:
     return sorted(entries.playing(entries.entries(store))) if terms(store).trials else []
 
 
+@answering
 def tried(store: Store, who: Who, name: str, source: bytes, against: str, programs: Programs, address: str) -> Answer:
     """What a source did against a robot, or why it may not."""
-    try:
-        robot = id_of(name)
-        refuse_size(store, source)
-        refuse_fault(store, source, programs, robot)
-        with store.change():
-            theirs = allowed(store, who, against)
-            note(store, who.name, TRIAL, against, address)
-        with turns:
-            return Answer(TAKEN, played(store, robot, source, against, theirs, programs))
-    except Refused as why:
-        return why.answer
-    except Fault as why:
-        return Answer(FAULTY, str(why))
+    robot = id_of(name)
+    refuse_size(store, source)
+    refuse_fault(store, source, programs, robot)
+    with store.change():
+        theirs = allowed(store, who, against)
+        note(store, who.name, TRIAL, against, address)
+    with turns:
+        return Answer(TAKEN, played(store, robot, source, against, theirs, programs))
 
 
 def allowed(store: Store, who: Who, against: str) -> bytes:

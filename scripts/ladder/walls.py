@@ -1,7 +1,5 @@
 """The view for a projector: the table, and the last battles as films one after the other."""
 
-from __future__ import annotations
-
 from leagues.store import Store
 from sites.frames import section
 from sites.markup import name_of, tag

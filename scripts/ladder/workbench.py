@@ -1,12 +1,11 @@
 """The page that plays in a browser as a workbench: its own files, of which the first page may reach the ladder's Send and nothing else."""
 
-from __future__ import annotations
-
 import contextlib
 import functools
 import os
 import re
 
+from replays.modules import text_of
 from sites.markup import tag
 from tools.faults import FILE, Fault
 
@@ -37,11 +36,6 @@ def is_page(place: str) -> bool:
     """Whether a folder has the page as it is built, with one policy of its own."""
     path = os.path.join(place, INDEX)
     return os.path.isfile(path) and os.path.isfile(os.path.join(place, BUILT)) and len(META.findall(text_of(path))) == 1
-
-
-def text_of(path: str) -> str:
-    with open(path, encoding="utf-8") as file:
-        return file.read()
 
 
 @functools.lru_cache(4)

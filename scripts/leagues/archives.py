@@ -1,7 +1,5 @@
 """Archives: a league as a file that anybody can read and check, with its sources, rules and results."""
 
-from __future__ import annotations
-
 import contextlib
 import csv
 import io
@@ -13,7 +11,7 @@ import zlib
 from typing import Iterable, Iterator, NamedTuple, Sequence
 
 from results.standings import Standing
-from tools.faults import FAULTY, FILE, Fault, unreadable, unwritable
+from tools.faults import FAULTY, FILE, Fault, reading, writing
 
 from . import older, tables
 from .entries import SOURCE_MAX, hashed
@@ -68,18 +66,15 @@ If you have an older archive, or wrote down the hash of one, --since OLDER or --
 def write(store: Store, standings: Iterable[Standing], path: str, day: str) -> None:
     """Writes an archive in one piece. The same league, on the same day, has the same bytes."""
     folder = os.path.dirname(path) or "."
-    try:
-        with tempfile.NamedTemporaryFile(dir=folder, prefix=".archive-", delete=False) as file:
-            try:
-                with zipfile.ZipFile(file, "w", zipfile.ZIP_DEFLATED) as archive:
-                    fill(store, standings, archive, os.path.basename(path), day)
-                os.chmod(file.name, 0o644)
-                os.replace(file.name, path)
-            except BaseException:
-                os.unlink(file.name)
-                raise
-    except OSError as why:
-        unwritable(path, why)
+    with writing(path), tempfile.NamedTemporaryFile(dir=folder, prefix=".archive-", delete=False) as file:
+        try:
+            with zipfile.ZipFile(file, "w", zipfile.ZIP_DEFLATED) as archive:
+                fill(store, standings, archive, os.path.basename(path), day)
+            os.chmod(file.name, 0o644)
+            os.replace(file.name, path)
+        except BaseException:
+            os.unlink(file.name)
+            raise
 
 
 def fill(store: Store, standings: Iterable[Standing], archive: zipfile.ZipFile, name: str, day: str) -> None:
@@ -123,7 +118,7 @@ def read(path: str) -> Iterator[tuple[Store, str]]:
     try:
         if not os.path.isfile(path) and os.path.exists(path):
             raise Fault(f"{path} is no file", FILE)
-        with tempfile.TemporaryDirectory(prefix="crobots-") as folder, zipfile.ZipFile(path) as archive:
+        with reading(path), tempfile.TemporaryDirectory(prefix="crobots-") as folder, zipfile.ZipFile(path) as archive:
             whole(archive)
             kept = tables_of({*archive.namelist()})
             with filled(os.path.join(folder, "archive.db"), older.TABLES if kept == older.KEPT else SCHEMA) as database:
@@ -132,8 +127,6 @@ def read(path: str) -> Iterator[tuple[Store, str]]:
                     load(store, archive, kept)
                 older.renew(database)
                 yield store, archive.read(TABLE).decode()
-    except OSError as why:
-        unreadable(path, why)
     except WRONG as why:
         raise Fault(f"{path} is no archive of a league: {shown(str(why))}", FILE) from why
 

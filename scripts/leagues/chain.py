@@ -2,8 +2,6 @@
 
 So the hash of a publication says all that it shows, and all that was ever shown before. docs/archives.md has its bytes."""
 
-from __future__ import annotations
-
 import hashlib
 from heapq import merge
 from itertools import groupby

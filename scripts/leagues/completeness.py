@@ -1,8 +1,6 @@
 """Whether an archive has the matches that its rules and entries ask for: none is missing that isn't said to be, and none
 is there that nobody asked for."""
 
-from __future__ import annotations
-
 import math
 from collections import Counter
 from dataclasses import replace

@@ -1,7 +1,5 @@
 """Whether the rows of an archive fit each other: robots and their entries, seasons and their days, tables and the chain."""
 
-from __future__ import annotations
-
 from dataclasses import replace
 from typing import Callable, Iterator
 

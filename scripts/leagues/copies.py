@@ -1,7 +1,5 @@
 """A league as it is published: a copy of one instant, which has the publication, while the league itself goes on."""
 
-from __future__ import annotations
-
 import contextlib
 import os
 import sqlite3
@@ -10,7 +8,7 @@ from dataclasses import dataclass
 from typing import Iterator, Sequence
 
 from results.standings import Standing
-from tools.faults import unwritable
+from tools.faults import writing
 
 from .missing import missing
 from .publications import Publication, publish
@@ -36,10 +34,8 @@ class Published:
 @contextlib.contextmanager
 def published(store: Store, day: str) -> Iterator[Published]:
     """Publishes the last season's table as it is now. What is added meanwhile waits until the next publication."""
-    try:
+    with writing(tempfile.gettempdir()):
         folder = tempfile.TemporaryDirectory(prefix="crobots-")
-    except OSError as why:
-        unwritable(tempfile.gettempdir(), why)
     with folder as path, contextlib.closing(sqlite3.connect(os.path.join(path, NAME), isolation_level=None)) as database:
         with store.change(), told(path):
             with contextlib.closing(connected(path_of(store.folder))) as now:

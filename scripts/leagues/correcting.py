@@ -1,8 +1,6 @@
 """The command correct: takes the latest entries back, or gives them another day, or the season. All of it stays in the
 history."""
 
-from __future__ import annotations
-
 import argparse
 
 from tools.faults import Fault

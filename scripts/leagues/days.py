@@ -1,7 +1,5 @@
 """Days, as the database has them: 2026-11-28."""
 
-from __future__ import annotations
-
 import argparse
 import datetime
 

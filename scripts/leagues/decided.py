@@ -1,7 +1,5 @@
 """What the sequential test says of all pairs of a season: as a table, as data, and in short."""
 
-from __future__ import annotations
-
 from collections import Counter
 from typing import Any, Iterator, Sequence
 

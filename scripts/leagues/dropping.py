@@ -1,7 +1,5 @@
 """The command drop: takes matches back, which are played again. What they were stays in the history, with the reason."""
 
-from __future__ import annotations
-
 import argparse
 from typing import Iterable, Iterator
 

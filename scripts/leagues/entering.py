@@ -1,14 +1,12 @@
 """The commands that say who plays and by which rules: init, rules, add, change, withdraw."""
 
-from __future__ import annotations
-
 import argparse
 import os
 
 from tools.faults import Fault, plain
 from tools.output import show
 from tournaments.programs import Program, program
-from tournaments.robots import Robot, compiled, private
+from tournaments.robots import compiled, laid, private
 
 from . import entries, naming, seasons
 from .days import given_day, today
@@ -44,15 +42,6 @@ def named(store: Store, by: Rules) -> None:
     for robot in (by.anchor, by.champion):
         if robot and robot not in playing:
             raise Fault(f"the rules name the robot {robot}, which doesn't play")
-
-
-def compiles(crobots: Program, profile: int, path: str, source: bytes) -> None:
-    """Stops, with the program's own diagnostic, if a source has a fault."""
-    with private() as folder:
-        robot = Robot(path, entries.hashed(source))
-        with open(os.path.join(folder, robot.sha256), "wb") as file:
-            file.write(source)
-        compiled(crobots, profile, [robot], folder)
 
 
 def add(given: argparse.Namespace) -> None:
@@ -92,10 +81,11 @@ def joined(robot: str, path: str, given: str | None) -> str:
 
 
 def checked(store: Store, crobots: Program, sources: list[tuple[str, bytes]]) -> None:
-    """Sees to it that sources compile, by the season's profile."""
+    """Stops, with the program's own diagnostic, if a source has a fault by the season's profile."""
     profile = seasons.season(store).rules.profile
     for path, source in sources:
-        compiles(crobots, profile, path, source)
+        with private() as folder:
+            compiled(crobots, profile, [laid(path, source, folder)], folder)
 
 
 def change(given: argparse.Namespace) -> None:

@@ -1,14 +1,12 @@
 """Who plays: robots join, get other bytes, and leave, each on a day. Nothing of that is ever forgotten."""
 
-from __future__ import annotations
-
 import hashlib
 import os
 import re
 import stat
 from dataclasses import dataclass
 
-from tools.faults import FILE, Fault, unreadable
+from tools.faults import FILE, Fault, reading
 from tournaments import seats
 
 from .store import Store
@@ -85,16 +83,22 @@ def playing(happened: list[Entry]) -> dict[str, Entrant]:
 
 
 def read(path: str) -> bytes:
-    """A robot's bytes, read once. What is no file isn't waited for."""
-    try:
-        with open(os.open(path, os.O_RDONLY | os.O_NONBLOCK | os.O_CLOEXEC), "rb") as file:
-            if not stat.S_ISREG(os.fstat(file.fileno()).st_mode):
-                raise Fault(f"{path} is no file", FILE)
-            found = file.read(SOURCE_MAX + 1)
-    except OSError as why:
-        unreadable(path, why)
+    """A robot's bytes, read once."""
+    with reading(path):
+        try:
+            return bytes_of(path)
+        except Fault as why:
+            raise Fault(f"{path} {why}", why.status) from why
+
+
+def bytes_of(path: str, more: int = 0) -> bytes:
+    """The bytes of a file, which may be opened with more flags. What is no file, or became a pipe meanwhile, isn't waited for."""
+    with open(os.open(path, os.O_RDONLY | os.O_NONBLOCK | os.O_CLOEXEC | more), "rb") as file:
+        if not stat.S_ISREG(os.fstat(file.fileno()).st_mode):
+            raise Fault("is no file", FILE)
+        found = file.read(SOURCE_MAX + 1)
     if len(found) > SOURCE_MAX:
-        raise Fault(f"{path} has more than {SOURCE_MAX} bytes")
+        raise Fault(f"has more than {SOURCE_MAX} bytes")
     return found
 
 

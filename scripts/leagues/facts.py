@@ -1,7 +1,5 @@
 """What the site of a league shows, from its database."""
 
-from __future__ import annotations
-
 import functools
 from collections import defaultdict
 from dataclasses import dataclass, replace

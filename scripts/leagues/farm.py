@@ -3,8 +3,6 @@
 A line names the file, where in it the first series begins, and how many follow. So it is short, however many series it has, and an
 array of jobs needn't be large. All names are relative to the league's folder, which may be anywhere on another machine."""
 
-from __future__ import annotations
-
 import contextlib
 import hashlib
 import os
@@ -12,11 +10,10 @@ import shlex
 import time
 from typing import Iterator
 
-from tools.faults import Fault, unwritable
+from tools.faults import Fault, writing
 from tools.output import replaced
 from tournaments.plans import SERIES, Plan, one_write
 from tournaments.records import Record
-
 
 NAME = "plans"
 CHUNK = os.path.join(os.path.dirname(os.path.realpath(__file__)), "chunk.sh")
@@ -51,15 +48,13 @@ def row(record: Record) -> bytes:
 def kept(folder: str, text: bytes) -> str:
     """Writes a plan beside what plays it, and removes old ones; answers its name, which is the beginning of its hash."""
     name = hashlib.sha256(text).hexdigest()[:16]
-    try:
+    with writing(folder):
         os.makedirs(folder, exist_ok=True)
         for place, path in (("run", CHUNK), ("series", SERIES)):
             with open(path, "rb") as file:
                 replaced(os.path.join(folder, place), file.read())
         replaced(os.path.join(folder, name), text)
         remove_old(folder, time.time() - DAYS * 86400)
-    except OSError as why:
-        unwritable(folder, why)
     return name
 
 

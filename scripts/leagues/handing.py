@@ -1,7 +1,5 @@
 """The command take-in: hand-in by folders. The newest good file of each author's folder becomes the author's robot."""
 
-from __future__ import annotations
-
 import argparse
 import os
 import tempfile

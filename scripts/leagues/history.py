@@ -1,7 +1,5 @@
 """The command history: says what was ever done, by days. Nothing of it goes away."""
 
-from __future__ import annotations
-
 import argparse
 from typing import Iterator, NamedTuple
 

@@ -1,16 +1,13 @@
 """Folders into which authors put their robots: a folder for each author, and the files in it, the newest first."""
 
-from __future__ import annotations
-
 import csv
 import os
-import stat
 from dataclasses import dataclass
 from typing import Iterator
 
-from tools.faults import FILE, Fault, unreadable
+from tools.faults import FILE, Fault, reading
 
-from .entries import SOURCE_MAX
+from .entries import bytes_of
 
 ENDING = ".r"
 HEAD = ["folder", "author"]
@@ -27,11 +24,9 @@ class Inbox:
 
 def inboxes(path: str, authors: dict[str, str] | None) -> list[Inbox]:
     """The authors' folders in the order of their names. Without a table an author has the folder's name."""
-    try:
+    with reading(path):
         found = sorted(folder.name for folder in os.scandir(path) if folder.is_dir() and not folder.name.startswith("."))
         return [Inbox(name, author(name, authors), tuple(robots(os.path.join(path, name)))) for name in found]
-    except OSError as why:
-        unreadable(path, why)
 
 
 def strays(path: str) -> list[str]:
@@ -61,26 +56,18 @@ def name_of(path: str) -> str:
 
 
 def read(path: str) -> bytes:
-    """A robot's bytes. What became a pipe meanwhile isn't waited for."""
+    """A robot's bytes. Links lead elsewhere."""
     try:
-        with open(os.open(path, os.O_RDONLY | os.O_NONBLOCK | os.O_NOFOLLOW | os.O_CLOEXEC), "rb") as file:
-            if not stat.S_ISREG(os.fstat(file.fileno()).st_mode):
-                raise Fault("is no file", FILE)
-            found = file.read(SOURCE_MAX + 1)
+        return bytes_of(path, os.O_NOFOLLOW)
     except OSError as why:
         raise Fault(f"can't be read: {why.strerror}", FILE) from why
-    if len(found) > SOURCE_MAX:
-        raise Fault(f"has more than {SOURCE_MAX} bytes")
-    return found
 
 
 def authors_of(path: str) -> dict[str, str]:
     """Reads a table of comma-separated values, which says of each folder who its author is."""
     try:
-        with open(path, encoding="utf-8-sig", newline="") as file:
+        with reading(path), open(path, encoding="utf-8-sig", newline="") as file:
             return {folder: name for folder, name in rows(path, csv.reader(file))}
-    except OSError as why:
-        unreadable(path, why)
     except (UnicodeDecodeError, csv.Error) as why:
         raise Fault(f"{path} is no table of comma-separated values in UTF-8", FILE) from why
 

@@ -1,7 +1,5 @@
 """The keys by which robots are told apart that have the same bytes."""
 
-from __future__ import annotations
-
 import itertools
 from typing import Iterator, Sequence
 

@@ -1,7 +1,5 @@
 """A ladder: robots enter at the bottom, in the order in which they got their bytes, and climb as long as they win."""
 
-from __future__ import annotations
-
 from dataclasses import dataclass
 from typing import Callable, Sequence
 

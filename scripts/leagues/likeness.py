@@ -1,7 +1,5 @@
 """Robots with the same code: what a source compiles to, without names, and who had it first."""
 
-from __future__ import annotations
-
 import os
 import subprocess
 from concurrent.futures import ThreadPoolExecutor

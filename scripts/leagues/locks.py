@@ -1,13 +1,11 @@
 """One `play` at a time: a lock on a file of the league, which ends with the process that has it."""
 
-from __future__ import annotations
-
 import contextlib
 import fcntl
 import os
 from typing import Iterator
 
-from tools.faults import FILE, Fault, unwritable
+from tools.faults import FILE, Fault, writing
 
 NAME = "lock"
 
@@ -16,10 +14,8 @@ NAME = "lock"
 def alone(folder: str) -> Iterator[None]:
     """Keeps others from playing the league."""
     path = os.path.join(folder, NAME)
-    try:
+    with writing(path):
         file = os.open(path, os.O_RDWR | os.O_CREAT | os.O_CLOEXEC, 0o666)
-    except OSError as why:
-        unwritable(path, why)
     try:
         if not locked(file):
             raise Fault(f"{folder} is being played already", FILE)

@@ -1,7 +1,5 @@
 """The script `league`: does what a command asks for."""
 
-from __future__ import annotations
-
 import argparse
 from typing import Callable
 
@@ -16,6 +14,9 @@ def command(name: str) -> Does:
         case "init" | "rules" | "add" | "change" | "withdraw":
             from . import entering
             return {"init": entering.init, "rules": entering.rules, "add": entering.add, "change": entering.change, "withdraw": entering.withdraw}[name]
+        case "status" | "table":
+            from . import showing
+            return {"status": showing.status, "table": showing.table}[name]
         case "take-in":
             from .handing import take_in
             return take_in
@@ -34,9 +35,6 @@ def command(name: str) -> Does:
         case "season":
             from .turning import season
             return season
-        case "status" | "table":
-            from . import showing
-            return {"status": showing.status, "table": showing.table}[name]
         case "history":
             from .history import history
             return history
@@ -46,6 +44,13 @@ def command(name: str) -> Does:
         case "verify":
             from .verifying import verify
             return verify
+        case _:
+            return of_ladder(name)
+
+
+def of_ladder(name: str) -> Does:
+    """What does a command of the open ladder."""
+    match name:
         case "serve":
             from ladder.serving import serve
             return serve
@@ -58,7 +63,8 @@ def command(name: str) -> Does:
         case "send":
             from ladder.sending import send
             return send
-    raise LookupError(f"there is no command {name}")
+        case _:
+            raise LookupError(f"there is no command {name}")
 
 
 def league(name: str, arguments: list[str]) -> None:

@@ -1,11 +1,10 @@
 """What is to be played now: the matches that a season wants and that weren't played."""
 
-from __future__ import annotations
-
 from dataclasses import dataclass
 from typing import Callable, Iterable, Iterator
 
 from results.battles import Group
+from tournaments import merging
 from tournaments.records import Series
 
 from .ladders import Ladder, climbed
@@ -59,12 +58,7 @@ def nearest(series: Iterable[Series], gap: Gap) -> list[Series]:
 
 def gaps(played: Iterable[int], most: int) -> list[tuple[int, int]]:
     """The runs of numbers up to the most that weren't played."""
-    found, end = [], 0
-    for number in sorted(number for number in played if number <= most) + [most + 1]:
-        if number > end + 1:
-            found.append((end + 1, number - 1))
-        end = number
-    return found
+    return merging.gaps([(number, number) for number in played if number <= most], most)[0]
 
 
 def ladder(schedule: Schedule, verdicts: Verdicts) -> Ladder:

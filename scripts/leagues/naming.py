@@ -1,7 +1,5 @@
 """Ids made of names as people have them, and the names that robots keep: `Müller` gets the id Muller."""
 
-from __future__ import annotations
-
 import itertools
 import re
 import unicodedata

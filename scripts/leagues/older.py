@@ -2,8 +2,6 @@
 
 The first one had no chain of publications, the second one no names of robots in it, and no folders from which they came."""
 
-from __future__ import annotations
-
 import sqlite3
 
 from .schema import LATER, SCHEMA, VERSION

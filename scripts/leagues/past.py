@@ -1,7 +1,5 @@
 """Whether an archive still has all that an older one had, or all that a hash stands for."""
 
-from __future__ import annotations
-
 import re
 from collections import Counter
 from itertools import takewhile

@@ -1,7 +1,5 @@
 """Tables as they were published: they stay as they were shown."""
 
-from __future__ import annotations
-
 from dataclasses import dataclass, replace
 from decimal import Decimal
 from typing import Sequence

@@ -1,7 +1,5 @@
 """The command publish: writes the league's site, with an archive of all of it, and keeps the table of the day."""
 
-from __future__ import annotations
-
 import argparse
 import os
 import shlex

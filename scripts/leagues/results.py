@@ -1,7 +1,5 @@
 """What was played: each match by its robots' bytes in the order of their seats, its seed and its number."""
 
-from __future__ import annotations
-
 from collections import Counter
 from itertools import groupby
 from operator import itemgetter

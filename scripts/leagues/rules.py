@@ -1,7 +1,5 @@
 """The rules of a season: what its matches depend on beside the robots, who plays whom, and what counts."""
 
-from __future__ import annotations
-
 import json
 from dataclasses import asdict, dataclass, fields, replace
 from decimal import Decimal

@@ -1,7 +1,5 @@
 """Who plays whom: the groups of a season and the seatings of each."""
 
-from __future__ import annotations
-
 import itertools
 from typing import Iterator, Sequence
 

@@ -2,8 +2,6 @@
 
 Only the hash of a publication is written into its row when that is there, and matches that are taken back move."""
 
-from __future__ import annotations
-
 from tools.rules import MOST_ROBOTS
 
 APPLICATION = 0x43524F42

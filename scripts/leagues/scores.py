@@ -1,7 +1,5 @@
 """What each robot did in each group, and the points of that."""
 
-from __future__ import annotations
-
 from collections import Counter
 from decimal import Decimal
 from typing import Mapping

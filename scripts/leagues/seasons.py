@@ -1,7 +1,5 @@
 """Seasons: from a day on a table is that of the season, by its rules and its robots. Robots may play in divisions."""
 
-from __future__ import annotations
-
 from dataclasses import dataclass
 from typing import Sequence
 

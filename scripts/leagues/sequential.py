@@ -38,8 +38,6 @@ By the same argument the average over all p ever comes to 1 / SHARE with a chanc
 interval is made of all m against which it hasn't come to that. It holds the mean with a chance of 1 - SHARE, whenever one
 looks. At m = 1/2 the average is `sides`: so 1/2 is outside of the interval just when a side is decided."""
 
-from __future__ import annotations
-
 import functools
 import math
 from typing import Iterable

@@ -1,23 +1,20 @@
 """A session: plays what a league wants, keeps each series when it ends, and looks again what is wanted."""
 
-from __future__ import annotations
-
 import argparse
 import math
-from contextlib import closing
 from dataclasses import dataclass, replace
 
 from results.battles import Group
 from tools.faults import Fault
 from tools.output import say, show
-from tools.signals import Stopped, watch
+from tools.signals import Stopped
 from tournaments.plans import Plan
 from tournaments.playing import Player
 from tournaments.programs import Program, program
 from tournaments.progress import Progress
 from tournaments.records import Record, Series
 from tournaments.robots import Robot
-from tournaments.sessions import done
+from tournaments.sessions import done, played_series
 
 from .days import given_day
 from .farm import planned
@@ -111,21 +108,14 @@ def play_all(store: Store, given: argparse.Namespace, found: Program) -> None:
 def play_round(store: Store, given: argparse.Namespace, found: Program, season: Season, now: Wanted) -> int:
     """Plays what is wanted now; answers how many matches that were."""
     progress = Progress(len(now.records), given.quiet, given.script)
-    with watch() as stop:
-
-        def glance() -> None:
-            stop.check()
-            progress.glance()
-
-        try:
-            with closing(Player(found, given.jobs, now.folder).play(now.records, glance)) as ended:
-                for record in ended:
-                    keep_record(store, season, record, given_day(given))
-                    progress.count(record.series.matches)
-        except Stopped as why:
-            progress.clear()
-            raise Stopped(why.number, f"stopped: {done(progress)}, and are kept") from why
-    progress.clear()
+    try:
+        with played_series(Player(found, given.jobs, now.folder), now.records, progress) as ended:
+            for record in ended:
+                keep_record(store, season, record, given_day(given))
+    except Stopped as why:
+        raise Stopped(why.number, f"stopped: {done(progress)}, and are kept") from why
+    finally:
+        progress.clear()
     return progress.matches
 
 

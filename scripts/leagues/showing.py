@@ -1,7 +1,5 @@
 """The commands that show something: status and table."""
 
-from __future__ import annotations
-
 import argparse
 
 from results.standings import Standing

@@ -1,13 +1,11 @@
 """The robots' sources as files, from which they are played: in a folder of the league, named by their hashes."""
 
-from __future__ import annotations
-
 import contextlib
 import hashlib
 import os
 from typing import Iterable
 
-from tools.faults import unwritable
+from tools.faults import writing
 from tools.output import replaced
 
 from .entries import source
@@ -19,14 +17,12 @@ NAME = "sources"
 def laid(store: Store, hashes: Iterable[str]) -> str:
     """Sees to it that the folder has these sources as they are in the database; answers its path."""
     folder = os.path.abspath(os.path.join(store.folder, NAME))
-    try:
+    with writing(folder):
         os.makedirs(folder, exist_ok=True)
         for sha256 in sorted({*hashes}):
             path = os.path.join(folder, sha256)
             if not is_whole(path, sha256):
                 replaced(path, source(store, sha256))
-    except OSError as why:
-        unwritable(folder, why)
     return folder
 
 

@@ -1,7 +1,5 @@
 """The standings of a season: each robot's points, rating and rank, division by division."""
 
-from __future__ import annotations
-
 from decimal import Decimal
 
 from results.scores import Score

@@ -5,8 +5,6 @@ first look isn't chosen by anything. What is expected of it, if only the counts 
 differs less: the mean over all ways that lead to these counts without stopping before, of which each is alike probable. Matches that
 count a half are taken to be spread evenly."""
 
-from __future__ import annotations
-
 import functools
 import math
 from typing import NamedTuple
@@ -55,7 +53,8 @@ def chances(played: int, decisive: int) -> list[Chance | None]:
         return [None] * (decisive + 1)
     ways, have = begun(0), 0
     for begin in range(0, played, LOOK):
-        after = round_half_up(min(begin + LOOK, played) * decisive / played)
+        # to the nearest, a half upward
+        after = int(min(begin + LOOK, played) * decisive / played + 0.5)
         if have < 2:
             ways = begun(after)
         else:
@@ -83,7 +82,3 @@ def further(ways: Ways, played: int, have: int, more: int) -> Ways:
     most = max(found[0]) or 1.0
     every, one, both = ([count / most for count in row] for row in found)
     return every, one, both
-
-
-def round_half_up(number: float) -> int:
-    return int(number + 0.5)

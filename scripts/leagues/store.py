@@ -3,8 +3,6 @@
 It is written ahead (WAL) and forced to the disk with each transaction. So what was reported as done stays done, also when
 the power fails. Readers never wait for a writer."""
 
-from __future__ import annotations
-
 import contextlib
 import os
 import shutil
@@ -14,7 +12,7 @@ from dataclasses import dataclass
 from typing import Any, Iterator
 from urllib.parse import quote
 
-from tools.faults import FILE, Fault, unwritable
+from tools.faults import FILE, Fault, writing
 
 from .older import FIRST, renew
 from .schema import APPLICATION, SCHEMA, VERSION
@@ -76,7 +74,7 @@ def path_of(folder: str) -> str:
 def made(folder: str) -> Iterator[Store]:
     """Makes the folder of a new league. Its database appears when what is done inside is done, in one piece."""
     path = path_of(folder)
-    try:
+    with writing(path):
         os.makedirs(folder, exist_ok=True)
         if os.path.exists(path):
             raise Fault(f"{folder} is a league already", FILE)
@@ -87,8 +85,6 @@ def made(folder: str) -> Iterator[Store]:
             os.link(os.path.join(begun, NAME), path)
         finally:
             shutil.rmtree(begun, ignore_errors=True)
-    except OSError as why:
-        unwritable(path, why)
 
 
 @contextlib.contextmanager

@@ -1,16 +1,12 @@
 """What robots did in some of their matches, as `crobots-trace` sums it up."""
 
-from __future__ import annotations
-
 import subprocess
 from concurrent.futures import ThreadPoolExecutor
 from typing import Sequence
 
-from replays.main import TRACE
 from results.battles import Group
 from sites.facts import Sums
-from tools.faults import Fault
-from tools.programs import found
+from tools.programs import TRACE, installed
 
 from .results import Results
 from .schedules import Schedule
@@ -21,10 +17,7 @@ Seat = tuple[Group, int, int]
 
 def sums(schedule: Schedule, results: Results, folder: str, many: int, jobs: int) -> dict[str, Sums]:
     """Of each robot what the program sums up of at most `many` of its matches; nothing if the program isn't there."""
-    try:
-        trace = found(TRACE) if many else ""
-    except Fault:
-        trace = ""
+    trace = installed(TRACE) if many else ""
     if not trace:
         return {}
     ends = results.ends()

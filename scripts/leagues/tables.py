@@ -1,7 +1,5 @@
 """The forms of a league's table: columns, comma-separated values, JSON."""
 
-from __future__ import annotations
-
 import json
 from typing import Sequence
 

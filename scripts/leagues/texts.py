@@ -1,7 +1,5 @@
 """Names of files and folders as the database and archives have them."""
 
-from __future__ import annotations
-
 import os
 
 

@@ -1,7 +1,5 @@
 """Which robots and which rules a season had, from one entry to the next: also those that were changed or taken back."""
 
-from __future__ import annotations
-
 from collections import defaultdict
 from dataclasses import dataclass
 from typing import Iterator, NamedTuple

@@ -1,11 +1,8 @@
 """The command season: lists the seasons, ends one, begins one."""
 
-from __future__ import annotations
-
 import argparse
 from dataclasses import replace
 
-from results.standings import Standing
 from tools.faults import Fault
 from tools.output import show
 from tools.tables import aligned
@@ -80,11 +77,7 @@ def divided(store: Store, last: Season, by: Rules, move: int) -> dict[str, int]:
     now = playing(entries(store))
     table = [standing for standing in publications.final(store, last) if standing.robot in now]
     if by.divisions == last.rules.divisions:
-        parts = seasons.promoted([in_division(table, division) for division in range(1, by.divisions + 1)], move)
+        parts = seasons.promoted([[standing.robot for standing in table if standing.division == division] for division in range(1, by.divisions + 1)], move)
     else:
         parts = seasons.split([standing.robot for standing in table], by.divisions)
     return {robot: division for division, part in enumerate(parts, 1) for robot in part}
-
-
-def in_division(table: list[Standing], division: int) -> list[str]:
-    return [standing.robot for standing in table if standing.division == division]

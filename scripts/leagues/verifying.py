@@ -1,11 +1,8 @@
 """The command verify: replays matches of an archive, works its table out anew, and says what differs."""
 
-from __future__ import annotations
-
 import argparse
 import os
 import random
-from contextlib import closing
 from dataclasses import dataclass, replace
 from itertools import zip_longest
 from typing import Iterator
@@ -14,13 +11,13 @@ from results.battles import Match
 from results.standings import NOTHING, Standing
 from tools.faults import FAULTY, Fault
 from tools.output import replaced, say, show
-from tools.signals import watch
 from tournaments import seats
 from tournaments.playing import Player
 from tournaments.programs import Program, program, version
 from tournaments.progress import Progress
 from tournaments.records import Record, Series
 from tournaments.robots import Robot, private
+from tournaments.sessions import played_series
 from tournaments.settings import Settings
 
 from . import archives, likeness, publications, tables
@@ -187,16 +184,10 @@ def replayed(store: Store, found: Program, given: argparse.Namespace, runs: list
         ours, theirs = named(version(found.sha256), found.sha256), named(versions(store).get(by, ""), by)
         say(given.script, f"{found.path} is {ours}, and matches of the archive are by {theirs}")
     progress = Progress(len(records), given.quiet, given.script)
-    with private() as folder, watch() as stop:
+    with private() as folder:
         lay(store, folder)
-
-        def glance() -> None:
-            stop.check()
-            progress.glance()
-
-        with closing(Player(found, given.jobs, folder).play(records, glance)) as played:
-            for now in played:
-                progress.count(now.series.matches)
+        with played_series(Player(found, given.jobs, folder), records, progress) as again:
+            for now in again:
                 yield from changed(now, by_series[now.robots, now.series])
     progress.clear()
 

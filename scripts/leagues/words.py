@@ -1,10 +1,7 @@
 """The words of the command lines."""
 
-from __future__ import annotations
-
 import argparse
 import os
-import re
 from dataclasses import replace
 from typing import Any, Callable, Iterable
 from urllib.parse import urlsplit
@@ -12,7 +9,7 @@ from urllib.parse import urlsplit
 from sites.addresses import page as address
 from tools.faults import Fault
 from tools.rules import MOST_MATCHES
-from tournaments.words import Parser, decimals, of_match, within
+from tournaments.words import Parser, decimals, fitting, of_match, within
 
 from .days import day
 from .entries import BEGIN, END, ENTRY, ID
@@ -32,9 +29,7 @@ Takes = Callable[[argparse._ActionsContainer], object]
 
 def mode(text: str) -> dict[str, Any]:
     """Reads who plays whom."""
-    found = re.fullmatch(MODE, text)
-    if not found:
-        raise argparse.ArgumentTypeError(f"'{text}' is none of {MODES}")
+    found = fitting(MODE, text, f"is none of {MODES}")
     if found[2]:
         weights = decimals(3)(found[3])
         if not any(weights):
@@ -45,11 +40,9 @@ def mode(text: str) -> dict[str, Any]:
 
 def anchor(text: str) -> dict[str, Any]:
     """Reads which robot has which rating for ever."""
-    found = re.fullmatch(ANCHOR, text)
     if text == "none":
         return {"anchor": "", "anchored": 0}
-    if not found:
-        raise argparse.ArgumentTypeError(f"'{text}' is no ROBOT=RATING")
+    found = fitting(ANCHOR, text, "is no ROBOT=RATING")
     return {"anchor": found[1], "anchored": int(found[2])}
 
 

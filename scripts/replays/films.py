@@ -3,8 +3,6 @@
 The page reads its rows itself (web/player/films.js). Robots from inside have rows with their lines and last questions; then the
 lines of their sources are rows, too."""
 
-from __future__ import annotations
-
 from typing import Callable, Iterable, Sequence
 
 from tools.faults import UNWRITTEN, Fault

@@ -1,17 +1,13 @@
 """The script `replay`: has a match played by `trace`, and writes its page."""
 
-from __future__ import annotations
-
 from tools import output
 from tools.faults import UNWRITTEN, Ended, Fault
-from tools.programs import found, lines, number
+from tools.programs import TRACE, found, lines, number
 from tools.running import run as begin
 
 from .films import Film
 from .pages import page
 from .words import HELP, NAME, USAGE_LINE, Asked, read
-
-TRACE = "crobots-trace"
 
 
 def filmed(asked: Asked) -> Film:

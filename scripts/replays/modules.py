@@ -1,9 +1,8 @@
 """Puts modules of JavaScript together as one script: a browser that opens a page from a file loads no modules."""
 
-from __future__ import annotations
-
 import os
 import re
+from pathlib import Path
 
 IMPORT = re.compile(r'^import (\{.*\}) from "(\.[\w./]*/(\w+)\.js)";$', re.MULTILINE)
 EXPORT = re.compile(r"^export ((?:async )?(?:const|function|class) (\w+))", re.MULTILINE)
@@ -12,8 +11,7 @@ COMMENT = re.compile(r"^ *(?://.*|/\*\*(?:.|\n)*?\*/)\n", re.MULTILINE)
 
 
 def text_of(path: str) -> str:
-    with open(path, encoding="utf-8") as file:
-        return file.read()
+    return Path(path).read_text(encoding="utf-8")
 
 
 def in_order(path: str, before: tuple[str, ...] = ()) -> tuple[str, ...]:

@@ -3,8 +3,6 @@
 A row's cycle is kept as the difference from that of the row before, and each other number as the difference from that of the last
 row of the same robot and kind. These are short, and often the same. All of it is deflated, and written in base 64."""
 
-from __future__ import annotations
-
 import base64
 import zlib
 

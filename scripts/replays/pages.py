@@ -1,7 +1,5 @@
 """Makes the page of a match: one file with its style, its script and its film."""
 
-from __future__ import annotations
-
 import html
 import os
 from string import Template
@@ -38,8 +36,3 @@ def page(film: Film, number: int) -> str:
 def framed_script() -> str:
     """The script of the page in a frame."""
     return script_of(os.path.join(PLAYER, "framed.js"))
-
-
-def framed() -> str:
-    """The page that another page shows in a frame, and hands films in."""
-    return put_together(framed_script(), style_of_page())

@@ -1,7 +1,5 @@
 """The words of the command line: those that choose the match, which `trace` takes, and where the page goes."""
 
-from __future__ import annotations
-
 from dataclasses import dataclass
 
 from tools.faults import Misuse

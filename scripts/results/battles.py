@@ -1,7 +1,5 @@
 """How a match ended, and what each of its robots did by that."""
 
-from __future__ import annotations
-
 import functools
 from dataclasses import dataclass
 from typing import Sequence

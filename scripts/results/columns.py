@@ -1,7 +1,5 @@
 """The columns of a table: what each says of a robot, as data and as text. A table is a choice of them, by their names."""
 
-from __future__ import annotations
-
 from typing import Any, Callable, Iterable, NamedTuple
 
 from .standings import Standing

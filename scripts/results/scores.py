@@ -49,8 +49,6 @@ class Score:
         return Score(self.won + other.won, self.tied + other.tied, self.lost + other.lost, self.both + other.both)
 
 
-
-
 NONE = Score()
 
 

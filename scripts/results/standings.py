@@ -1,7 +1,5 @@
 """Tables: where each robot is, and whether that may be chance."""
 
-from __future__ import annotations
-
 from collections import Counter
 from dataclasses import dataclass, field, replace
 from decimal import Decimal

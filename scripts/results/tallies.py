@@ -1,7 +1,5 @@
 """Adds up matches: of each seating how many ended in each way, and what each robot and each pair did by that."""
 
-from __future__ import annotations
-
 import itertools
 from collections import Counter, defaultdict
 from typing import Callable, Iterable, Sequence, TypeVar

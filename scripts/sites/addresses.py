@@ -1,7 +1,5 @@
 """Addresses that a site leads to: those of pages, and nothing that runs."""
 
-from __future__ import annotations
-
 import argparse
 import re
 from urllib.parse import urlsplit

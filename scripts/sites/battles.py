@@ -1,7 +1,5 @@
 """A match as a page shows it: how it ended, what plays it, and the command line that plays it again."""
 
-from __future__ import annotations
-
 from typing import AbstractSet
 
 from results.battles import DID

@@ -1,7 +1,5 @@
 """Charts as SVG: ratings with their intervals, ratings over time, shares. Their colours are the style's."""
 
-from __future__ import annotations
-
 import datetime
 import functools
 from itertools import groupby

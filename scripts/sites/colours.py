@@ -1,7 +1,5 @@
 """The colours of the heat map: steps from one colour over a pale one to another, each with an ink to be read on it."""
 
-from __future__ import annotations
-
 import math
 
 STEPS = 20

@@ -2,8 +2,6 @@
 
 A page has those that have a cell, in the order in which they stand here. Data have those with a number, in the order of these."""
 
-from __future__ import annotations
-
 from dataclasses import dataclass
 from typing import Callable, Generic, Iterable, NamedTuple, Protocol, Sequence, TypeVar
 

@@ -1,7 +1,5 @@
 """The words of command lines: of those that play or show a match again."""
 
-from __future__ import annotations
-
 from typing import Sequence
 
 from tools import shells

@@ -1,7 +1,5 @@
 """The same as data: the table and the pairs as comma-separated values, and everything as JSON."""
 
-from __future__ import annotations
-
 import functools
 import json
 from typing import Any, Iterable, Iterator

@@ -1,7 +1,5 @@
 """Makes pages that play matches: each by a child that does what scripts/replay does, if `crobots-trace` is there."""
 
-from __future__ import annotations
-
 import html
 import os
 import subprocess
@@ -10,10 +8,6 @@ import tempfile
 from concurrent.futures import ThreadPoolExecutor
 from dataclasses import dataclass
 from typing import Iterable, Iterator, Mapping, Sequence
-
-from replays.main import TRACE
-from tools.faults import Fault
-from tools.programs import found
 
 from . import places
 from .facts import Battle, Settings
@@ -36,14 +30,6 @@ class Order:
     options: tuple[str, ...]
     robots: tuple[tuple[str, bytes], ...]
     back: tuple[tuple[str, str], ...]
-
-
-def can_film() -> bool:
-    """Reports whether `crobots-trace` is there."""
-    try:
-        return bool(found(TRACE))
-    except Fault:
-        return False
 
 
 def order(settings: Settings, battle: Battle, robots: Sequence[tuple[str, bytes]], back: Iterable[tuple[str, str]] = ()) -> Order:

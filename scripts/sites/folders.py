@@ -5,8 +5,6 @@ page leads yet; then those that were there; and what is gone is removed at the e
 writer is killed, each page is whole, and each link that a reader meets leads to a page. The list has all names before
 the first file is written."""
 
-from __future__ import annotations
-
 import contextlib
 import fcntl
 import os

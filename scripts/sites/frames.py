@@ -1,7 +1,5 @@
 """The frame of every page: its head, the links to the other pages, and its foot."""
 
-from __future__ import annotations
-
 from . import places
 from .lookups import Lookup
 from .markup import Markup, joined, tag

@@ -2,8 +2,6 @@
 
 Of all matches only those that are worth a look are kept, so memory grows with the pairs and not with the matches."""
 
-from __future__ import annotations
-
 import functools
 import itertools
 from collections import Counter, defaultdict

@@ -1,7 +1,5 @@
 """The heat map: what each robot did against each other. A cell leads to the pair."""
 
-from __future__ import annotations
-
 import functools
 
 from results.standings import Standing

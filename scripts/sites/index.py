@@ -1,7 +1,5 @@
 """The first page: the table, with ratings as a chart."""
 
-from __future__ import annotations
-
 from typing import Sequence
 
 from results.standings import Standing

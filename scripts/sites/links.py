@@ -2,8 +2,6 @@
 
 It is the form that web/links.js reads: JSON, deflated, in base 64 of the alphabet for addresses."""
 
-from __future__ import annotations
-
 import base64
 import json
 import zlib

@@ -1,7 +1,5 @@
 """Finds what belongs to a robot, a pair or a match among all facts, and the links to it."""
 
-from __future__ import annotations
-
 from results.standings import Standing
 
 from . import links, places

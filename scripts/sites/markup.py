@@ -1,7 +1,5 @@
 """HTML and SVG: elements are put together here alone, so no text gets into a page without being escaped."""
 
-from __future__ import annotations
-
 import functools
 import html
 import re

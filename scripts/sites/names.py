@@ -1,7 +1,5 @@
 """Names: of files on the site, from robots' ids; and as a reader is shown them."""
 
-from __future__ import annotations
-
 import functools
 import hashlib
 import re

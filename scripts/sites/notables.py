@@ -1,11 +1,8 @@
 """Chooses the matches of a pair that are worth a look."""
 
-from __future__ import annotations
-
 from typing import Iterable, Iterator
 
 from tools.rules import DEADLY
-
 
 from .facts import Battle, Notable, RobotId
 

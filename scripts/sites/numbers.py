@@ -1,7 +1,5 @@
 """Numbers as a reader is shown them."""
 
-from __future__ import annotations
-
 from decimal import Decimal
 
 from .charts import whole

@@ -1,7 +1,5 @@
 """The page of all pairs: its script shows the pair that the address names, from the data of both robots."""
 
-from __future__ import annotations
-
 from . import places
 from .frames import page, sentence
 from .lookups import Lookup

@@ -1,7 +1,5 @@
 """Where everything is on the site: the paths of its files, all below one folder and with '/' between their parts."""
 
-from __future__ import annotations
-
 import hashlib
 import re
 from typing import Sequence

@@ -1,13 +1,13 @@
 """Publishes a site: all its pages and files, from the facts, into a folder."""
 
-from __future__ import annotations
-
 import os
 from dataclasses import dataclass
 from functools import partial
+from pathlib import Path
 from typing import Callable, Iterator, Sequence
 
-from tools.faults import FILE, Fault, unwritable
+from tools.faults import FILE, Fault, writing
+from tools.programs import TRACE, installed
 
 from . import colours, data, films, places, robot_data
 from .facts import Battle, Facts
@@ -30,7 +30,7 @@ def publish(facts: Facts, folder: str, replays: int = 0, jobs: int = 1) -> None:
     Replays that the folder has from before are kept. Raises Foreign if a file is in the way, and OSError."""
     lookup, site = Lookup(facts), Folder(folder)
     with site.open():
-        wanted = chosen(lookup, site, replays if replays and films.can_film() else 0)
+        wanted = chosen(lookup, site, replays if replays and installed(TRACE) else 0)
         there = {*wanted.kept, *wanted.given, *wanted.orders}
         older = older_archives(site, facts)
         contents = files(lookup, there, older)
@@ -46,11 +46,10 @@ def publish(facts: Facts, folder: str, replays: int = 0, jobs: int = 1) -> None:
 def published(facts: Facts, folder: str, replays: int, jobs: int) -> None:
     """Does the same, or says why the folder can't have it."""
     try:
-        publish(facts, folder, replays, jobs)
+        with writing(folder):
+            publish(facts, folder, replays, jobs)
     except Foreign as why:
         raise Fault(str(why), FILE) from why
-    except OSError as why:
-        unwritable(folder, why)
 
 
 @dataclass(frozen=True)
@@ -120,12 +119,7 @@ def sources(facts: Facts) -> dict[str, Content]:
 
 def archive(facts: Facts) -> dict[str, Content]:
     """The archive, if there is one."""
-    return {places.archive_file(facts.archive): partial(read, facts.archive)} if facts.archive else {}
-
-
-def read(path: str) -> bytes:
-    with open(path, "rb") as file:
-        return file.read()
+    return {places.archive_file(facts.archive): Path(facts.archive).read_bytes} if facts.archive else {}
 
 
 def encoded(make: Callable[[], str]) -> bytes:
@@ -139,4 +133,4 @@ def style() -> str:
 
 def text_of(name: str) -> str:
     """A file of this folder."""
-    return read(os.path.join(HERE, name)).decode()
+    return Path(HERE, name).read_text(encoding="utf-8")

@@ -3,8 +3,6 @@
 They are scripts that hand in JSON, since a page that is opened from a file can't read other files. A robot's data don't depend on the
 table. So they stay as they are until it plays again."""
 
-from __future__ import annotations
-
 import json
 from typing import Any, Iterator, Sequence
 

@@ -1,7 +1,5 @@
 """The page of a robot: where it is in the table, its opponents, its versions and its source."""
 
-from __future__ import annotations
-
 from itertools import compress
 from typing import Sequence
 
@@ -51,7 +49,8 @@ def copied(lookup: Lookup, robot: Robot, up: str) -> Markup:
 def standing(lookup: Lookup, robot: Robot) -> Markup:
     """Its row of the table."""
     row = lookup.standing(robot.id)
-    return tag("dl", *(tile(term, said) for term, said in tiles(lookup, row)), class_="tiles") if row else Markup("")
+    said = [tag("div", tag("dt", term), tag("dd", said)) for term, said in tiles(lookup, row)] if row else []
+    return tag("dl", *said, class_="tiles") if said else Markup("")
 
 
 def tiles(lookup: Lookup, row: Standing) -> list[tuple[str, Markup]]:
@@ -65,10 +64,6 @@ def tiles(lookup: Lookup, row: Standing) -> list[tuple[str, Markup]]:
         ("Won", joined(count(score.won), tag("small", f" of {count(score.played)}"))),
         ("Tied", joined(count(score.tied))), ("Lost", joined(count(score.lost))),
     ]
-
-
-def tile(term: str, said: Markup) -> Markup:
-    return tag("div", tag("dt", term), tag("dd", said))
 
 
 def history(lookup: Lookup, robot: Robot) -> Markup:

@@ -1,7 +1,5 @@
 """Scales: where a value stands on an axis, whose ends leave far outliers out."""
 
-from __future__ import annotations
-
 import math
 import statistics
 from dataclasses import dataclass

@@ -1,7 +1,5 @@
 """The page of a season that ended: its last table, and its rules."""
 
-from __future__ import annotations
-
 from . import places
 from .facts import Season
 from .frames import above, page, section

@@ -1,7 +1,5 @@
 """The page of settings: what was played by which program, and how that is checked."""
 
-from __future__ import annotations
-
 import hashlib
 import os
 import shlex
@@ -16,7 +14,6 @@ from .markup import Markup, joined, tag
 from .names import shown
 from .numbers import count, counted
 from .tables import command_line, listed
-
 
 
 def settings_page(lookup: Lookup, older: Sequence[str] = ()) -> str:

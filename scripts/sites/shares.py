@@ -1,12 +1,9 @@
 """The 95 % interval of a pair's share: one's wins and half of the matches that both survived or both lost, of all."""
 
-from __future__ import annotations
-
 import math
 
 from results.scores import Score
-
-NORMAL = 1.959964
+from tournaments.intervals import NORMAL
 
 
 def interval(score: Score) -> tuple[float, float]:

@@ -1,7 +1,5 @@
 """A robot's source with colours, a line a row. The words are those that the editor of the browser's page colours."""
 
-from __future__ import annotations
-
 import re
 from typing import Iterator
 

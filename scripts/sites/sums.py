@@ -1,7 +1,5 @@
 """Adds up what `crobots-trace --json` counts of a robot in some matches: its shots, its hits, and what hurt it."""
 
-from __future__ import annotations
-
 import json
 from collections import Counter
 

@@ -1,7 +1,5 @@
 """Tables of HTML: each scrolls by itself, has a caption, and says what its rows and columns are."""
 
-from __future__ import annotations
-
 from typing import Iterable, Sequence
 
 from .commands import quoted

@@ -1,9 +1,8 @@
 """The facts of a tournament, from what it comes to."""
 
-from __future__ import annotations
-
+import contextlib
 import hashlib
-import os
+from pathlib import Path
 from typing import Iterable, Iterator, Mapping, Sequence
 
 from results.standings import Standing
@@ -67,16 +66,8 @@ def kept_sources(among: Iterable[Robot], folder: str = "") -> dict[str, bytes]:
     """The sources by their hashes: from the folder of copies, or from the robots' files that have still these bytes."""
     found: dict[str, bytes] = {}
     for robot in among:
-        source = read(os.path.join(folder, robot.sha256) if folder else robot.path)
-        if source is not None and hashlib.sha256(source).hexdigest() == robot.sha256:
-            found[robot.sha256] = source
+        with contextlib.suppress(OSError):
+            source = Path(folder, robot.sha256) if folder else Path(robot.path)
+            if hashlib.sha256(content := source.read_bytes()).hexdigest() == robot.sha256:
+                found[robot.sha256] = content
     return found
-
-
-def read(path: str) -> bytes | None:
-    """The bytes of a file, if it can be read."""
-    try:
-        with open(path, "rb") as file:
-            return file.read()
-    except OSError:
-        return None

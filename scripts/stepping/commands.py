@@ -1,7 +1,5 @@
 """The commands of a session, by their words and letters."""
 
-from __future__ import annotations
-
 import re
 from dataclasses import dataclass
 from typing import Callable, Sequence
@@ -133,10 +131,6 @@ def list_source(session: Session, text: str) -> list[str]:
     return session.source.around(number(text, 1, len(session.source)) if text else here, here)
 
 
-def backtrace(session: Session, _: str) -> list[str]:
-    return telling.calls(session.moment)
-
-
 def info(session: Session, text: str) -> list[str]:
     """One of several lists."""
     moment = session.moment
@@ -205,7 +199,7 @@ COMMANDS = (
     Command(("delete",), "N", "forget a breakpoint or a watch", delete),
     Command(("print", "p"), "NAME", "the value of a variable", print_value),
     Command(("info",), "LIST", "breakpoints, locals, externals or field", info),
-    Command(("backtrace", "bt"), "", "the calls that go on", backtrace),
+    Command(("backtrace", "bt"), "", "the calls that go on", lambda session, _: telling.calls(session.moment)),
     Command(("list", "l"), "[LINE]", "the source around a line", list_source),
     Command(("trace",), "", "the command that reports this moment", trace),
     Command(("replay",), "", "the command that shows it in a browser", replay),

@@ -1,7 +1,5 @@
 """The script `step`: steps through a robot in a match, in a terminal or by lines of plain text."""
 
-from __future__ import annotations
-
 from typing import Iterable, Iterator
 
 from tools.faults import UNWRITTEN, Fault, file_word, plain

@@ -1,7 +1,5 @@
 """Breakpoints and watched variables: what `continue` stops at, as events of `crobots-debug`."""
 
-from __future__ import annotations
-
 import re
 from dataclasses import dataclass
 

@@ -1,8 +1,7 @@
-"""Moments: where the robot is after a cycle, as the rows of `crobots-debug` say."""
-
-from __future__ import annotations
+"""Moments: where the robot is after a cycle, as the rows of `crobots-debug` say, and those of `crobots-trace --at`."""
 
 from dataclasses import dataclass, field
+from typing import NamedTuple
 
 Row = list[str]
 
@@ -18,9 +17,8 @@ class Call:
     variables: dict[str, int] = field(default_factory=dict)
 
 
-@dataclass(frozen=True)
-class Question:
-    """A call of an intrinsic function: the cycle, the call, and the reply."""
+class Question(NamedTuple):
+    """A call of an intrinsic function, as `scan(0, 10)`: the cycle, the call, and the reply."""
 
     cycle: int
     call: str

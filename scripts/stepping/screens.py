@@ -3,8 +3,6 @@
 Above stands which robot is stepped; then the source, and beside it the calls, the variables and the last question, or below it
 if there are few columns; then the field, what the last command said, and the prompt."""
 
-from __future__ import annotations
-
 import textwrap
 from dataclasses import dataclass
 

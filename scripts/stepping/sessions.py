@@ -3,8 +3,6 @@
 Each move is one or several questions: a step to the next line that is entered, forwards or backwards, or to the first of the
 events that are marked."""
 
-from __future__ import annotations
-
 from dataclasses import dataclass
 
 from tools.rules import MOST_CYCLES

@@ -1,7 +1,5 @@
 """The source of the robot, by lines as a screen can show them."""
 
-from __future__ import annotations
-
 from tools.sources import lines_of
 
 AROUND = 5

@@ -1,7 +1,5 @@
 """What a session says in plain text: where the robot is, its variables, its calls, the field."""
 
-from __future__ import annotations
-
 from .moments import Moment, Robot
 from .sessions import Session
 

@@ -1,7 +1,5 @@
 """A session in a terminal: paints its screen, and reads a line at its prompt, by `curses`."""
 
-from __future__ import annotations
-
 import curses
 import locale
 import os

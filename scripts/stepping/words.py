@@ -1,7 +1,5 @@
 """The words of the command line: those that choose the match and the robot, which `crobots-debug` takes, and a script."""
 
-from __future__ import annotations
-
 from dataclasses import dataclass
 
 from tools.words import MATCH_HELP, Given, given, number

@@ -1,8 +1,7 @@
 """What ends a script before its time: a line for its user, and a status."""
 
-from __future__ import annotations
-
-from typing import Iterable, NoReturn
+import contextlib
+from typing import Iterable, Iterator
 
 FAULTY, USAGE, FILE, PROGRAM, MEMORY = 1, 2, 3, 4, 5
 # As the programs have it: their output was not written.
@@ -50,12 +49,23 @@ def visible(letter: str) -> str:
     return "?" if letter < " " or "\x7f" <= letter < "\xa0" else letter
 
 
-def unreadable(path: str, why: OSError) -> NoReturn:
-    raise Fault(f"cannot read {file_word(path)}: {why.strerror}", FILE) from why
+def reading(path: str) -> contextlib.AbstractContextManager[None]:
+    """Makes a fault of what keeps a file from being read inside."""
+    return used("read", path)
 
 
-def unwritable(path: str, why: OSError) -> NoReturn:
-    raise Fault(f"cannot write {file_word(path)}: {why.strerror}", FILE) from why
+def writing(path: str) -> contextlib.AbstractContextManager[None]:
+    """Makes a fault of what keeps a file from being written inside."""
+    return used("write", path)
+
+
+@contextlib.contextmanager
+def used(what: str, path: str) -> Iterator[None]:
+    """Makes a fault of what keeps a file from being used so inside."""
+    try:
+        yield
+    except OSError as why:
+        raise Fault(f"cannot {what} {file_word(path)}: {why.strerror}", FILE) from why
 
 
 def file_word(path: str) -> str:

@@ -2,8 +2,6 @@
 
 What is written is a name's own bytes, and letters of ASCII else: so no encoding can lack a letter."""
 
-from __future__ import annotations
-
 import contextlib
 import os
 import tempfile

@@ -1,7 +1,5 @@
 """The programs that scripts run: where they are, which version they have, and what they write and say."""
 
-from __future__ import annotations
-
 import contextlib
 import os
 import shutil
@@ -10,12 +8,14 @@ import tempfile
 from subprocess import DEVNULL, PIPE
 from typing import IO, Callable, Iterable, Iterator
 
-from .faults import Fault, unreadable
+from .faults import Fault, reading
 from .signals import watch
 
 HERE = os.path.dirname(os.path.realpath(__file__))
 # The version's number, in the repository and where this is installed.
 VERSION = os.path.normpath(os.path.join(HERE, "..", "..", "VERSION"))
+# The program that says what happened in a match.
+TRACE = "crobots-trace"
 # Looks at how a program ended: its status, and the lines that it said but its usage.
 Judge = Callable[[int, list[str]], None]
 
@@ -36,13 +36,18 @@ def found(name: str, given: str | None = None) -> str:
     return path
 
 
+def installed(name: str) -> str:
+    """The path of a command's program, which may be lacking: nothing then."""
+    try:
+        return found(name)
+    except Fault:
+        return ""
+
+
 def number() -> str:
     """The version's number, which the programs have too."""
-    try:
-        with open(VERSION, encoding="utf-8", errors="replace") as file:
-            return file.readline().strip()
-    except OSError as why:
-        unreadable(VERSION, why)
+    with reading(VERSION), open(VERSION, encoding="utf-8", errors="replace") as file:
+        return file.readline().strip()
 
 
 @contextlib.contextmanager

@@ -1,7 +1,5 @@
 """How a script begins and ends: what it says of faults, signals and want of memory, and its status."""
 
-from __future__ import annotations
-
 import errno
 import importlib
 import os

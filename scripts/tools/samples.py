@@ -1,11 +1,9 @@
 """The sample robots: where they are, and on which level of the ladder each stands."""
 
-from __future__ import annotations
-
 import os
 import re
 
-from .faults import Fault, unreadable
+from .faults import Fault, reading
 
 HERE = os.path.dirname(os.path.realpath(__file__))
 # The robots' folder in the repository, and where this is installed.
@@ -19,11 +17,8 @@ def ladder() -> list[tuple[str, int]]:
     """Each sample's path and level, in the order of the ladder."""
     pages = [os.path.join(place, PAGE) for place in PLACES]
     path = next((page for page in pages if os.path.exists(page)), pages[0])
-    try:
-        with open(path, encoding="utf-8") as file:
-            rows = ROW.findall(file.read())
-    except OSError as why:
-        unreadable(path, why)
+    with reading(path), open(path, encoding="utf-8") as file:
+        rows = ROW.findall(file.read())
     return [(os.path.join(os.path.dirname(path), name), int(level)) for level, name in rows]
 
 

@@ -1,7 +1,5 @@
 """Command lines: as a reader copies them into a shell."""
 
-from __future__ import annotations
-
 import re
 import shlex
 from typing import Iterable

@@ -1,7 +1,5 @@
 """The signals that ask a script to end: HUP, INT and TERM, but for those that are ignored."""
 
-from __future__ import annotations
-
 import contextlib
 import signal
 from types import FrameType

@@ -1,7 +1,5 @@
 """Sources of robots, as lines that can be shown."""
 
-from __future__ import annotations
-
 
 def lines_of(path: str) -> list[str]:
     """The lines of a file as a screen can show them; an empty one alone if it can't be read, as one that can't be read twice."""

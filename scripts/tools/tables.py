@@ -1,7 +1,5 @@
 """Tables as text: columns that line up, and comma-separated values."""
 
-from __future__ import annotations
-
 import csv
 import io
 import unicodedata

@@ -3,8 +3,6 @@
 Both play each opponent in each seat from the same starts, and each opponent has starts of its own. So the differences of
 two matches with one opponent, seat and number are independent of each other."""
 
-from __future__ import annotations
-
 import argparse
 import json
 import os
@@ -28,7 +26,6 @@ from .seats import keys, seatings
 from .sessions import session, tell_rounded
 from .settings import Settings
 from .versions import CHALLENGER, NEW, OLD, Place, Versions
-
 
 AGAINST = "against"
 

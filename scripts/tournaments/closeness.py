@@ -3,8 +3,6 @@
 A robot's points are a sum of its matches, each with a weight. How far two robots' points are apart by chance alone shows in how
 matches of the same robots in the same seats differ. One upset more of each, that it may have had, is thought of."""
 
-from __future__ import annotations
-
 import math
 from collections import Counter, defaultdict
 from functools import cache

@@ -4,8 +4,6 @@ seats differ.
 A match counts for all pairs of its robots: one that lived has beaten each that died; other pairs have a half each. A robot's
 score is the sum of its shares. What one match more or less of each outcome changes of them is linear in who lived."""
 
-from __future__ import annotations
-
 import functools
 import itertools
 from collections import Counter

@@ -1,7 +1,5 @@
 """The groups of a tournament: every pair, three or four of its robots, or a sample of them; and the series of each group."""
 
-from __future__ import annotations
-
 import hashlib
 import heapq
 import itertools

@@ -1,7 +1,5 @@
 """Intervals of means: of independent numbers in classes, by Student's distribution."""
 
-from __future__ import annotations
-
 import math
 import statistics
 from dataclasses import dataclass

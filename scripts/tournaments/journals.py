@@ -4,8 +4,6 @@ A match is found again by what decides it: the bytes of its robots in the order 
 and its number. So a robot whose bytes changed plays anew, and one that came or went leaves the matches of the others as
 they were. Limit, profile and program are one for the whole journal."""
 
-from __future__ import annotations
-
 import contextlib
 import fcntl
 import os
@@ -13,7 +11,7 @@ import stat
 import sys
 from typing import Callable, Iterator
 
-from tools.faults import FILE, Fault, unreadable, unwritable
+from tools.faults import FILE, Fault, reading, writing
 from tools.output import write_all
 
 from .records import BEGIN, OLDER, NoRecord, Record, played
@@ -49,12 +47,13 @@ class Journal:
             return
         line = record.line().encode()
         end = os.fstat(self._file).st_size
-        try:
-            write_all(self._file, line)
-        except OSError as why:
-            with contextlib.suppress(OSError):
-                os.ftruncate(self._file, end)
-            unwritable(self._path, why)
+        with writing(self._path):
+            try:
+                write_all(self._file, line)
+            except OSError:
+                with contextlib.suppress(OSError):
+                    os.ftruncate(self._file, end)
+                raise
 
 
 def seated(record: Record) -> Seated:
@@ -68,10 +67,8 @@ def journal(path: str | None, settings: Settings, tell: Callable[[str], None]) -
     if path is None:
         yield Journal()
         return
-    try:
+    with writing(path):
         file = os.open(path, os.O_RDWR | os.O_CREAT | os.O_APPEND | os.O_CLOEXEC, 0o666)
-    except OSError as why:
-        unwritable(path, why)
     try:
         if not stat.S_ISREG(os.fstat(file).st_mode):
             raise Fault(f"{path} is no regular file", FILE)
@@ -96,21 +93,18 @@ def lock(path: str, file: int) -> None:
 def load(journal: Journal, path: str, file: int, settings: Settings, tell: Callable[[str], None]) -> None:
     """Reads all records, and drops a last line that was cut."""
     whole = 0
-    try:
-        with open(file, "rb", closefd=False) as lines:
-            for number, line in enumerate(lines, 1):
-                if line.startswith(OLDER.encode()):
-                    raise Fault(f"{path} is a journal of an older format, whose robots had one seating only", FILE)
-                if line.endswith(b"\n"):
-                    journal.keep(checked(line, f"line {number} of {path}", path, settings))
-                    whole += len(line)
-                elif number == 1 and not BEGIN.encode().startswith(line[: len(BEGIN)]):
-                    raise Fault(f"{path} is no journal", FILE)
-                else:
-                    tell(f"the last line of {path} was cut, and is dropped")
-                    os.ftruncate(file, whole)
-    except OSError as why:
-        unreadable(path, why)
+    with reading(path), open(file, "rb", closefd=False) as lines:
+        for number, line in enumerate(lines, 1):
+            if line.startswith(OLDER.encode()):
+                raise Fault(f"{path} is a journal of an older format, whose robots had one seating only", FILE)
+            if line.endswith(b"\n"):
+                journal.keep(checked(line, f"line {number} of {path}", path, settings))
+                whole += len(line)
+            elif number == 1 and not BEGIN.encode().startswith(line[: len(BEGIN)]):
+                raise Fault(f"{path} is no journal", FILE)
+            else:
+                tell(f"the last line of {path} was cut, and is dropped")
+                os.ftruncate(file, whole)
 
 
 def checked(line: bytes, place: str, path: str, settings: Settings) -> Record:

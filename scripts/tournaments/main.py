@@ -1,7 +1,5 @@
 """The script `tournament`: plays or merges, and prints."""
 
-from __future__ import annotations
-
 import argparse
 from decimal import Decimal
 

@@ -1,7 +1,5 @@
 """Symmetric positive matrices: taken apart (Cholesky), inverted, and systems of equations with them."""
 
-from __future__ import annotations
-
 import math
 from functools import partial
 from operator import itemgetter, mul

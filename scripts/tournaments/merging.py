@@ -1,13 +1,11 @@
 """Puts the records that a plan's command lines wrote together again, if each match is there exactly once."""
 
-from __future__ import annotations
-
 import contextlib
 from collections import Counter, defaultdict
 from typing import IO, Iterable, Iterator
 
 from results.battles import Group
-from tools.faults import FILE, Fault, unreadable
+from tools.faults import FILE, Fault, reading
 from tools.output import INPUT
 
 from .groups import whole_series
@@ -119,11 +117,8 @@ def gaps(runs: Runs, most: int) -> tuple[Runs, Runs]:
 @contextlib.contextmanager
 def opened(path: str | None) -> Iterator[IO[str]]:
     """Opens a file, or standard input."""
-    try:
-        with open(path or INPUT, encoding="utf-8", errors="replace", newline="\n", closefd=bool(path)) as file:
-            yield file
-    except OSError as why:
-        unreadable(path or "standard input", why)
+    with reading(path or "standard input"), open(path or INPUT, encoding="utf-8", errors="replace", newline="\n", closefd=bool(path)) as file:
+        yield file
 
 
 def records(files: list[str]) -> Iterator[tuple[Record, str]]:

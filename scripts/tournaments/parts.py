@@ -1,7 +1,5 @@
 """Parts of a field: robots that pairs which have met connect, and what is known of them as rows."""
 
-from __future__ import annotations
-
 from dataclasses import dataclass, field
 from typing import Iterable, Sequence
 

@@ -1,7 +1,5 @@
 """Plans: the series of a tournament, cut from the matches of its seatings, and their command lines."""
 
-from __future__ import annotations
-
 import math
 import os
 import shlex

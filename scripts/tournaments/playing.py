@@ -1,7 +1,5 @@
 """Plays series: some children at a time, all of which end when the tournament does."""
 
-from __future__ import annotations
-
 import os
 import selectors
 import shlex

@@ -1,14 +1,12 @@
 """The program `crobots`: where it is, and the hash of its bytes, by which records name it."""
 
-from __future__ import annotations
-
 import contextlib
 import hashlib
 import os
 import shutil
 from dataclasses import dataclass
 
-from tools.faults import PROGRAM, Fault, unreadable
+from tools.faults import PROGRAM, Fault, reading
 from tools.programs import found, number, ours
 
 NAME = "crobots"
@@ -32,12 +30,10 @@ class Program:
 def program(given: str | None) -> Program:
     """The program that was given, the one on the path, or the one built or installed with this script."""
     path = found(NAME, given)
-    try:
+    with reading(path):
         before = stamp(path)
         with open(path, "rb") as file:
             chosen = Program(path, hashlib.file_digest(file, "sha256").hexdigest(), before)
-    except OSError as why:
-        unreadable(path, why)
     chosen.check()
     return chosen
 

@@ -1,7 +1,5 @@
 """Says how far a tournament is: in one line of a terminal, or by a line a minute."""
 
-from __future__ import annotations
-
 import os
 import time
 from typing import Callable

@@ -6,8 +6,6 @@ sum, whose skewness moves the interval (Johnson; in sparse fields on the short s
 matches are many (Student). A tenth of an upset that it may have had, but didn't, widens it: one of any of its pairs, and in a sparse field
 rather one of those that would move it most. What others' matches do adds by squares."""
 
-from __future__ import annotations
-
 import math
 from operator import mul
 from typing import Iterator, NamedTuple, Sequence

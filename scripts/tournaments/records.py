@@ -1,7 +1,5 @@
 """Records: what a series played, as one line with a checksum. A journal has one a series, and a plan's command line writes one."""
 
-from __future__ import annotations
-
 import functools
 import hashlib
 import itertools

@@ -1,7 +1,5 @@
 """Reads what `crobots` writes in a series: its reports and totals."""
 
-from __future__ import annotations
-
 import functools
 from collections import Counter
 from typing import Sequence

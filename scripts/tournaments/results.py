@@ -1,7 +1,5 @@
 """What a tournament comes to: its matches added up, and the forms that are written of it."""
 
-from __future__ import annotations
-
 import argparse
 import os
 from functools import cached_property
@@ -11,7 +9,7 @@ from results.standings import Standing
 from results.tallies import Tally
 from sites.publishing import published
 from sites.tournament_facts import facts_of_tournament, kept_sources
-from tools.faults import Fault, unwritable
+from tools.faults import Fault, writing
 from tools.output import say, show, write
 from tools.tables import comma_separated
 
@@ -69,7 +67,6 @@ class Results:
         for fault in faults[-1:]:
             raise fault
 
-
     def _tell_apart(self) -> None:
         """Says if there are robots whose ratings can't be compared."""
         many = len(parts((seats[0], other) for seats in self._tally.seatings for other in seats[1:]))
@@ -121,18 +118,13 @@ class Forms:
 
 def write_file(path: str, pieces: Iterable[str]) -> None:
     """Writes a text into a file."""
-    try:
-        with open(path, "wb") as file:
-            write(file.fileno(), pieces)
-    except OSError as why:
-        unwritable(path, why)
+    with writing(path), open(path, "wb") as file:
+        write(file.fileno(), pieces)
 
 
 def check_files(given: Sequence[tuple[str, str]]) -> None:
     """Refuses files that can't be written, before anything is played."""
     for _, path in given:
-        try:
+        with writing(path):
             if not os.path.exists(path) or os.path.isfile(path) or os.path.isdir(path):
                 os.close(os.open(path, os.O_WRONLY | os.O_CREAT | os.O_CLOEXEC, 0o666))
-        except OSError as why:
-            unwritable(path, why)

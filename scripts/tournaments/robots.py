@@ -3,8 +3,6 @@
 A file is read once, and what is compiled and played is a copy in a private folder, named by its hash: so a robot that is
 edited meanwhile changes nothing."""
 
-from __future__ import annotations
-
 import contextlib
 import hashlib
 import os
@@ -15,7 +13,7 @@ from collections import Counter
 from dataclasses import dataclass
 from typing import Iterable, Iterator
 
-from tools.faults import FAULTY, FILE, PROGRAM, Fault, plain, unreadable, unwritable
+from tools.faults import FAULTY, FILE, PROGRAM, Fault, plain, reading, writing
 from tools.output import tell
 from tools.programs import complaint
 from tools.signals import watch
@@ -35,10 +33,8 @@ class Robot:
 def private() -> Iterator[str]:
     """Makes a folder that nobody else can read, and removes it in the end."""
     with watch() as stop:
-        try:
+        with writing(tempfile.gettempdir()):
             folder = tempfile.mkdtemp(prefix="crobots-")
-        except OSError as why:
-            unwritable(tempfile.gettempdir(), why)
     try:
         stop.check()
         yield folder
@@ -62,11 +58,8 @@ def copied(paths: list[str], folder: str) -> list[Robot]:
 
 def copy(path: str, folder: str) -> Robot:
     """Reads a file, and copies it."""
-    try:
-        with open(path, "rb") as file:
-            source = file.read()
-    except OSError as why:
-        unreadable(path, why)
+    with reading(path), open(path, "rb") as file:
+        source = file.read()
     return laid(path, source, folder)
 
 
@@ -74,11 +67,8 @@ def laid(path: str, source: bytes, folder: str) -> Robot:
     """A robot with these bytes, which are put into a folder under their hash."""
     robot = Robot(path, hashlib.sha256(source).hexdigest())
     place = os.path.join(folder, robot.sha256)
-    try:
-        with open(place, "wb") as file:
-            file.write(source)
-    except OSError as why:
-        unwritable(place, why)
+    with writing(place), open(place, "wb") as file:
+        file.write(source)
     return robot
 
 

@@ -7,8 +7,6 @@ played in all its seatings, equally often: both orders of two robots, the rotati
 Each seating has a seed of its own, drawn from the tournament's seed and its robots: so matches are independent of each
 other, and those of a group don't depend on who else plays."""
 
-from __future__ import annotations
-
 import functools
 import hashlib
 from typing import NamedTuple, Sequence

@@ -1,11 +1,9 @@
 """A session: plays what the journal doesn't have, says how far it is, and ends when a signal asks for it."""
 
-from __future__ import annotations
-
 import argparse
-from contextlib import closing
+from contextlib import closing, contextmanager
 from functools import partial
-from typing import Callable, Iterator
+from typing import Callable, Iterable, Iterator
 
 from tools.output import say
 from tools.signals import Stopped, stopping, watch
@@ -52,16 +50,27 @@ def missing(plan: Plan, kept: Journal, add: Adds) -> Iterator[Record]:
 
 def play(player: Player, left: Iterator[Record], kept: Journal, add: Adds, progress: Progress) -> None:
     """Plays these series, or as many as a signal allows."""
+    with played_series(player, left, progress) as ended:
+        for record in ended:
+            kept.add(record)
+            add(record)
+
+
+@contextmanager
+def played_series(player: Player, left: Iterable[Record], progress: Progress) -> Iterator[Iterator[Record]]:
+    """The records of series as they end, until a signal asks for the end. Each is counted when it is dealt with."""
 
     def glance() -> None:
         stop.check()
         progress.glance()
 
-    with watch() as stop, closing(player.play(left, glance)) as ended:
+    def counted() -> Iterator[Record]:
         for record in ended:
-            kept.add(record)
-            add(record)
+            yield record
             progress.count(record.series.matches)
+
+    with watch() as stop, closing(player.play(left, glance)) as ended:
+        yield counted()
 
 
 def tell_rounded(given: argparse.Namespace, sizes: tuple[int, ...]) -> None:

@@ -1,7 +1,5 @@
 """The settings of a tournament: what its matches depend on beside the robots, and which groups it has."""
 
-from __future__ import annotations
-
 from dataclasses import dataclass
 from functools import cache, cached_property
 

@@ -1,11 +1,9 @@
 """A spool: the records of a tournament in a temporary file, so that memory doesn't grow with the matches."""
 
-from __future__ import annotations
-
 import tempfile
 from typing import Iterator
 
-from tools.faults import unwritable
+from tools.faults import writing
 
 from .records import Record, Series, played
 
@@ -22,10 +20,8 @@ class Spool:
         line = record.line().encode()
         self._places.append((record.series, self._end))
         self._end += len(line)
-        try:
+        with writing(tempfile.gettempdir()):
             self._file.write(line)
-        except OSError as why:
-            unwritable(tempfile.gettempdir(), why)
 
     def records(self) -> Iterator[Record]:
         for _, place in sorted(self._places, key=lambda entry: order(entry[0])):

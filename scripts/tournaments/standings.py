@@ -1,7 +1,5 @@
 """The standings: each robot's points and rating, in the order of a table."""
 
-from __future__ import annotations
-
 from dataclasses import dataclass
 from decimal import Decimal
 from functools import cache

@@ -5,8 +5,6 @@ Two of a hundred matches of each pair are imagined ties. So a robot that won all
 show is known of it as well. All pairs that have met count alike: each robot's expected shares add up to those that it has. The
 mean of all strengths is 0. The robots have to be connected: by pairs that have met each is led to each other one."""
 
-from __future__ import annotations
-
 import math
 from dataclasses import dataclass
 from typing import Sequence

@@ -2,8 +2,6 @@
 
 The last two are made piece by piece, since they have all matches."""
 
-from __future__ import annotations
-
 import json
 from typing import Any, Iterable, Iterator, Mapping
 

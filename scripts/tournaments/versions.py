@@ -2,8 +2,6 @@
 
 Robots are known by their positions: the newer version, the older one, and then the opponents."""
 
-from __future__ import annotations
-
 import argparse
 from decimal import Decimal
 from typing import Any, Collection, Sequence

@@ -1,7 +1,5 @@
 """The words of the command lines."""
 
-from __future__ import annotations
-
 import argparse
 import os
 import re
@@ -15,7 +13,6 @@ from tools.programs import number
 from tools.rules import (CYCLES_DEFAULT, MOST_CYCLES, MOST_MATCHES, MOST_PROFILE, MOST_ROBOTS, MOST_SEED, PROFILE_DEFAULT,
                          SEED_DEFAULT)
 from tools.words import PROFILE_HELP
-
 
 # How many robots a match of a tournament may have.
 SIZES = range(2, MOST_ROBOTS + 1)
@@ -47,13 +44,20 @@ def within(least: int, most: int) -> Callable[[str], int]:
     return read
 
 
+def fitting(form: str | re.Pattern[str], text: str, wrong: str) -> re.Match[str]:
+    """What all of a text has of a form; of another text it says what is wrong."""
+    found = re.fullmatch(form, text)
+    if not found:
+        raise argparse.ArgumentTypeError(f"'{text}' {wrong}")
+    return found
+
+
 def decimals(count: int) -> Callable[[str], list[Decimal]]:
     """Reads `count` numbers with commas between them, each with at most three digits after its point."""
 
     def read(text: str) -> list[Decimal]:
         one = r"[0-9]{1,6}(?:\.[0-9]{1,3})?"
-        if not re.fullmatch(",".join([one] * count), text):
-            raise argparse.ArgumentTypeError(f"'{text}' is not {count} numbers with commas between them")
+        fitting(",".join([one] * count), text, f"is not {count} numbers with commas between them")
         return [Decimal(part) for part in text.split(",")]
 
     return read
@@ -161,6 +165,12 @@ class Parser(argparse.ArgumentParser):
         """Takes `--version`, too."""
         self.add_argument("--version", action=Version, nargs=0, help="show the version and exit")
 
+    def add_forms(self, **forms: str) -> None:
+        """Takes at most one of these forms of the answer, which is a table else."""
+        group = self.add_mutually_exclusive_group()
+        for form, does in forms.items():
+            group.add_argument(f"--{form}", dest="form", action="store_const", const=form, default="table", help=f"print {does}")
+
     def error(self, message: str) -> NoReturn:
         raise Fault(message.replace(HIDDEN, ""))
 
@@ -203,10 +213,8 @@ def tournament(name: str) -> Parser:
     add("--plan", action="store_true", help="print the command lines of all series, one a line, and play nothing")
     add("--merge", action="store_true", help="read what such command lines wrote from files, or from standard input")
     add("--against", metavar="PLAN", help="with --merge: name the lines of the plan that are missing or twice")
-    forms = parser.add_mutually_exclusive_group()
-    for form, does in {"csv": "the table as comma-separated values", "matrix": "what each robot won, tied and lost against each other",
-                       "long": "comma-separated values, a row for each match and robot", "json": "everything as JSON"}.items():
-        forms.add_argument(f"--{form}", dest="form", action="store_const", const=form, default="table", help=f"print {does}")
+    parser.add_forms(csv="the table as comma-separated values", matrix="what each robot won, tied and lost against each other",
+                     long="comma-separated values, a row for each match and robot", json="everything as JSON")
     add("--write", metavar="FORM=FILE", type=target, action="append", default=[],
         help="write a form (table, csv, matrix, long, json) into a file, too; may be given often")
     add("--html", metavar="FOLDER", help="write a site into this folder: the table, pairs, robots and matches")
@@ -225,9 +233,7 @@ def challenge(name: str) -> Parser:
     add = parser.add_argument
     add("--old", metavar="OLD", required=True, help="the older version")
     add("--all", action="store_true", help="list all matches that changed, with the commands that show them")
-    forms = parser.add_mutually_exclusive_group()
-    for form, does in {"csv": "the rows as comma-separated values", "json": "everything as JSON"}.items():
-        forms.add_argument(f"--{form}", dest="form", action="store_const", const=form, default="table", help=f"print {does}")
+    parser.add_forms(csv="the rows as comma-separated values", json="everything as JSON")
     add("new", metavar="NEW", help="the newer version")
     add("field", metavar="ROBOT", nargs="+", help="the robots that they play against")
     return parser

@@ -1,7 +1,5 @@
 """Whom variants met, and what each of them did against each opponent."""
 
-from __future__ import annotations
-
 from dataclasses import dataclass
 from fractions import Fraction
 from typing import Any, Mapping
@@ -36,8 +34,8 @@ class Against:
 
 def distinct(games: Games) -> list[tuple[str, str, float]]:
     """The name, the hash and the weight of each opponent, by name. Of robots with equal bytes one stands for all."""
-    names = robots.names([it.robot.path for it in games.opponents])
-    named = {it.robot.sha256: name for name, it in zip(names, games.opponents)}
+    names = robots.names([opponent.robot.path for opponent in games.opponents])
+    named = {opponent.robot.sha256: name for name, opponent in zip(names, games.opponents)}
     weights = games.weights()
     return sorted((name, sha256, float(weights[sha256])) for sha256, name in named.items())
 

@@ -5,8 +5,6 @@ the middle, by ranks: so it doesn't matter how far apart the scores are, only wh
 takes much of the chance away. The steps follow from how the middle moves (Ros and Hansen, separable CMA-ES, 2008).
 All numbers go from 0 to 1 here."""
 
-from __future__ import annotations
-
 import math
 import random
 from typing import Sequence
@@ -38,8 +36,8 @@ class Evolution:
         """The weights of the better half, and how fast steps follow, as the literature has them."""
         half = self.count // 2
         raw = [math.log(half + 0.5) - math.log(at) for at in range(1, half + 1)]
-        self._weights = [it / sum(raw) for it in raw]
-        mass = 1 / sum(it**2 for it in self._weights)
+        self._weights = [part / sum(raw) for part in raw]
+        mass = 1 / sum(weight**2 for weight in self._weights)
         self._mass = mass
         self._of_size = (mass + 2) / (many + mass + 5)
         self._damping = 1 + 2 * max(0.0, math.sqrt((mass - 1) / (many + 1)) - 1) + self._of_size
@@ -54,11 +52,11 @@ class Evolution:
         self.points = []
         for _ in range(self.count // 2):
             way = [self._random.gauss(0, 1) for _ in self.middle]
-            self.points += [self._at(way), self._at([-it for it in way])]
+            self.points += [self._at(way), self._at([-part for part in way])]
         return self.points
 
     def _at(self, way: Sequence[float]) -> Point:
-        return tuple(mirrored(middle + self._size * scale * it) for middle, scale, it in zip(self.middle, self._scale, way))
+        return tuple(mirrored(middle + self._size * scale * part) for middle, scale, part in zip(self.middle, self._scale, way))
 
     def tell(self, scores: Sequence[float]) -> None:
         """Takes the scores of the points, of which a greater one is better."""
@@ -73,13 +71,13 @@ class Evolution:
     def _follow(self, moved: Sequence[float], ways: Sequence[Sequence[float]]) -> None:
         """Adapts the steps to how the middle moved."""
         size, path, mass = self._of_size, self._of_path, self._mass
-        self._turns = [(1 - size) * it + math.sqrt(size * (2 - size) * mass) * way / scale
-                       for it, way, scale in zip(self._turns, moved, self._scale)]
-        self._path = [(1 - path) * it + math.sqrt(path * (2 - path) * mass) * way for it, way in zip(self._path, moved)]
+        self._turns = [(1 - size) * turn + math.sqrt(size * (2 - size) * mass) * way / scale
+                       for turn, way, scale in zip(self._turns, moved, self._scale)]
+        self._path = [(1 - path) * old + math.sqrt(path * (2 - path) * mass) * way for old, way in zip(self._path, moved)]
         squares = [sum(weight * way[at] ** 2 for weight, way in zip(self._weights, ways)) for at in range(len(moved))]
         self._scale = [math.sqrt((1 - self._one - self._all) * scale**2 + self._one * way**2 + self._all * square)
                        for scale, way, square in zip(self._scale, self._path, squares)]
-        length = math.sqrt(sum(it**2 for it in self._turns))
+        length = math.sqrt(sum(turn**2 for turn in self._turns))
         self._size *= math.exp(min(1.0, size / self._damping * (length / self._length - 1)))
         self._size = min(max(self._size, LEAST_STEP / max(self._scale)), 1 / max(self._scale))
 

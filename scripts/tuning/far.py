@@ -1,7 +1,5 @@
 """How far a sweep or a search is: of all matches that it may have, and what is best so far."""
 
-from __future__ import annotations
-
 from tournaments.progress import Progress, duration
 
 

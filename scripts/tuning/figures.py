@@ -1,7 +1,5 @@
 """Points and their differences as they are written, everywhere alike: with three digits, and a zero without a sign."""
 
-from __future__ import annotations
-
 import math
 
 from tournaments.intervals import Mean

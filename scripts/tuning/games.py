@@ -2,8 +2,6 @@
 
 Each opponent has starts of its own, and in each seat all variants have the same: so they are compared in the same matches."""
 
-from __future__ import annotations
-
 import argparse
 import os
 from dataclasses import dataclass, field, replace
@@ -68,13 +66,13 @@ class Games:
 
     @property
     def today(self) -> Values:
-        return tuple(it.value for it in self.numbers)
+        return tuple(number.value for number in self.numbers)
 
     def weights(self, among: Sequence[Opponent] | None = None) -> Mapping[str, Fraction]:
         """What each opponent weighs, by its hash."""
         found: dict[str, Fraction] = {}
-        for it in self.opponents if among is None else among:
-            found[it.robot.sha256] = found.get(it.robot.sha256, Fraction(0)) + it.weight
+        for opponent in self.opponents if among is None else among:
+            found[opponent.robot.sha256] = found.get(opponent.robot.sha256, Fraction(0)) + opponent.weight
         return found
 
     def variant(self, values: Values) -> Robot:
@@ -87,7 +85,7 @@ class Games:
     def play(self, several: Sequence[Values], starts: Starts, stretch: Stretch, among: Sequence[Opponent] | None = None) -> None:
         """Plays these variants against the opponents, or some of them, in a stretch of matches from these starts."""
         plan = self.plan(several, starts, stretch, self.opponents if among is None else among)
-        hashes = {self.variant(it).sha256 for it in several}
+        hashes = {self.variant(values).sha256 for values in several}
 
         def add(record: Record) -> None:
             self.scores.add(record, hashes)
@@ -102,10 +100,10 @@ class Games:
     def plan(self, several: Sequence[Values], starts: Starts, stretch: Stretch, among: Sequence[Opponent]) -> Plan:
         """All series of these matches."""
         variants = list({robot.sha256: robot for robot in map(self.variant, several)}.values())
-        others = list({it.robot.sha256: it.robot for it in among}.values())
+        others = list({opponent.robot.sha256: opponent.robot for opponent in among}.values())
         settings = replace(self.settings, robots=len(variants) + len(others))
-        only = tuple(series_of(len(variants), keys([it.sha256 for it in others]), starts, stretch))
-        most = max(1, -(-sum(it.matches for it in only) // (PARTS * self.given.jobs)))
+        only = tuple(series_of(len(variants), keys([robot.sha256 for robot in others]), starts, stretch))
+        most = max(1, -(-sum(series.matches for series in only) // (PARTS * self.given.jobs)))
         return Plan(settings, [*variants, *others], most, only)
 
 
@@ -124,7 +122,7 @@ def matches_of(stretch: Stretch, variants: int, others: int) -> int:
 
 def named(numbers: Sequence[Number], values: Values, between: str = ", ") -> str:
     """Values with the names of their numbers."""
-    return between.join(f"{it.name}={value}" for it, value in zip(numbers, values))
+    return between.join(f"{number.name}={value}" for number, value in zip(numbers, values))
 
 
 def readable(path: str) -> str:

@@ -1,7 +1,5 @@
 """What a search found is judged by matches that it has never seen."""
 
-from __future__ import annotations
-
 from dataclasses import dataclass
 from typing import Iterator
 
@@ -13,7 +11,6 @@ from .breakdowns import listed
 from .games import Games, Starts, Stretch, Values
 from .sweeps import Row, row
 from .verdicts import BETTER, levels
-
 
 # The judgement has this part of the budget besides, if no number of matches was given.
 PART = 0.1

@@ -1,13 +1,12 @@
 """The script `tune`: reads a robot, sweeps or tunes its numbers, and says what they are worth."""
 
-from __future__ import annotations
-
 import argparse
 import os
 import shlex
 import shutil
 import sys
 from functools import partial
+from pathlib import Path
 from typing import Iterable, Sequence
 
 from tools.faults import Fault
@@ -34,11 +33,11 @@ SWEPT = 2
 
 def chosen(given: argparse.Namespace, found: list[Number], there: str) -> list[Number]:
     """The numbers that are meant. If there is none, it says which constants are there."""
-    names = [it.name for it in found]
+    names = [number.name for number in found]
     strange = [name for name in given.only if name not in names]
     if strange:
         raise Fault(f"{given.robot} has no number {strange[0]}; it has {', '.join(names) or 'none'}")
-    them = [it for it in found if not given.only or it.name in given.only]
+    them = [number for number in found if not given.only or number.name in given.only]
     if not them:
         raise Fault(f"{given.robot} has no marked number; a mark is a comment as /* tune 100..900 */ behind it, or --number gives one by its place: {there}")
     if given.sweep and len(them) > SWEPT:
@@ -50,10 +49,9 @@ def prepared(given: argparse.Namespace, folder: str, kept: Journal, program: pro
     """All that is needed to play: the robot, its numbers, its opponents, and those of the judgement. All compile."""
     robot, = robots.copied([given.robot], folder)
     others = opponents(given.field, given.league, given.weight, folder, given.level)
-    robots.compiled(program, given.profile, [robot, *(it.robot for it in others)], folder)
+    robots.compiled(program, given.profile, [robot, *(opponent.robot for opponent in others)], folder)
     place = os.path.join(folder, robot.sha256)
-    with open(place, "rb") as file:
-        source = file.read()
+    source = Path(place).read_bytes()
     seen = tokens(place, given.robot, source, given.profile, given.stages)
     found = numbers(source, seen, given.robot, given.number)
     itself = Itself(robot.sha256, but_numbers(source, found))
@@ -87,7 +85,7 @@ def judges(given: argparse.Namespace, others: Sequence[Opponent], itself: Itself
     if not given.judge:
         return others
     found = met(given, opponents(given.judge, None, [], folder), itself, folder)
-    robots.compiled(program, given.profile, [it.robot for it in found], folder)
+    robots.compiled(program, given.profile, [opponent.robot for opponent in found], folder)
     return found
 
 
@@ -110,15 +108,15 @@ def limited(games: Games) -> list[str]:
 def plan(games: Games, program: programs.Program) -> None:
     """Prints the command lines of a sweep."""
     given = games.given
-    it = games.plan(sweeps.swept(games), Starts(given.seed, CHALLENGER), Stretch(1, rounded(given.matches, 2) // 2), games.opponents)
-    most = min(it.most, plans.one_write(it.settings, it.robots))
-    files = [robot if os.path.exists(robot.path) else robot.__class__(os.path.join(games.folder, robot.sha256), robot.sha256) for robot in it.robots]
-    show(plans.lines(plans.Plan(it.settings, files, most, it.only), program.path))
+    planned = games.plan(sweeps.swept(games), Starts(given.seed, CHALLENGER), Stretch(1, rounded(given.matches, 2) // 2), games.opponents)
+    most = min(planned.most, plans.one_write(planned.settings, planned.robots))
+    files = [robot if os.path.exists(robot.path) else robot.__class__(os.path.join(games.folder, robot.sha256), robot.sha256) for robot in planned.robots]
+    show(plans.lines(plans.Plan(planned.settings, files, most, planned.only), program.path))
 
 
 def is_known(games: Games) -> bool:
     """Whether the judgement meets nobody that the search hasn't met, and the search nobody else."""
-    searched, judging_ones = ({it.robot.sha256 for it in them} for them in (games.opponents, games.judges))
+    searched, judging_ones = ({opponent.robot.sha256 for opponent in them} for them in (games.opponents, games.judges))
     return judging_ones <= searched and not games.given.against_itself
 
 
@@ -130,16 +128,16 @@ def tune(games: Games) -> None:
     if not given.has_matches:
         given.matches = max(given.matches, judging.matches_of_budget(given.budget, len(games.judges)))
     each = rounded(given.matches, 2) // 2
-    judged = matches_of(Stretch(1, each), 2, len(games.weights(games.judges)))
-    games.progress.begin("search", given.budget, judged, 60 * given.minutes if given.minutes else None, is_most=True)
+    most = matches_of(Stretch(1, each), 2, len(games.weights(games.judges)))
+    games.progress.begin("search", given.budget, most, 60 * given.minutes if given.minutes else None, is_most=True)
     values = Search(games).run()
     games.opponents = games.judges
-    games.progress.begin("judgement", judged, is_most=True)
-    it = judging.judge(games, values, each)
+    games.progress.begin("judgement", most, is_most=True)
+    judged = judging.judge(games, values, each)
     games.progress.clear()
-    tuned = changed(games.source, games.numbers, it.tuned.values) if it.is_better else None
-    outputs.answer([tables.of_tuning(games, it, given.form), *([*judging.said(games, it), *limited(games)] if given.form == "table" else ())], given.output, tuned)
-    show(written(given.output, it.is_better) if given.form == "table" else ())
+    tuned = changed(games.source, games.numbers, judged.tuned.values) if judged.is_better else None
+    outputs.answer([tables.of_tuning(games, judged, given.form), *([*judging.said(games, judged), *limited(games)] if given.form == "table" else ())], given.output, tuned)
+    show(written(given.output, judged.is_better) if given.form == "table" else ())
 
 
 def written(output: str | None, is_better: bool) -> list[str]:

@@ -4,8 +4,7 @@ The proved lexer says where constants stand. Between a token and the next one ar
 a mark is looked for: `/* tune 100..900 */`, which may go on with `step 50` and with `name near`. A comment behind a number that is
 nearly a mark is refused, since it was hardly meant as anything else."""
 
-from __future__ import annotations
-
+import itertools
 import re
 from dataclasses import dataclass
 from typing import Iterator, NamedTuple, Sequence
@@ -68,7 +67,7 @@ class Range:
         step = self.step or 1
         most = (self.high - self.low) // step
         below = self.low + min(max(round((value - self.low) / step), 0), most) * step
-        return min(below, self.high, key=lambda it: abs(it - value))
+        return min(below, self.high, key=lambda other: abs(other - value))
 
 
 @dataclass(frozen=True)
@@ -88,12 +87,8 @@ class Number:
 
 def coarse(width: int, many: int) -> int:
     """The next of 1, 2, 5, 10, 20, .. by which a width has at most so many steps."""
-    power = 1
-    while True:
-        for factor in (1, 2, 5):
-            if factor * power * many >= width:
-                return factor * power
-        power *= 10
+    steps: Iterator[int] = (factor * 10**power for power in itertools.count() for factor in (1, 2, 5))
+    return next(step for step in steps if step * many >= width)
 
 
 def tokens(path: str, shown: str, source: bytes, profile: int, program: str | None = None) -> list[Token]:
@@ -122,13 +117,13 @@ def tokens(path: str, shown: str, source: bytes, profile: int, program: str | No
 def numbers(source: bytes, found: Sequence[Token], shown: str, given: Sequence[tuple[Place, Range]] = ()) -> list[Number]:
     """The numbers of a source that have a mark, or are given with their place, in their order."""
     ranges = {token: text_range(text, at, shown) for token, text, at in marked(source, found, shown)}
-    by_place = {it.place: it for it in found if it.kind == "constant"}
+    by_place = {token.place: token for token in found if token.kind == "constant"}
     for place, several in given:
         token = by_place.get(place)
         if token is None:
             raise Fault(f"{plain(shown)}:{place}: no number stands there; on that line {constants(source, found, place.line)}")
         ranges[token] = several
-    them = [number(source, token, ranges[token], shown) for token in sorted(ranges, key=lambda it: it.begin)]
+    them = [number(source, token, ranges[token], shown) for token in sorted(ranges, key=lambda token: token.begin)]
     check_names(them, shown)
     return them
 
@@ -136,15 +131,15 @@ def numbers(source: bytes, found: Sequence[Token], shown: str, given: Sequence[t
 def check_names(them: Sequence[Number], shown: str) -> None:
     """Refuses a name that two numbers have."""
     first: dict[str, Place] = {}
-    for it in them:
-        if it.name in first:
-            raise Fault(f"{plain(shown)}:{it.place}: the number at {first[it.name]} has the name {it.name}, too")
-        first[it.name] = it.place
+    for constant in them:
+        if constant.name in first:
+            raise Fault(f"{plain(shown)}:{constant.place}: the number at {first[constant.name]} has the name {constant.name}, too")
+        first[constant.name] = constant.place
 
 
 def constants(source: bytes, found: Sequence[Token], line: int | None = None) -> str:
     """Which constants a source has, or a line of it: where they stand, and what they are."""
-    them = [f"{it.place} is {source[it.begin:it.end].decode('ascii')}" for it in found if it.kind == "constant" and line in (None, it.place.line)]
+    them = [f"{token.place} is {source[token.begin:token.end].decode('ascii')}" for token in found if token.kind == "constant" and line in (None, token.place.line)]
     more = f", and {len(them) - TOLD} more" if len(them) > TOLD else ""
     return ", ".join(them[:TOLD]) + more if them else "there is none"
 
@@ -239,13 +234,13 @@ def bare(source: bytes) -> bytes:
 
 def but_numbers(source: bytes, them: Sequence[Number]) -> re.Pattern[bytes]:
     """What a bare source has but for the digits of these numbers, which may be others."""
-    ends = [0, *(end for it in them for end in (it.begin, it.end)), len(source)]
+    ends = [0, *(end for constant in them for end in (constant.begin, constant.end)), len(source)]
     return re.compile(b"[0-9]+".join(re.escape(bare(source[begin:end])) for begin, end in zip(ends[::2], ends[1::2])))
 
 
 def changed(source: bytes, them: Sequence[Number], values: Sequence[int]) -> bytes:
     """The source with other values: only the bytes of these numbers change. One that keeps its value keeps its digits."""
-    for it, value in reversed([*zip(them, values)]):
-        if value != it.value:
-            source = source[:it.begin] + str(value).encode("ascii") + source[it.end:]
+    for constant, value in reversed([*zip(them, values)]):
+        if value != constant.value:
+            source = source[:constant.begin] + str(value).encode("ascii") + source[constant.end:]
     return source

@@ -1,15 +1,14 @@
 """Whom a robot is tuned against: files, folders, samples of a level, and the best robots of a league, each with a weight; never itself."""
 
-from __future__ import annotations
-
 import importlib
 import os
 import re
 from dataclasses import dataclass
 from fractions import Fraction
+from pathlib import Path
 from typing import Callable, Iterable, Sequence
 
-from tools.faults import Fault, unreadable
+from tools.faults import Fault, reading
 from tools.samples import of_level
 from tournaments import robots
 from tournaments.robots import Robot
@@ -44,8 +43,7 @@ class Itself:
     def has_copy(self, other: Opponent, folder: str) -> bool:
         """Whether an opponent, whose bytes the folder has, is the robot with other numbers or comments: the one without marks, an earlier
         copy, or what a search wrote."""
-        with open(os.path.join(folder, other.robot.sha256), "rb") as file:
-            return bool(self.but_numbers.fullmatch(bare(file.read())))
+        return bool(self.but_numbers.fullmatch(bare(Path(folder, other.robot.sha256).read_bytes())))
 
 
 @dataclass(frozen=True)
@@ -67,7 +65,7 @@ class Level:
 def opponents(paths: Sequence[str], league: League | None, weights: Sequence[tuple[str, Fraction]], folder: str,
               levels: Sequence[Level] = ()) -> list[Opponent]:
     """The robots of these words, copied into a folder, in an order that doesn't depend on that of the words."""
-    samples = {path: it.weight for it in levels for path in of_level(it.number)}
+    samples = {path: level.weight for level in levels for path in of_level(level.number)}
     files = [*(file for path in paths for file in robots_of(path)), *samples]
     found = robots.copied(files, folder) + (of_league(league, folder) if league else [])
     unused = {path for path, _ in weights}
@@ -78,7 +76,7 @@ def opponents(paths: Sequence[str], league: League | None, weights: Sequence[tup
         them.append(Opponent(robot, weight, robot.path in paths))
     if unused:
         raise Fault(f"--weight names {min(unused)}, which isn't played against")
-    return [it for it in them if it.weight]
+    return [opponent for opponent in them if opponent.weight]
 
 
 def without(found: Sequence[Opponent], itself: Itself, folder: str) -> tuple[list[Opponent], list[str]]:
@@ -96,10 +94,8 @@ def robots_of(path: str) -> list[str]:
     """A file, or the robots of a folder: its files that end with '.r'."""
     if not os.path.isdir(path):
         return [path]
-    try:
+    with reading(path):
         found = sorted(os.path.join(path, name) for name in os.listdir(path) if name.endswith(".r"))
-    except OSError as why:
-        unreadable(path, why)
     if not found:
         raise Fault(f"{path} has no robots, whose names end with '.r'")
     return found

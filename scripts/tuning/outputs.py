@@ -1,14 +1,12 @@
 """The file that `-o` names: the tuned robot, or the picture of a sweep. What can be known of it beforehand is refused beforehand."""
 
-from __future__ import annotations
-
 import contextlib
 import errno
 import os
 import tempfile
 from typing import Iterable, Sequence
 
-from tools.faults import Fault, unreadable, unwritable
+from tools.faults import Fault, reading, writing
 from tools.output import replaced, show, written_over
 
 ROBOT, PICTURE = ".r", ".svg"
@@ -42,17 +40,14 @@ def check_content(path: str, is_picture: bool) -> None:
 
 def is_svg(path: str) -> bool:
     """Whether a file is a picture, by its beginning."""
-    try:
-        with open(path, "rb") as file:
-            head = file.read(HEAD).removeprefix(b"\xef\xbb\xbf").lstrip()
-    except OSError as why:
-        unreadable(path, why)
+    with reading(path), open(path, "rb") as file:
+        head = file.read(HEAD).removeprefix(b"\xef\xbb\xbf").lstrip()
     return head.startswith(b"<") and b"<svg" in head
 
 
 def check_folder(path: str) -> None:
     """Refuses a file that can't be written: a folder, one in a folder that isn't there or takes no file, a device that is closed to us."""
-    try:
+    with writing(path):
         if os.path.isdir(path):
             raise OSError(errno.EISDIR, os.strerror(errno.EISDIR))
         if is_replaced(path):
@@ -60,8 +55,6 @@ def check_folder(path: str) -> None:
                 return
         if not os.access(path, os.W_OK):
             raise OSError(errno.EACCES, os.strerror(errno.EACCES))
-    except OSError as why:
-        unwritable(path, why)
 
 
 def is_replaced(path: str) -> bool:
@@ -71,14 +64,12 @@ def is_replaced(path: str) -> bool:
 
 def write(path: str, text: bytes) -> None:
     """Writes a file in one piece, with the mode of the one that was there; a device as it is. A link stays."""
-    try:
+    with writing(path):
         if is_replaced(path):
             replaced(os.path.realpath(path), text, os.stat(path).st_mode & 0o777 if os.path.exists(path) else 0o644)
             return
         with open(path, "wb") as device:
             device.write(text)
-    except OSError as why:
-        unwritable(path, why)
 
 
 def answer(pieces: Sequence[str], path: str | None, text: bytes | None) -> None:

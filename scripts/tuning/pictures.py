@@ -1,7 +1,5 @@
 """A sweep as a picture: points over the values with the interval of each change, or a map of two numbers. It stands alone, as SVG."""
 
-from __future__ import annotations
-
 import math
 from typing import Sequence
 
@@ -152,4 +150,4 @@ def heat(games: Games, rows: Sequence[Row]) -> Markup:
 def shade(part: float) -> str:
     """A colour from red by white to blue, of -1 to 1."""
     end = (59, 111, 182) if part > 0 else (179, 38, 30)
-    return "#" + "".join(f"{round(255 + (it - 255) * min(abs(part), 1) * 0.75):02x}" for it in end)
+    return "#" + "".join(f"{round(255 + (colour - 255) * min(abs(part), 1) * 0.75):02x}" for colour in end)

@@ -3,8 +3,6 @@
 Variants play an opponent in the same seats from the same starts, so the differences of two matches with one seat and number are
 independent of each other."""
 
-from __future__ import annotations
-
 import statistics
 from collections import defaultdict
 from dataclasses import dataclass, field
@@ -37,7 +35,7 @@ class Scores:
 
     def add(self, record: Record, variants: Collection[str]) -> None:
         """Adds the matches of a series between a variant and an opponent."""
-        first, second = (it.sha256 for it in record.robots)
+        first, second = (robot.sha256 for robot in record.robots)
         seat = 0 if record.series.seats[0] < record.series.seats[1] else 1
         variant, other = (first, second) if seat == 0 else (second, first)
         assert variant in variants
@@ -59,13 +57,13 @@ class Scores:
 
     def points(self, variant: str, weights: Mapping[str, Fraction], level: float = LEVEL) -> Mean:
         """The points a match of a variant with their interval, which has nothing that no match can be worth."""
-        it = mean([[*self.of[variant, other].values()] for other in weights], [*map(float, weights.values())], self._most, level)
-        return Mean(it.value, max(it.low, 0.0), min(it.high, self._most))
+        found = mean([[*self.of[variant, other].values()] for other in weights], [*map(float, weights.values())], self._most, level)
+        return Mean(found.value, max(found.low, 0.0), min(found.high, self._most))
 
     def change(self, one: str, two: str, weights: Mapping[str, Fraction], level: float = LEVEL) -> Mean:
         """How many points a match one variant has more than the other, with what one match more or less of the most points would do."""
-        it = mean([self.differences(one, two, other) for other in weights], [*map(float, weights.values())], self._most, level)
-        return Mean(it.value, max(it.low, -self._most), min(it.high, self._most))
+        found = mean([self.differences(one, two, other) for other in weights], [*map(float, weights.values())], self._most, level)
+        return Mean(found.value, max(found.low, -self._most), min(found.high, self._most))
 
     @property
     def _most(self) -> float:

@@ -4,8 +4,6 @@ Where an evolution begins matters: a number that does nothing up to a threshold 
 So the first races look everywhere, each with a part of the budget. What an evolution comes to is a mean of places that had few matches
 each; the last race tells whether it is better than where it began, and than today's values."""
 
-from __future__ import annotations
-
 import random
 import statistics
 import time
@@ -35,12 +33,12 @@ EACH = 0.1
 
 def point_of(numbers: Sequence[Number], values: Values) -> Point:
     """Where values are in their ranges, from 0 to 1."""
-    return tuple((value - it.range.low) / (it.range.high - it.range.low) for it, value in zip(numbers, values))
+    return tuple((value - number.range.low) / (number.range.high - number.range.low) for number, value in zip(numbers, values))
 
 
 def values_of(numbers: Sequence[Number], point: Point) -> Values:
     """The values that are nearest to a point. What is next to today's value is today's: it may stand between two steps."""
-    return tuple(it.range.nearest(it.range.low + part * (it.range.high - it.range.low)) for it, part in zip(numbers, point))
+    return tuple(number.range.nearest(number.range.low + part * (number.range.high - number.range.low)) for number, part in zip(numbers, point))
 
 
 def spread(count: int, axes: int, seed: int) -> list[Point]:
@@ -86,13 +84,13 @@ class Search:
         while many < MOST_PLACES and 2 * many * many.bit_length() * each <= self._left(SPREAD):
             many *= 2
         points = spread(many - 1, len(games.numbers), games.given.seed)
-        return [games.today, *(values_of(games.numbers, it) for it in points)]
+        return [games.today, *(values_of(games.numbers, point) for point in points)]
 
     def _along(self, values: Values) -> Values:
         """The best values that differ from these in one number after the other."""
         numbers = self._games.numbers
-        for axis, it in enumerate(numbers):
-            several = [it.range.nearest(it.range.low + (at + 0.5) / VALUES * (it.range.high - it.range.low)) for at in range(VALUES)]
+        for axis, number in enumerate(numbers):
+            several = [number.range.nearest(number.range.low + (at + 0.5) / VALUES * (number.range.high - number.range.low)) for at in range(VALUES)]
             places = [values, *((*values[:axis], value, *values[axis + 1:]) for value in several)]
             values = self._race(places, SPREAD + (ALONG - SPREAD) * (axis + 1) / len(numbers))
         return values
@@ -106,25 +104,25 @@ class Search:
             if not each:
                 break
             worth = self._worth(left, each)
-            left = sorted(left, key=lambda it: -worth[it])[:len(left) // 2]
+            left = sorted(left, key=lambda place: -worth[place])[:len(left) // 2]
             self._tell(left[0])
         return left[0]
 
     def _evolved(self, begin: Values) -> Values:
         """What an evolution comes to, from these values on."""
         games = self._games
-        it = Evolution(point_of(games.numbers, begin), games.given.seed)
-        most = min(games.given.round, self._left(EVOLVED) // (ROUNDS * it.count))
-        middles, found = [it.middle], begin
+        evolution = Evolution(point_of(games.numbers, begin), games.given.seed)
+        most = min(games.given.round, self._left(EVOLVED) // (ROUNDS * evolution.count))
+        middles, found = [evolution.middle], begin
         while True:
             each = max(1, most // (2 * len(self._among)))
-            if matches_of(Stretch(0, each), it.count, len(self._among)) > self._left(EVOLVED):
+            if matches_of(Stretch(0, each), evolution.count, len(self._among)) > self._left(EVOLVED):
                 return found
-            several = [values_of(games.numbers, point) for point in it.ask()]
+            several = [values_of(games.numbers, point) for point in evolution.ask()]
             games.scores.clear()
             worth = self._worth(several, each)
-            it.tell([worth[values] for values in several])
-            middles.append(it.middle)
+            evolution.tell([worth[values] for values in several])
+            middles.append(evolution.middle)
             found = values_of(games.numbers, mean_point(middles[-max(1, round(TAIL * len(middles))):]))
             if self._tell(found):
                 self._meet(found)
@@ -136,7 +134,7 @@ class Search:
         self._number += each
         weights = games.weights(among)
         self._played += matches_of(Stretch(0, each), len({*several}), len(weights))
-        return {it: games.scores.mean(games.variant(it).sha256, weights) for it in several}
+        return {values: games.scores.mean(games.variant(values).sha256, weights) for values in several}
 
     def _tell(self, found: Values) -> bool:
         """Takes what is best so far, and says how far the search is, if it is time; reports whether it was."""
@@ -153,7 +151,7 @@ class Search:
         games = self._games
         if games.given.against_itself:
             versions = [games.today, found] if not self._own else [found]
-            self._own = [*self._own, *(Opponent(games.variant(it)) for it in versions)][-OWN:]
+            self._own = [*self._own, *(Opponent(games.variant(values)) for values in versions)][-OWN:]
 
 
 def halvings(left: Sequence[Values]) -> int:

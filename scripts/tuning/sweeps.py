@@ -3,8 +3,6 @@
 It is played in rounds, each of which has as many matches as all before it. Under `--until sure` a value that is surely worse, than
 today's or than the best one so far, has no more of them."""
 
-from __future__ import annotations
-
 from dataclasses import dataclass
 from itertools import product
 from typing import Iterator, Sequence
@@ -125,7 +123,7 @@ class Sweep:
 def swept(games: Games) -> list[Values]:
     """The values of a sweep in their order."""
     many = {1: 20, 2: OF_TWO}[len(games.numbers)]
-    return [*product(*(it.range.values(it.value, many) for it in games.numbers))]
+    return [*product(*(number.range.values(number.value, many) for number in games.numbers))]
 
 
 def sweep(games: Games, starts: Starts, each: int, until_sure: bool) -> list[Row]:

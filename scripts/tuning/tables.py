@@ -1,7 +1,5 @@
 """The forms of an answer: columns, comma-separated values, JSON. Each says against whom."""
 
-from __future__ import annotations
-
 import json
 from dataclasses import replace
 from typing import Any, Iterator, Sequence
@@ -106,7 +104,7 @@ def legend(games: Games, rows: Sequence[Row], what: str) -> str:
 def of_data(games: Games, more: dict[str, Any]) -> str:
     """An answer as JSON: the robot, whom it met, and more."""
     against = [{"robot": name, "weight": weight} for name, _, weight in distinct(games)]
-    numbers = [number(it) for it in numbers_of(games)]
+    numbers = [number(row) for row in numbers_of(games)]
     return json.dumps({"robot": games.name, "against": against, "numbers": numbers, **more}, indent=1) + "\n"
 
 
@@ -124,7 +122,7 @@ def of_change(row: Row) -> dict[str, Any]:
 def of_judged(games: Games, judged: Judged) -> dict[str, Any]:
     """What a search came to, as data."""
     tuned = judged.tuned
-    them = [{**number(it), "tuned": value} for it, value in zip(numbers_of(games), tuned.values)]
+    them = [{**number(row), "tuned": value} for row, value in zip(numbers_of(games), tuned.values)]
     return {"numbers": them, "points": tuned.points.value, "before": judged.today.points.value, **of_change(tuned), "better": judged.is_better,
             **by_opponent_of(tuned)}
 
@@ -135,8 +133,8 @@ def by_opponent_of(row: Row) -> dict[str, Any]:
 
 
 def numbers_of(games: Games) -> list[tuple[str, int, int, int, int, int]]:
-    return [(it.name, it.place.line, it.place.column, it.range.low, it.range.high, it.value) for it in games.numbers]
+    return [(one.name, one.place.line, one.place.column, one.range.low, one.range.high, one.value) for one in games.numbers]
 
 
-def number(it: tuple[str, int, int, int, int, int]) -> dict[str, Any]:
-    return dict(zip(("name", "line", "column", "low", "high", "today"), it))
+def number(row: tuple[str, int, int, int, int, int]) -> dict[str, Any]:
+    return dict(zip(("name", "line", "column", "low", "high", "today"), row))

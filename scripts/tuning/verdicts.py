@@ -3,8 +3,6 @@
 Such an interval is so wide that those of all values hold at once, at each look that is taken at them: so whichever of them a reader
 picks, and whenever matches end, a claim is wrong in at most 1 of 100 sweeps."""
 
-from __future__ import annotations
-
 from dataclasses import dataclass
 
 from tournaments.intervals import Mean

@@ -3,8 +3,6 @@ taken, and blocks begin where others codes are better. It takes some seconds for
 
 What zlib makes depends on its version, and programs that deflate well aren't everywhere: the page's bytes are to be the same."""
 
-from __future__ import annotations
-
 import heapq
 import math
 from collections import Counter

@@ -1,12 +1,11 @@
 """Makes what the page says of the language: the manual's own text, the thirteen functions with an example each, and the
 five steps with which one begins."""
 
-from __future__ import annotations
-
 import glob
 import html
 import os
 import re
+from pathlib import Path
 from typing import Any
 
 from .manuals import Page, summary
@@ -18,8 +17,7 @@ STEP = re.compile(r"/\* (?P<title>[^\n]*)\n(?P<text>.*?)\s*Against (?P<against>\
 
 def text_of(*path: str) -> str:
     """The text of a file."""
-    with open(os.path.join(*path), encoding="utf-8") as file:
-        return file.read()
+    return Path(*path).read_text(encoding="utf-8")
 
 
 def examples(web: str) -> dict[str, str]:

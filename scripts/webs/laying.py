@@ -1,7 +1,5 @@
 """Lays the page into its folder: its modules as scripts, what it is built with as another one, the editor, pages, and a zip."""
 
-from __future__ import annotations
-
 import base64
 import contextlib
 import glob
@@ -13,6 +11,7 @@ import re
 import shutil
 import subprocess
 import zipfile
+from pathlib import Path
 from string import Template
 
 from catalog.rules import diagnostics
@@ -79,30 +78,16 @@ def small(script: str) -> str:
     return renamed(short(script))
 
 
-def data_of(module: str, manual: Page) -> dict[str, object]:
+def data_of(module: bytes, manual: Page) -> dict[str, object]:
     """What the page is built with."""
-    with open(module, "rb") as file:
-        coded = packed(file.read())
     return {"robots": samples(), "steps": steps(WEB), "functions": functions(manual), "editor": os.path.isdir(EDITOR),
-            "player": put_together(player(), short_style(style_of_page())), "worker": small(scripts()["worker"]), "module": coded}
+            "player": put_together(player(), short_style(style_of_page())), "worker": small(scripts()["worker"]), "module": packed(module)}
 
 
-def data_script(data: dict[str, object]) -> str:
-    """What the page is built with, as a script."""
-    return f"globalThis.CROBOTS={json.dumps(data, separators=(',', ':'))};\n"
-
-
-def page_script() -> str:
-    """The page's script: a function whose text can be looked at before it is called; it answers what the page exports."""
-    return small(scripts()["page"])
-
-
-def start_script(data: dict[str, object], page: str, module: str) -> str:
+def start_script(data: dict[str, object], page: str, module: bytes) -> str:
     """The script that starts the page, with the SHA-256 of what it looks at: the data as JSON, the function's text, the module."""
-    with open(module, "rb") as file:
-        bytes_of_module = file.read()
     function = page.strip().removeprefix("globalThis.CROBOTS_PAGE=").removesuffix(";")
-    parts = {"data": json.dumps(data, ensure_ascii=False, separators=(",", ":")).encode(), "page": function.encode(), "module": bytes_of_module}
+    parts = {"data": json.dumps(data, ensure_ascii=False, separators=(",", ":")).encode(), "page": function.encode(), "module": module}
     text = scripts()["start"]
     for name, part in parts.items():
         assert text.count(f'"${name}"') == 1, name
@@ -159,20 +144,17 @@ def licence() -> str:
     return next((name for name in LICENCES if os.path.isfile(os.path.join(TOP, name))), "")
 
 
-def about(module: str) -> str:
+def about(module: bytes) -> str:
     """The page on what this is."""
-    with open(module, "rb") as file:
-        data = file.read()
     name = licence()
     text = f'The licence is in the file <a href="{name}.txt">{name}</a>.' if name else "The sources state no licence."
     return Template(text_of(WEB, "about.html")).substitute(
-        version=html.escape(version()), hash=hashlib.sha256(data).hexdigest(), bytes=f"{len(data):,}", licence=text)
+        version=html.escape(version()), hash=hashlib.sha256(module).hexdigest(), bytes=f"{len(module):,}", licence=text)
 
 
 def put(folder: str, name: str, text: str) -> None:
     """Writes a file of the page."""
-    with open(os.path.join(folder, name), "w", encoding="utf-8") as file:
-        file.write(text)
+    Path(folder, name).write_text(text, encoding="utf-8")
 
 
 def lay_editor(folder: str) -> None:
@@ -192,7 +174,8 @@ def lay(folder: str, module: str) -> None:
     put(folder, "index.html", index(manuals[0]))
     put(folder, "embed.html", Template(text_of(WEB, "embed.html")).substitute(policy=policy()))
     put(folder, "manual.html", Template(text_of(WEB, "manual.html")).substitute(text=whole(manuals)))
-    put(folder, "about.html", about(module))
+    content = Path(module).read_bytes()
+    put(folder, "about.html", about(content))
     os.makedirs(os.path.join(folder, "pages"))
     for name, text in pages(TOP, WEB).items():
         put(os.path.join(folder, "pages"), name, text)
@@ -200,10 +183,11 @@ def lay(folder: str, module: str) -> None:
         put(folder, name, short_style(text_of(WEB, name)))
     if licence():
         shutil.copy(os.path.join(TOP, licence()), os.path.join(folder, f"{licence()}.txt"))
-    data, page = data_of(module, manuals[0]), page_script()
+    # a function whose text can be looked at before it is called; it answers what the page exports
+    data, page = data_of(content, manuals[0]), small(scripts()["page"])
     put(folder, "page.js", page)
-    put(folder, "data.js", data_script(data))
-    put(folder, "start.js", start_script(data, page, module))
+    put(folder, "data.js", f"globalThis.CROBOTS={json.dumps(data, separators=(',', ':'))};\n")
+    put(folder, "start.js", start_script(data, page, content))
     pack(folder)
     if os.path.abspath(module) != f"{folder}.wasm":
         shutil.copy(module, f"{folder}.wasm")
@@ -212,12 +196,7 @@ def lay(folder: str, module: str) -> None:
 def pack(folder: str) -> None:
     """Puts all files of a folder into a zip beside it."""
     paths = sorted(path for path in glob.glob(os.path.join(folder, "**", "*"), recursive=True) if os.path.isfile(path))
-    files = {}
-    for path in paths:
-        with open(path, "rb") as file:
-            files[os.path.relpath(path, folder)] = file.read()
-    with open(f"{folder}.zip", "wb") as file:
-        file.write(zipped(files))
+    Path(f"{folder}.zip").write_bytes(zipped({os.path.relpath(path, folder): Path(path).read_bytes() for path in paths}))
 
 
 def is_foreign(folder: str) -> bool:

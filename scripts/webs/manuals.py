@@ -1,7 +1,5 @@
 """Makes HTML of the manual pages, which are in the form of mdoc: of a whole page, or of some of its sections."""
 
-from __future__ import annotations
-
 import html
 import re
 import shlex

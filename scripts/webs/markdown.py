@@ -1,8 +1,6 @@
 """Makes HTML of pages in Markdown, as far as the pages of this repository use it: headings, paragraphs, lists, tables, code, and in
 a line code, strong and stressed words, and links. Pictures are left out."""
 
-from __future__ import annotations
-
 import html
 import re
 from typing import Callable, Iterator

@@ -1,8 +1,6 @@
 """Makes scripts and styles short: without comments, and without the blanks, line ends and semicolons that nothing needs. `renaming`
 makes names short. All else stays."""
 
-from __future__ import annotations
-
 import re
 
 # A piece of a script. A slash that begins a regular expression can't be distinguished from one that divides by the piece alone, and a

@@ -1,7 +1,5 @@
 """The pages of docs/ that lie beside the page in the browser, as HTML: what a class reads."""
 
-from __future__ import annotations
-
 import html
 import posixpath
 from string import Template
@@ -30,15 +28,10 @@ def leading(page: str) -> Leading:
     return place_of
 
 
-def title_of(text: str) -> str:
-    """The first heading of a page."""
-    return text.partition("\n")[0].removeprefix("# ")
-
-
 def pages(top: str, web: str) -> dict[str, str]:
     """The pages, by the names of their files."""
     frame = Template(text_of(web, "text.html"))
     texts = {path: text_of(top, path) for path in PAGES}
     links = " ".join(f'<a href="{name}.html">{html.escape(name.capitalize())}</a>' for name in PAGES.values())
-    return {f"{PAGES[path]}.html": frame.substitute(title=html.escape(title_of(text)), links=links, text=written(text, leading(path)))
+    return {f"{PAGES[path]}.html": frame.substitute(title=html.escape(text.partition("\n")[0].removeprefix("# ")), links=links, text=written(text, leading(path)))
             for path, text in texts.items()}

@@ -1,7 +1,5 @@
 """Packs files into a zip, deflated as well as `deflating` does it. The same files make the same bytes on each machine."""
 
-from __future__ import annotations
-
 import os
 import struct
 import zlib

@@ -10,7 +10,7 @@ from typing import Any
 
 from browsers import Browser
 from replays.modules import script_of
-from replays.pages import framed
+from replays.pages import framed_script, put_together, style_of_page
 
 from .made import FILM, tabbed
 
@@ -74,7 +74,7 @@ class Framed:
 
     def __init__(self, folder: str) -> None:
         web = shutil.copytree(WEB, os.path.join(folder, "web"))
-        texts = {"WHOLE": tabbed(FILM), "PART": tabbed(PART), "PLAYER": framed()}
+        texts = {"WHOLE": tabbed(FILM), "PART": tabbed(PART), "PLAYER": put_together(framed_script(), style_of_page())}
         script = SCRIPT
         for name, text in texts.items():
             script = script.replace(name, json.dumps(text))
