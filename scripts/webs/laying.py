@@ -20,9 +20,9 @@ from replays.pages import framed_script, put_together, style_of_page
 from tools.rules import MOST_CYCLES, MOST_FIRST, MOST_MATCHES
 from tools.samples import ladder
 
-from .deflating import deflated
 from .helping import functions, panel, steps, text_of, whole
 from .manuals import Page
+from .packing import packed
 from .renaming import renamed
 from .slimming import Unclear, short, short_style
 from .texts import pages
@@ -62,11 +62,6 @@ def index(manual: Page) -> str:
         policy=policy(), language=panel(manual, WEB), matches=MOST_MATCHES, cycles=MOST_CYCLES, first=MOST_FIRST)
 
 
-def packed(data: bytes) -> str:
-    """Bytes deflated and in base 64."""
-    return base64.b64encode(deflated(data)).decode()
-
-
 def scripts() -> dict[str, str]:
     """The page's scripts, as they are written: what waits until it is called, what starts it, the player's and the worker's."""
     return {"page": f"globalThis.CROBOTS_PAGE={waiting_script(os.path.join(WEB, 'page.js'))};\n", "start": script_of(os.path.join(WEB, "start.js")),
@@ -84,10 +79,10 @@ def data_of(module: bytes, manual: Page) -> dict[str, object]:
             "player": put_together(player(), short_style(style_of_page())), "worker": small(scripts()["worker"]), "module": packed(module)}
 
 
-def start_script(data: dict[str, object], page: str, module: bytes) -> str:
-    """The script that starts the page, with the SHA-256 of what it looks at: the data as JSON, the function's text, the module."""
+def start_script(data: dict[str, object], page: str) -> str:
+    """The script that starts the page, with the SHA-256 of what it looks at: the data as JSON, and the function's text."""
     function = page.strip().removeprefix("globalThis.CROBOTS_PAGE=").removesuffix(";")
-    parts = {"data": json.dumps(data, ensure_ascii=False, separators=(",", ":")).encode(), "page": function.encode(), "module": module}
+    parts = {"data": json.dumps(data, ensure_ascii=False, separators=(",", ":")).encode(), "page": function.encode()}
     text = scripts()["start"]
     for name, part in parts.items():
         assert text.count(f'"${name}"') == 1, name
@@ -187,7 +182,7 @@ def lay(folder: str, module: str) -> None:
     data, page = data_of(content, manuals[0]), small(scripts()["page"])
     put(folder, "page.js", page)
     put(folder, "data.js", f"globalThis.CROBOTS={json.dumps(data, separators=(',', ':'))};\n")
-    put(folder, "start.js", start_script(data, page, content))
+    put(folder, "start.js", start_script(data, page))
     pack(folder)
     if os.path.abspath(module) != f"{folder}.wasm":
         shutil.copy(module, f"{folder}.wasm")
