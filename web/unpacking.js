@@ -16,47 +16,49 @@ const chances = count => new Uint16Array(count).fill(WHOLE / 2);
 class Bits {
     constructor(bytes, at) {
         this.bytes = bytes;
-        this.at = at + 1;
-        this.range = 2 ** 32 - 1;
-        this.code = 0;
-        for (let count = 0; count < 4; count += 1) {
-            this.code = (this.code << 8 | bytes[this.at++]) >>> 0;
-        }
+        this.at = at + 5;
+        // what the next bits are is told by a number below another one: that one first, each of 32 bits
+        this.numbers = new Uint32Array([2 ** 32 - 1, new DataView(bytes.buffer, bytes.byteOffset).getUint32(at + 1)]);
     }
 
     /** Takes a further byte if the range got small. */
     widen() {
-        if (this.range < LEAST_RANGE) {
-            this.range = this.range << 8 >>> 0;
-            this.code = (this.code << 8 | this.bytes[this.at++]) >>> 0;
+        const {numbers} = this;
+        if (numbers[0] < LEAST_RANGE) {
+            numbers[0] <<= 8;
+            numbers[1] = numbers[1] << 8 | this.bytes[this.at++];
         }
     }
 
     /** The next bit, by how likely it is that it is 0. */
     next(likely, number) {
-        this.widen();
+        const {numbers} = this;
         const chance = likely[number];
-        const bound = (this.range >>> 11) * chance;
-        if (this.code < bound) {
-            this.range = bound;
+        const bound = (numbers[0] >>> 11) * chance;
+        let bit = 0;
+        if (numbers[1] < bound) {
+            numbers[0] = bound;
             likely[number] = chance + (WHOLE - chance >> LEARNING);
-            return 0;
+        } else {
+            numbers[1] -= bound;
+            numbers[0] -= bound;
+            likely[number] = chance - (chance >> LEARNING);
+            bit = 1;
         }
-        this.code -= bound;
-        this.range -= bound;
-        likely[number] = chance - (chance >> LEARNING);
-        return 1;
+        this.widen();
+        return bit;
     }
 
     /** A number of so many bits, of which each is as likely as the other. */
     even(count) {
+        const {numbers} = this;
         let number = 0;
         for (let left = count; left > 0; left -= 1) {
-            this.widen();
-            this.range >>>= 1;
-            const bit = this.code >= this.range ? 1 : 0;
-            this.code -= bit * this.range;
+            numbers[0] >>>= 1;
+            const bit = numbers[1] >= numbers[0] ? 1 : 0;
+            numbers[1] -= bit * numbers[0];
             number = number * 2 + bit;
+            this.widen();
         }
         return number;
     }
