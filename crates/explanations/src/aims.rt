@@ -7,6 +7,7 @@ use crate::indices::name_at;
 use crate::meanings::Meaning;
 use crate::notes::Note;
 use crate::pieces::{add_argument, add_piece};
+use crate::ranges::warn_of_fixed;
 use crate::reach::is_straight;
 use crate::rewriting::Rewrite;
 use crate::steps::{body_at, degree_of, steps_on};
@@ -124,6 +125,8 @@ pub fn warn_of_aim(
         && let Some(scan) = asked_alone(subject, index)
     {
         out.warn(node.token, Said::Thrown(scan));
+    } else {
+        warn_of_fixed(out, subject, index, node);
     }
 }
 

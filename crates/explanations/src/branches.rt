@@ -2,17 +2,20 @@
 
 use crate::chains::on_chain;
 use crate::counters::warn_of_counters;
+use crate::courses::warn_of_early;
+use crate::damages::warn_of_damage;
 use crate::heads::behind_brackets;
 use crate::indices::token_at;
 use crate::meanings::Meaning;
 use crate::nearest::warn_of_least;
+use crate::ranges::{warn_of_far, warn_of_nobody};
 use crate::rewriting::Rewrite;
 use crate::rows::warn_of_loop;
 use crate::steps::only_step;
 use crate::values::{holds, is_turned};
 use crate::variables::set_by;
 use crate::warnings::{Said, Subject, Warnings};
-use crate::ways::warn_of_way;
+use crate::ways::{warn_of_led, warn_of_way};
 use derivations::{Located, Node, NodeKind, SourceTree};
 use grammar::{Callee, Intrinsic, Op, StoreOp, Var};
 use tokens::{Keyword, Punctuator, Token};
@@ -35,6 +38,12 @@ pub fn warn_of_branch(out: &mut Warnings, subject: &Subject<'_>, index: usize, n
         out.warn(equals, on_equals(tokens, node.token, equals));
     }
     warn_of_least(out, subject, index, node);
+    warn_of_damage(out, subject, index, node);
+    warn_of_early(out, subject, index, node);
+    if node.kind != NodeKind::While {
+        warn_of_nobody(out, subject, index, node);
+        warn_of_led(out, subject, index, node);
+    }
     if let Some(said) = on_bits(condition) {
         out.warn(condition.token, said);
     }
@@ -51,6 +60,7 @@ pub fn warn_of_branch(out: &mut Warnings, subject: &Subject<'_>, index: usize, n
         warn_of_loop(out, subject, index, node, condition);
         warn_of_counters(out, subject, index, node);
         warn_of_way(out, subject, index, node, condition);
+        warn_of_far(out, subject, index, node);
     }
 }
 

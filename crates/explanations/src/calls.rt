@@ -148,7 +148,7 @@ fn parameters(tree: &SourceTree, callee: Callee) -> Option<usize> {
 }
 
 /// Returns the function of this number.
-fn body_of(tree: &SourceTree, number: u8) -> Option<&Body> {
+pub fn body_of(tree: &SourceTree, number: u8) -> Option<&Body> {
     for body in tree.bodies() {
         if body.number == number {
             return Some(body);

@@ -1,6 +1,7 @@
 //! Warnings about variables that keep too little, or too much: a function's that begin with 0 at each call, and a look that is not
 //! repeated.
 
+use crate::courses::is_endless;
 use crate::indices::is_name;
 use crate::variables::set_by;
 use crate::warnings::{Said, Subject, Warnings};
@@ -89,13 +90,7 @@ fn looked(subject: &Subject<'_>, body: &Body, var: Var, set: usize) -> Option<us
     }
     for (place, node) in tree.within(set, body.end).iter().enumerate() {
         let index = set.saturating_add(place);
-        let is_endless = node.kind == NodeKind::While
-            && node.first > set
-            && !matches!(
-                subject.constants.get(node.second.saturating_sub(1)),
-                None | Some(0)
-            );
-        if is_endless {
+        if node.first > set && is_endless(subject, node) {
             return first_read(tree.within(node.second, index), var);
         }
     }

@@ -204,7 +204,7 @@ fn on_bounds(op: Op, meaning: Meaning, value: Option<i32>) -> Option<&'static st
     }
     match (meaning, least_holds) {
         (Meaning::Damage, false) => Some(
-            "the damage is at least 0, and at most 99 while the robot lives: this is never so",
+            "`damage()` is the robot's own, 0 to 99 while it lives: this is never so",
         ),
         (Meaning::Speed, false) => Some("a speed is at least 0 and at most 100: this is never so"),
         (Meaning::Coordinate, false) => Some(
@@ -221,7 +221,7 @@ fn on_bounds(op: Op, meaning: Meaning, value: Option<i32>) -> Option<&'static st
         ),
         (Meaning::Speed, true) => Some("a speed is at least 0 and at most 100: this is always so"),
         (Meaning::Damage, true) => Some(
-            "the damage is at least 0, and at most 99 while the robot lives: this is always so",
+            "`damage()` is the robot's own, 0 to 99 while it lives: this is always so; of another robot nothing tells the damage",
         ),
         _ => None,
     }

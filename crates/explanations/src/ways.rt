@@ -1,6 +1,8 @@
 //! Warnings about ways: a loop that waits for a coordinate which the robot's degree doesn't lead to, and a coordinate that is
 //! compared with what it was before the field has moved.
 
+use crate::chances::compared;
+use crate::courses::is_course;
 use crate::rows::driven;
 use crate::warnings::{Subject, Warnings};
 use derivations::{Node, NodeKind};
@@ -34,6 +36,52 @@ pub fn warn_of_way(
             condition.token,
             "this never comes, as the robot's degree doesn't lead there: 0 is east, 90 north, 180 west and 270 south",
         );
+    }
+}
+
+/// Warns of the `if` of an index that asks whether the robot is near a wall, and then only drives to degrees that lead there.
+pub fn warn_of_led(out: &mut Warnings, subject: &Subject<'_>, index: usize, node: &Node) {
+    let Some(asked) = compared(subject, node.second.saturating_sub(1)) else {
+        return;
+    };
+    let side = match (asked.op, asked.number) {
+        (Op::Greater | Op::GreaterOrEqual, 800..) => 1,
+        (Op::Less | Op::LessOrEqual, ..=200) => -1,
+        _ => return,
+    };
+    let turn = match asked.value {
+        NodeKind::Call(Callee::Intrinsic(Intrinsic::LocX), 0) => 0,
+        NodeKind::Call(Callee::Intrinsic(Intrinsic::LocY), 0) => 90,
+        _ => return,
+    };
+    let mut is_led = false;
+    for at in node.second..node.third {
+        if let Some(degree) = set_course(subject, index, at) {
+            if way_east(degree.saturating_sub(turn)) != side {
+                return;
+            }
+            is_led = true;
+        }
+    }
+    if is_led {
+        out.tell(
+            node.token,
+            "this leads on to the wall that is near: x grows to the east and y to the north, and 0 is east, 90 north, 180 west and 270 south",
+        );
+    }
+}
+
+/// Returns the degree to which the node of an index sets the robot's course: a `drive`, or the variable of one.
+fn set_course(subject: &Subject<'_>, whole: usize, index: usize) -> Option<i32> {
+    match subject.tree.get(index)?.kind {
+        NodeKind::Call(Callee::Intrinsic(Intrinsic::Drive), _) => {
+            let (degree, speed) = driven(subject, index.saturating_add(1))?;
+            (speed > 0).then_some(degree)
+        }
+        NodeKind::Store(var, StoreOp::Set) if is_course(subject.tree, whole, var) => {
+            subject.constants.get(index)
+        }
+        _ => None,
     }
 }
 
