@@ -2,6 +2,7 @@
 
 from __future__ import annotations
 
+import math
 import operator
 import random
 import re
@@ -310,3 +311,46 @@ def lettered(random_: random.Random) -> tuple[str, int]:
     text = "".join(f"/*{''.join(random_.choice(random_.choice(alphabets)) for _ in range(random_.randrange(1, 6)))}*/" for _ in range(random_.randrange(1, 4)))
     before = f"main() {{ {text} a = 1 "
     return f"{before}2; }}", columns(before)
+
+
+def near_wall(random_: random.Random) -> tuple[str, bool]:
+    """A robot that asks whether it is near a wall, and drives then; and whether that leads on to the wall."""
+    axis, sign, degree = random_.choice("xy"), random_.choice(("<", "<=", ">", ">=")), 45 * random_.randrange(8)
+    number, speed = random_.choice((50, 200, 500, 800, 950)), random_.choice((0, 40))
+    way = math.cos(math.radians(degree)) if axis == "x" else math.sin(math.radians(degree))
+    leads = (way > 0.1 and number >= 800) if ">" in sign else (way < -0.1 and number <= 200)
+    told = random_.choice((f"drive({degree}, {speed});", f"course = {degree};"))
+    return (f"main() {{\n  int course;\n  course = rand(360);\n  while (1) {{\n    drive(course, 30);\n    if (loc_{axis}() {sign} {number}) {{\n      {told}\n"
+            "      cannon(0, 90);\n    }\n  }\n}\n"), leads and (speed > 0 or "course" in told)
+
+
+def unseen(random_: random.Random) -> tuple[str, bool]:
+    """A robot that shoots at a range below a number; and whether it does so at nobody, whose range is 0."""
+    test, passes = random_.choice((
+        ("r < 700", True), ("r <= 300", True), ("r < 700 && d > 5", True), ("r > 0 && r < 700", False), ("r < 700 && r > 40", False),
+        ("r && r < 700", False), ("r < 700 && r", False), ("r > 40", False)))
+    before, is_asked = random_.choice((("", False), ("", False), ("if (r == 0) d += 9; else ", True), ("if (r) ", True)))
+    look = random_.choice(("r = scan(d, 10);", "r = look(d);"))
+    return (f"look(d) {{ return scan(d, 10); }}\nmain() {{\n  int d, r;\n  while (1) {{\n    {look}\n    {before}if ({test}) cannon(d, r);\n    d += 20;\n"
+            "    r = look(d);\n    if (r > 40) cannon(d, r);\n  }\n}\n"), passes and not is_asked
+
+
+def fixed(random_: random.Random) -> tuple[str, bool]:
+    """A robot that looks, and shoots at a number; and whether it knows a range there of which it only asked whether it is one."""
+    test, is_somebody = random_.choice((("r > 40", True), ("r", True), ("r != 0", True), ("r > 0 && r < 700", True), ("r > 600", False),
+                                        ("r > 40 && r < 200", False), ("damage() > 5", False)))
+    degree, number = random_.choice("dde"), random_.choice((60, 300, 700))
+    other = random_.choice(("", "", "d += 20; ", "r = scan(e, 5); "))
+    return (f"main() {{\n  int d, e, r;\n  e = rand(9);\n  while (1) {{\n    r = scan(d, 10);\n    {other}if ({test}) cannon({degree}, {number});\n"
+            "    d += 20;\n    r = scan(e, 10);\n    if (r > 40) cannon(e, r);\n  }\n}\n"), is_somebody and (
+                degree == "d" and not other or degree == "e" and other.startswith("r"))
+
+
+def rounds(random_: random.Random) -> tuple[str, bool]:
+    """A robot that drives to one degree after another in an endless loop, and waits between; and whether it is told to turn at a speed above 50."""
+    legs = [(90 * random_.randrange(4), random_.choice((40, 50, 60, 100)), random_.randrange(4)) for _ in range(2)]
+    waits = ["while (damage() < 50) shoot();", "while (loc_x() < 500) ;", "while (speed() > 0) ;", "shoot();"]
+    turn = "\n    ".join(f"drive({degree}, {speed});\n    {waits[wait]}" for degree, speed, wait in legs)
+    # a robot that asks for its speed may know it, and one that doesn't wait has no speed yet
+    is_fast = any(fast > 50 and wait < 2 and degree != then for (degree, fast, wait), (then, _, _) in (legs, legs[::-1]))
+    return (f"int d;\nshoot() {{\n  int r;\n  r = scan(d, 10);\n  if (r > 40) cannon(d, r);\n  d += 20;\n}}\nmain() {{\n  while (1) {{\n    {turn}\n  }}\n}}\n"), is_fast

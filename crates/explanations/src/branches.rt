@@ -1,5 +1,6 @@
 //! Warnings about `if` and `while`: empty bodies, `=` in conditions, conditions that can't change, and indentation.
 
+use crate::aims::warn_of_hits;
 use crate::chains::on_chain;
 use crate::counters::warn_of_counters;
 use crate::courses::warn_of_early;
@@ -39,6 +40,7 @@ pub fn warn_of_branch(out: &mut Warnings, subject: &Subject<'_>, index: usize, n
     }
     warn_of_least(out, subject, index, node);
     warn_of_damage(out, subject, index, node);
+    warn_of_hits(out, subject, index, node);
     warn_of_early(out, subject, index, node);
     if node.kind != NodeKind::While {
         warn_of_nobody(out, subject, index, node);
@@ -74,7 +76,7 @@ fn on_equals(tokens: &[Located], word: usize, equals: usize) -> Said {
     )
 }
 
-/// Returns what is said of a condition that turns or shifts bits.
+/// Returns what is said of a condition that turns or shifts bits, or divides.
 fn on_bits(condition: &Node) -> Option<Said> {
     let (token, next) = (condition.token, condition.token.saturating_add(1));
     match condition.kind {
@@ -89,6 +91,11 @@ fn on_bits(condition: &Node) -> Option<Said> {
         NodeKind::Binary(Op::ShiftLeft) => Some(Said::Written(
             "`<<` shifts bits: to compare write `<`",
             Rewrite::Joined(token, next, "<"),
+            "",
+        )),
+        NodeKind::Store(_, StoreOp::Divide) => Some(Said::Written(
+            "`/=` divides, and sets the variable: whether both are unequal asks `!=`",
+            Rewrite::Joined(next, next.saturating_add(1), "!="),
             "",
         )),
         // no other operator on bits looks like one of conditions

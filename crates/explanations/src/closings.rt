@@ -1,7 +1,9 @@
 //! Hints on what parts and ends: commas, brackets, semicolons and braces.
 
+use crate::heads::line_from;
 use crate::hints::{Hint, by_layout};
 use crate::misfits::begins_value;
+use crate::operators::compares;
 use crate::returned::on_last_values;
 use crate::rewriting::Rewrite;
 use crate::scenes::Scene;
@@ -23,15 +25,44 @@ pub fn on_commas(scene: &Scene<'_>) -> Option<Hint> {
     })
 }
 
+/// Reports whether the token that doesn't fit stands in the brackets of an `if` or a `while`, and these are closed behind it in its line, which
+/// goes on then.
+fn is_in_test(scene: &Scene<'_>) -> bool {
+    let word = Token::Keyword(Keyword::If);
+    let is_test = match scene.pending_at(Item::Exactly(Punctuator::CloseRound)) {
+        Some(at) => scene.token(at) == word || scene.token(at) == Token::Keyword(Keyword::While),
+        None => false,
+    };
+    let mut may_follow = false;
+    for located in line_from(scene.tokens, scene.index.saturating_add(1)) {
+        match located.token {
+            Token::Punctuator(Punctuator::CloseRound) => return is_test && may_follow,
+            Token::Punctuator(Punctuator::Semicolon | Punctuator::OpenCurly | Punctuator::Equals) => return false,
+            _ => may_follow = may_follow || compares(&located.token),
+        }
+    }
+    false
+}
+
 /// Returns the hint on brackets that aren't closed or not opened, and on arguments without a `,` between them.
 pub fn on_brackets(scene: &Scene<'_>) -> Option<Hint> {
     let may_close = scene.fits_mark(Punctuator::CloseRound);
     let follows_number = matches!(scene.before()?.token, Token::Constant(_));
-    if follows_number && scene.is_mark(Punctuator::OpenRound) {
+    let follows_product = scene.touches_mark(Punctuator::CloseRound) && scene.kinds.operator;
+    if (follows_number || follows_product) && scene.is_mark(Punctuator::OpenRound) {
         return Some(Hint::Written(
             "a product is written with `*`",
             Rewrite::Joined(scene.index, scene.index, "*"),
             "2 * (a + b)",
+        ));
+    }
+    if (scene.is_mark(Punctuator::Comma) || scene.is_mark(Punctuator::Semicolon))
+        && is_in_test(scene)
+    {
+        return Some(Hint::Written(
+            "conditions are joined by `&&`, if both are to hold, or by `||`",
+            Rewrite::Joined(scene.index, scene.index.saturating_add(1), "&&"),
+            "a > 1 && a < 9",
         ));
     }
     if may_close && follows_number && matches!(scene.met(), Token::Name(_)) {

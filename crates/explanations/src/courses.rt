@@ -2,12 +2,13 @@
 //! that ends at a wall, and a place that is asked for too early.
 
 use crate::calls::body_of;
+use crate::chances::compared;
 use crate::indices::is_name;
 use crate::rows::is_call_of;
-use crate::steps::body_at;
+use crate::steps::{body_at, steps_on};
 use crate::variables::set_by;
 use crate::warnings::{Subject, Warnings};
-use derivations::{Node, NodeKind, SourceTree};
+use derivations::{Body, Node, NodeKind, SourceTree};
 use grammar::{Callee, Intrinsic, Var};
 
 /// The greatest speed at which a robot turns, in percent.
@@ -23,10 +24,11 @@ struct Course {
     speed: Option<i32>,
 }
 
-/// What stands between two statements of a row.
+/// What stands between two statements of a row: a loop, one that counts, and a statement that sets the degree.
 #[derive(Clone, Copy, Default)]
 struct Between {
     waits: bool,
+    counts: bool,
     turns: bool,
 }
 
@@ -49,7 +51,7 @@ pub fn warn_of_course(out: &mut Warnings, subject: &Subject<'_>, index: usize, n
         return;
     };
     let is_same = before == index && !between.turns;
-    if is_same && is_turn(subject, course) {
+    if is_same && between.counts && is_turn(subject, course) {
         out.tell(
             node.token,
             "this is the same degree each time: degrees are absolute, 0 is east, 90 north, 180 west and 270 south; to turn by it, add it to a variable: `course += 90; drive(course, 50);`",
@@ -116,18 +118,26 @@ fn course_before(
         if is_call_of(subject.tree, at, Intrinsic::Drive) {
             return between.waits.then_some((at, between));
         }
-        let nodes = subject.tree.within(subject.tree.first_of(at), at.saturating_add(1));
-        if asks(subject, nodes, &[Intrinsic::Drive, Intrinsic::Speed]) {
+        let (first, end) = (subject.tree.first_of(at), at.saturating_add(1));
+        if asks(subject, subject.tree.within(first, end), &[Intrinsic::Drive, Intrinsic::Speed]) {
             return None;
         }
-        between.waits = between.waits || loops(subject, nodes);
-        for node in nodes {
-            if let Some(var) = set_by(node) {
-                between.turns = between.turns || wanted == NodeKind::Fetch(var);
-            }
-        }
+        between.waits = between.waits || loops(subject, first, end, false);
+        between.counts = between.counts || loops(subject, first, end, true);
+        between.turns = between.turns || sets(subject.tree.within(at.saturating_sub(1), end), wanted);
     }
     None
+}
+
+/// Reports whether an assignment is a statement, and sets the variable that a node reads.
+fn sets(nodes: &[Node], read: NodeKind) -> bool {
+    match nodes {
+        [set, statement] => {
+            statement.kind == NodeKind::Evaluate
+                && matches!(set_by(set), Some(var) if read == NodeKind::Fetch(var))
+        }
+        _ => false,
+    }
 }
 
 /// Returns the index of the statement right before the one of an index, in the same body.
@@ -194,13 +204,16 @@ fn may_ask_in(tree: &SourceTree, number: u8, wanted: &[Intrinsic]) -> bool {
     false
 }
 
-/// Reports whether some nodes have a loop, or call a function that has one.
-fn loops(subject: &Subject<'_>, nodes: &[Node]) -> bool {
-    for node in nodes {
+/// Reports whether some nodes between two indices have a loop, or one that counts, or call a function that has one.
+fn loops(subject: &Subject<'_>, first: usize, end: usize, is_counting: bool) -> bool {
+    for at in first..end {
+        let Some(node) = subject.tree.get(at) else {
+            return false;
+        };
         let has_loop = match node.kind {
-            NodeKind::While => true,
+            NodeKind::While => !is_counting || counts(subject, at, node),
             NodeKind::Call(Callee::Function(number), _) => match body_of(subject.tree, number) {
-                Some(body) => have_loop(subject.tree.within(body.first, body.end)),
+                Some(body) => have_loop(subject, body, is_counting),
                 None => false,
             },
             _ => false,
@@ -212,41 +225,68 @@ fn loops(subject: &Subject<'_>, nodes: &[Node]) -> bool {
     false
 }
 
-/// Reports whether one of these nodes is a loop.
-fn have_loop(nodes: &[Node]) -> bool {
-    for node in nodes {
-        if node.kind == NodeKind::While {
+/// Reports whether a function has a loop of its own, or one that counts.
+fn have_loop(subject: &Subject<'_>, body: &Body, is_counting: bool) -> bool {
+    for at in body.first..body.end {
+        if let Some(node) = subject.tree.get(at)
+            && node.kind == NodeKind::While
+            && (!is_counting || counts(subject, at, node))
+        {
             return true;
         }
     }
     false
 }
 
-/// Reports whether the `drive` of an index is the last one of the robot, to a degree that leads to some wall: an endless loop without
-/// another one follows, and no other loop before that.
+/// Reports whether the loop of an index compares a variable with a number, and changes it by another one.
+fn counts(subject: &Subject<'_>, index: usize, node: &Node) -> bool {
+    let Some(asked) = compared(subject, node.second.saturating_sub(1)) else {
+        return false;
+    };
+    for at in node.second..index {
+        if let Some(below) = subject.tree.get(at)
+            && let Some(var) = set_by(below)
+            && asked.value == NodeKind::Fetch(var)
+            && steps_on(subject, at, var)
+        {
+            return true;
+        }
+    }
+    false
+}
+
+/// Reports whether the `drive` of an index is the last one of the robot, and leads to some wall: an endless loop without another one
+/// follows, in which the robot looks for others, and no other loop before that.
 fn goes_off(subject: &Subject<'_>, index: usize, course: Course) -> bool {
     let tree = subject.tree;
     let (Some(node), Some(body)) = (tree.get(index), body_at(tree, index)) else {
         return false;
     };
-    let is_straight = matches!(subject.constants.get(course.degree), Some(degree) if degree % 90 == 0);
-    if node.above.is_some() || is_straight || course.speed == Some(0) {
+    if node.above.is_some() || !is_slanting(subject, course) || course.speed == Some(0) {
         return false;
     }
     let behind = index.saturating_add(1);
     for (place, node) in tree.within(behind, body.end).iter().enumerate() {
         let at = behind.saturating_add(place);
         if is_endless(subject, node) && node.above.is_none() {
-            return !asks(subject, tree.within(behind, at), &[Intrinsic::Drive])
-                && !has_own_loop(subject, behind, node.first);
+            let nodes = tree.within(behind, at);
+            return !asks(subject, nodes, &[Intrinsic::Drive])
+                && asks(subject, nodes, &[Intrinsic::Scan])
+                && !loops(subject, behind, node.first, false);
         }
     }
     false
 }
 
-/// Reports whether some statement between two indices has a loop.
-fn has_own_loop(subject: &Subject<'_>, first: usize, end: usize) -> bool {
-    loops(subject, subject.tree.within(first, end))
+/// Reports whether a course leads to no wall that is surely meant: it is a random one, or a number between the four directions.
+fn is_slanting(subject: &Subject<'_>, course: Course) -> bool {
+    match subject.valued(course.degree) {
+        Some((_, Some(degree))) => degree % 90 != 0,
+        Some((node, None)) => {
+            node.kind == NodeKind::Call(Callee::Intrinsic(Intrinsic::Rand), 1)
+        }
+        None => false,
+    }
 }
 
 /// Warns of an `if` of an index that asks for a place once, right after the robot was told to drive, and drives by that.

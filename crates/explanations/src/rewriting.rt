@@ -5,7 +5,7 @@
 use crate::chosen::{add_chosen, add_decided, end_from};
 use crate::conditions::condition_end;
 use crate::counted::{add_counted, add_for};
-use crate::indices::{name_at, token_at};
+use crate::indices::token_at;
 use crate::named::{add_exchanged_names, add_unnamed};
 use crate::notes::Note;
 use crate::pieces::{add_argument, add_name, add_piece, operand_before, operand_end, word_of};
@@ -14,7 +14,6 @@ use crate::regrouped::{
     add_both, add_compared, add_compared_group, add_either, add_grown, add_joined, add_negated,
     add_squared,
 };
-use crate::told::text_of;
 use derivations::Located;
 use tokens::Token;
 
@@ -82,8 +81,8 @@ pub enum Rewrite {
     For(usize),
     /// A call with brackets around what stands behind its name, up to the end of the statement.
     Called(usize),
-    /// An assignment to the name behind an arrow, of what stands from an index on up to the arrow.
-    Assigned(usize, usize),
+    /// An assignment of what stands from an index on, up to another one, to the name of a third one.
+    Assigned(usize, usize, usize),
     /// A call of `atan` with its argument multiplied.
     Multiplied(usize),
 }
@@ -127,7 +126,7 @@ impl Rewrite {
             Rewrite::Surrounded(word) => add_surrounded(note, tokens, word),
             Rewrite::Counted(word) => add_counted(note, tokens, word),
             Rewrite::For(word) => add_for(note, tokens, word),
-            Rewrite::Assigned(begin, arrow) => add_assigned(note, tokens, begin, arrow),
+            Rewrite::Assigned(begin, end, name) => add_assigned(note, tokens, begin, end, name),
             Rewrite::Exchanged(_)
             | Rewrite::Limited(..)
             | Rewrite::Backwards(_)
@@ -270,12 +269,17 @@ fn add_surrounded(note: &mut Note, tokens: &[Located], word: usize) -> Option<()
     Some(())
 }
 
-/// Adds an assignment to the name behind an arrow of two tokens.
-fn add_assigned(note: &mut Note, tokens: &[Located], begin: usize, arrow: usize) -> Option<()> {
-    let name = name_at(tokens, arrow.saturating_add(2))?;
-    note.add(text_of(&name));
+/// Adds an assignment to a name of what stands from an index on, up to another one.
+fn add_assigned(
+    note: &mut Note,
+    tokens: &[Located],
+    begin: usize,
+    end: usize,
+    name: usize,
+) -> Option<()> {
+    add_name(note, tokens, name)?;
     note.add(" = ");
-    add_piece(note, tokens, begin, arrow)?;
+    add_piece(note, tokens, begin, end)?;
     note.push(';');
     Some(())
 }

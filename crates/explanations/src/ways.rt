@@ -150,17 +150,22 @@ pub fn on_haste(subject: &Subject<'_>, op: Op, asked: usize, kept: usize) -> Opt
         question,
         NodeKind::Call(Callee::Intrinsic(Intrinsic::LocX | Intrinsic::LocY), 0)
     );
-    if !is_place || !matches!(op, Op::Equal | Op::NotEqual) {
+    let is_damage = question == NodeKind::Call(Callee::Intrinsic(Intrinsic::Damage), 0);
+    let mut has_shot = false;
+    if !(is_place && matches!(op, Op::Equal | Op::NotEqual) || is_damage) {
         return None;
     }
     for step in 1..MOST_SOON {
         let at = asked.checked_sub(step)?;
         let node = tree.get(at)?;
+        has_shot = has_shot || node.kind == NodeKind::Call(Callee::Intrinsic(Intrinsic::Cannon), 2);
         let is_set = node.kind == NodeKind::Store(var, StoreOp::Set);
         if is_set && tree.get(at.checked_sub(1)?)?.kind == question {
-            return Some(
-                "the field moves every 15 cycles, and this is asked too soon after it was kept: wait in a loop between",
-            );
+            return if is_damage {
+                has_shot.then_some("`damage()` is the robot's own: whether a shot hits another one, nothing tells")
+            } else {
+                Some(SOON)
+            };
         }
         let is_other = is_set
             || node.kind == NodeKind::While
@@ -171,3 +176,6 @@ pub fn on_haste(subject: &Subject<'_>, op: Op, asked: usize, kept: usize) -> Opt
     }
     None
 }
+
+/// What is said of a place that is asked for twice without a wait.
+const SOON: &str = "the field moves every 15 cycles, and this is asked too soon after it was kept: wait in a loop between";
