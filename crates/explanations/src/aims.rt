@@ -134,10 +134,16 @@ pub fn warn_of_aim(
 static HITS: [&[u8]; 6] = [b"hit", b"hits", b"struck", b"killed", b"kills", b"dead"];
 
 /// What is said of a shot that is asked whether it hit.
-const FIRED: &str = "`cannon` answers 1 if it fired, and 0 if two shots are in the air: whether one hits, nothing tells";
+const FIRED: &str =
+    "`cannon` answers 1 if it fired, and 0 if two shots are in the air: whether one hits, nothing tells";
 
 /// Returns what is said of the assignment of an index, if it keeps what a shot answers as a hit.
-pub fn on_hit(subject: &Subject<'_>, index: usize, node: &Node, op: StoreOp) -> Option<&'static str> {
+pub fn on_hit(
+    subject: &Subject<'_>,
+    index: usize,
+    node: &Node,
+    op: StoreOp,
+) -> Option<&'static str> {
     let value = subject.tree.get(index.checked_sub(1)?)?;
     (op == StoreOp::Set && is_shot(value) && is_hit(subject, node)).then_some(FIRED)
 }
@@ -159,7 +165,10 @@ pub fn warn_of_hits(out: &mut Warnings, subject: &Subject<'_>, index: usize, nod
 
 /// Reports whether a node is a shot.
 fn is_shot(node: &Node) -> bool {
-    matches!(node.kind, NodeKind::Call(Callee::Intrinsic(Intrinsic::Cannon), _))
+    matches!(
+        node.kind,
+        NodeKind::Call(Callee::Intrinsic(Intrinsic::Cannon), _)
+    )
 }
 
 /// Reports whether the variable that a node sets is named like a hit.

@@ -2,7 +2,7 @@
 
 use crate::aims::warn_of_hits;
 use crate::chains::on_chain;
-use crate::counters::warn_of_counters;
+use crate::counters::{warn_of_counters, warn_of_once};
 use crate::courses::warn_of_early;
 use crate::damages::warn_of_damage;
 use crate::heads::behind_brackets;
@@ -43,6 +43,12 @@ pub fn warn_of_branch(out: &mut Warnings, subject: &Subject<'_>, index: usize, n
     warn_of_hits(out, subject, index, node);
     warn_of_early(out, subject, index, node);
     if node.kind != NodeKind::While {
+        if is_exact(subject, last, condition) {
+            out.tell(
+                condition.token,
+                "a robot moves some metres at once, and hardly ever is exactly there: write `<` or `>`",
+            );
+        }
         warn_of_nobody(out, subject, index, node);
         warn_of_led(out, subject, index, node);
     }
@@ -61,6 +67,7 @@ pub fn warn_of_branch(out: &mut Warnings, subject: &Subject<'_>, index: usize, n
         warn_of_waiting(out, subject, index, node, condition);
         warn_of_loop(out, subject, index, node, condition);
         warn_of_counters(out, subject, index, node);
+        warn_of_once(out, subject, index, node);
         warn_of_way(out, subject, index, node, condition);
         warn_of_far(out, subject, index, node);
     }
@@ -207,6 +214,16 @@ fn is_missed(subject: &Subject<'_>, index: usize, condition: &Node) -> bool {
         )
         && value.is_some()
         && value != Some(0)
+}
+
+/// Reports whether the condition of an index asks for an exact coordinate, but for that at a wall.
+fn is_exact(subject: &Subject<'_>, index: usize, condition: &Node) -> bool {
+    condition.kind == NodeKind::Binary(Op::Equal)
+        && subject.meanings.get(condition.second.saturating_sub(1)) == Meaning::Coordinate
+        && matches!(
+            subject.constants.get(index.saturating_sub(1)),
+            Some(1..=998)
+        )
 }
 
 /// Warns of the body that begins at the token of an index: of a `;` alone, and of a statement after it that looks as if

@@ -7,7 +7,6 @@ use crate::meanings::Meaning;
 use crate::rewriting::Rewrite;
 use crate::statements::{acts, is_asked};
 use crate::steps::{body_at, is_degree, leaves_gaps, only_value};
-use crate::values::may_have;
 use crate::warnings::{Said, Subject, Warnings};
 use derivations::{Body, Located, Node, NodeKind, SourceTree};
 use grammar::{Callee, Intrinsic, Op, StoreOp, Var};
@@ -30,9 +29,6 @@ const MOST_POWER: i32 = 5;
 
 /// The degrees of a whole circle.
 const CIRCLE: i32 = 360;
-
-/// The degrees of half of a circle.
-const HALF: u32 = 180;
 
 /// The degrees of half of a quarter of it: multiples are usual degrees.
 const QUARTER: i32 = 45;
@@ -427,7 +423,7 @@ fn warn_of_look(
             ),
         );
     }
-    if let Some(words) = on_circle_or_half(subject, index, node, intrinsic) {
+    if let Some(words) = on_angle(subject, index, node, intrinsic) {
         out.tell(node.token, words);
     }
     if intrinsic == Intrinsic::Rand && matches!(constants.get(last), Some(..=1)) {
@@ -444,23 +440,17 @@ fn warn_of_look(
     }
 }
 
-/// Returns what is said of a look to a whole circle, of an `atan` in a file that never adds a half of one, and of a factor by which degrees
-/// become radians.
-fn on_circle_or_half(
+/// Returns what is said of a look to a whole circle, and of a factor by which degrees become radians.
+fn on_angle(
     subject: &Subject<'_>,
     index: usize,
     node: &Node,
     intrinsic: Intrinsic,
 ) -> Option<&'static str> {
-    let last = index.checked_sub(1)?;
-    let (tree, constants) = (subject.tree, subject.constants);
-    let first = tree.outermost(node.first, index);
+    let first = subject.tree.outermost(node.first, index);
     match intrinsic {
-        Intrinsic::Scan if constants.get(first) == Some(CIRCLE) => Some(
+        Intrinsic::Scan if subject.constants.get(first) == Some(CIRCLE) => Some(
             "360 degrees are 0: this looks to the east alone, by the resolution to both sides; to look round write `angle += 20` in a loop",
-        ),
-        Intrinsic::Atan if halves(subject, last) => Some(
-            "`atan` answers -90 to 90 alone, the same for both sides: if what it is divided by is below 0, add 180",
         ),
         Intrinsic::Sin | Intrinsic::Cos | Intrinsic::Tan if has_pi(subject, node.first, index) => {
             Some("this takes degrees, and no radians: leave the factor out")
@@ -469,21 +459,13 @@ fn on_circle_or_half(
     }
 }
 
-/// Reports whether the node of an index is a quotient by what isn't known, in a file without the number 180.
-fn halves(subject: &Subject<'_>, index: usize) -> bool {
-    let Some(node) = subject.tree.get(index) else {
-        return false;
-    };
-    node.kind == NodeKind::Binary(Op::Divide)
-        && subject.constants.get(index.saturating_sub(1)).is_none()
-        && !is_bare_quotient(subject, index.saturating_add(1))
-        && !may_have(subject.tokens, HALF)
-}
-
 /// Reports whether some node between two indices is a number with the digits of pi.
 fn has_pi(subject: &Subject<'_>, first: usize, end: usize) -> bool {
     for at in first..end {
-        if matches!(subject.constants.get(at), Some(314 | 3141 | 3142 | 31415 | 31416 | 314_159)) {
+        if matches!(
+            subject.constants.get(at),
+            Some(314 | 3141 | 3142 | 31415 | 31416 | 314_159)
+        ) {
             return true;
         }
     }

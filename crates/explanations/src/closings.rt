@@ -37,7 +37,8 @@ fn is_in_test(scene: &Scene<'_>) -> bool {
     for located in line_from(scene.tokens, scene.index.saturating_add(1)) {
         match located.token {
             Token::Punctuator(Punctuator::CloseRound) => return is_test && may_follow,
-            Token::Punctuator(Punctuator::Semicolon | Punctuator::OpenCurly | Punctuator::Equals) => return false,
+            Token::Punctuator(Punctuator::Semicolon | Punctuator::OpenCurly | Punctuator::Equals) =>
+                return false,
             _ => may_follow = may_follow || compares(&located.token),
         }
     }

@@ -17,6 +17,16 @@ const MOST_TURNING: i32 = 50;
 /// The most statements in a row that are looked at.
 const MOST_STATEMENTS: usize = 20;
 
+/// The most nodes between two `drive` that are done before the robot has moved.
+const MOST_SOON: usize = 14;
+
+/// The nodes of a `drive` of two numbers, as a statement.
+const MOST_OF_DRIVE: usize = 4;
+
+/// What is said of a `drive` that comes too soon after another one.
+pub const REPLACED: &str =
+    "this `drive` replaces the one before it at once: wait between them in a loop";
+
 /// A `drive` that is a statement: the index of the node of its degree, and its speed, if that is known.
 #[derive(Clone, Copy)]
 struct Course {
@@ -24,9 +34,10 @@ struct Course {
     speed: Option<i32>,
 }
 
-/// What stands between two statements of a row: a loop, one that counts, and a statement that sets the degree.
+/// What stands between two statements of a row: more than some nodes, a loop, one that counts, and a statement that sets the degree.
 #[derive(Clone, Copy, Default)]
 struct Between {
+    lasts: bool,
     waits: bool,
     counts: bool,
     turns: bool,
@@ -50,6 +61,15 @@ pub fn warn_of_course(out: &mut Warnings, subject: &Subject<'_>, index: usize, n
     let Some(last) = course_at(subject, before) else {
         return;
     };
+    if !between.waits {
+        if !between.lasts
+            && index.saturating_sub(before) > MOST_OF_DRIVE
+            && turns(subject, last, course, between)
+        {
+            out.tell(node.token, REPLACED);
+        }
+        return;
+    }
     let is_same = before == index && !between.turns;
     if is_same && between.counts && is_turn(subject, course) {
         out.tell(
@@ -90,9 +110,10 @@ fn is_turn(subject: &Subject<'_>, course: Course) -> bool {
 
 /// Reports whether two courses surely have different degrees, by what is between them.
 fn turns(subject: &Subject<'_>, last: Course, course: Course, between: Between) -> bool {
-    let (Some((first, from)), Some((second, to))) =
-        (subject.valued(last.degree), subject.valued(course.degree))
-    else {
+    let (Some((first, from)), Some((second, to))) = (
+        subject.valued(last.degree),
+        subject.valued(course.degree),
+    ) else {
         return false;
     };
     match (from, to) {
@@ -106,25 +127,27 @@ fn turns(subject: &Subject<'_>, last: Course, course: Course, between: Between) 
 
 /// Returns the index of the last `drive` before the statement of an index in its row, and what is between: only what keeps the speed, and a
 /// loop. In an endless loop the row goes on with the end of the turn before.
-fn course_before(
-    subject: &Subject<'_>,
-    index: usize,
-    course: Course,
-) -> Option<(usize, Between)> {
+fn course_before(subject: &Subject<'_>, index: usize, course: Course) -> Option<(usize, Between)> {
     let wanted = subject.tree.get(course.degree)?.kind;
     let (mut at, mut between) = (index, Between::default());
     for _ in 0..MOST_STATEMENTS {
         at = statement_before(subject, at).or(last_of_turn(subject, at))?;
         if is_call_of(subject.tree, at, Intrinsic::Drive) {
-            return between.waits.then_some((at, between));
+            between.lasts = at.saturating_add(MOST_SOON) < index || index <= at;
+            return Some((at, between));
         }
         let (first, end) = (subject.tree.first_of(at), at.saturating_add(1));
-        if asks(subject, subject.tree.within(first, end), &[Intrinsic::Drive, Intrinsic::Speed]) {
+        if asks(
+            subject,
+            subject.tree.within(first, end),
+            &[Intrinsic::Drive, Intrinsic::Speed],
+        ) {
             return None;
         }
         between.waits = between.waits || loops(subject, first, end, false);
         between.counts = between.counts || loops(subject, first, end, true);
-        between.turns = between.turns || sets(subject.tree.within(at.saturating_sub(1), end), wanted);
+        between.turns = between.turns
+            || sets(subject.tree.within(at.saturating_sub(1), end), wanted);
     }
     None
 }
@@ -282,9 +305,7 @@ fn goes_off(subject: &Subject<'_>, index: usize, course: Course) -> bool {
 fn is_slanting(subject: &Subject<'_>, course: Course) -> bool {
     match subject.valued(course.degree) {
         Some((_, Some(degree))) => degree % 90 != 0,
-        Some((node, None)) => {
-            node.kind == NodeKind::Call(Callee::Intrinsic(Intrinsic::Rand), 1)
-        }
+        Some((node, None)) => { node.kind == NodeKind::Call(Callee::Intrinsic(Intrinsic::Rand), 1) }
         None => false,
     }
 }
@@ -296,7 +317,9 @@ pub fn warn_of_early(out: &mut Warnings, subject: &Subject<'_>, index: usize, no
         Some(body) => is_name(subject.tokens, body.token, b"main"),
         None => false,
     };
-    let is_told = match statement_before(subject, index).and_then(|before| course_at(subject, before)) {
+    let is_told = match statement_before(subject, index).and_then(|before| course_at(
+        subject, before,
+    )) {
         Some(course) => course.speed > Some(0),
         None => false,
     };
@@ -304,8 +327,16 @@ pub fn warn_of_early(out: &mut Warnings, subject: &Subject<'_>, index: usize, no
         && is_told
         && node.above.is_none()
         && node.kind != NodeKind::While
-        && asks(subject, tree.within(node.first, node.second), &[Intrinsic::LocX, Intrinsic::LocY])
-        && asks(subject, tree.within(node.second, index), &[Intrinsic::Drive])
+        && asks(
+            subject,
+            tree.within(node.first, node.second),
+            &[Intrinsic::LocX, Intrinsic::LocY],
+        )
+        && asks(
+            subject,
+            tree.within(node.second, index),
+            &[Intrinsic::Drive],
+        )
     {
         out.tell(
             node.token,
@@ -321,7 +352,10 @@ pub fn is_course(tree: &SourceTree, index: usize, var: Var) -> bool {
     };
     for at in body.first..body.end {
         if let Some(node) = tree.get(at)
-            && matches!(node.kind, NodeKind::Call(Callee::Intrinsic(Intrinsic::Drive), _))
+            && matches!(
+                node.kind,
+                NodeKind::Call(Callee::Intrinsic(Intrinsic::Drive), _)
+            )
             && let Some(degree) = tree.get(tree.outermost(node.first, at))
             && degree.kind == NodeKind::Fetch(var)
         {

@@ -10,7 +10,8 @@ use grammar::{Callee, Intrinsic, Op};
 const LITTLE: i32 = 40;
 
 /// What is said of a damage that is taken for what is left of life.
-const GROWS: &str = "`damage()` is the robot's own: it is 0 at first and grows, and at 100 the robot is dead: if it is badly hurt, `damage() > 70` holds";
+const GROWS: &str =
+    "`damage()` is the robot's own: it is 0 at first and grows, and at 100 the robot is dead: if it is badly hurt, `damage() > 70` holds";
 
 /// Warns of the `if` or the `while` of an index that asks whether the damage is more than 0, as if the robot lived by that, or whether
 /// it is little, and then flees.
@@ -74,7 +75,10 @@ fn flees(subject: &Subject<'_>, index: usize, node: &Node) -> bool {
 fn moves(subject: &Subject<'_>, first: usize, end: usize) -> bool {
     for at in first..end {
         if let Some(node) = subject.tree.get(at)
-            && matches!(node.kind, NodeKind::Call(Callee::Intrinsic(Intrinsic::Drive), _))
+            && matches!(
+                node.kind,
+                NodeKind::Call(Callee::Intrinsic(Intrinsic::Drive), _)
+            )
             && subject.constants.get(at.saturating_sub(1)) != Some(0)
         {
             return true;

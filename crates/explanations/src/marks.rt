@@ -40,9 +40,11 @@ pub fn on_character(found: &Found<'_>, scene: &Scene<'_>) -> Option<&'static str
             Some("there are no fractions: all values are whole numbers")
         }
         b'.' => Some("there are no structures and no methods: a name stands alone"),
-        b'\\' if !matches!(source.get(met.start().saturating_add(1)), None | Some(b'\n' | b'\r')) => {
-            Some("a quotient is written `/`, and is a whole number")
-        }
+        b'\\'
+            if !matches!(
+                source.get(met.start().saturating_add(1)),
+                None | Some(b'\n' | b'\r')
+            ) => { Some("a quotient is written `/`, and is a whole number") }
         b'\\' => Some("a line needs no sign to go on in the next one"),
         0 | 128.. => Some(on_foreign_byte(source, met.start())),
         b'$' => Some("a name has letters, digits and `_` alone: leave the `$` out"),

@@ -88,8 +88,8 @@ pub fn on_numbers(scene: &Scene<'_>) -> Option<Hint> {
 
 /// Units, as they stand behind a number.
 static UNITS: [&[u8]; 14] = [
-    b"m", b"metres", b"meters", b"metre", b"meter", b"km", b"cm", b"deg", b"degrees", b"degree", b"s", b"sec", b"percent",
-    b"rad",
+    b"m", b"metres", b"meters", b"metre", b"meter", b"km", b"cm", b"deg", b"degrees", b"degree",
+    b"s", b"sec", b"percent", b"rad",
 ];
 
 /// Reports whether a name is a unit.

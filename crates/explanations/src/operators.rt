@@ -10,8 +10,18 @@ use tokens::{Punctuator, Token};
 
 /// Operators as beginners spell them: two punctuators, of which the second doesn't fit, what is said, and what is meant.
 static MISSPELLED: [(Punctuator, Punctuator, &str, &str); 10] = [
-    (Punctuator::And, Punctuator::And, "perhaps `&&` is meant", "&&"),
-    (Punctuator::Or, Punctuator::Or, "perhaps `||` is meant", "||"),
+    (
+        Punctuator::And,
+        Punctuator::And,
+        "perhaps `&&` is meant",
+        "&&",
+    ),
+    (
+        Punctuator::Or,
+        Punctuator::Or,
+        "perhaps `||` is meant",
+        "||",
+    ),
     (
         Punctuator::Greater,
         Punctuator::Equals,

@@ -15,6 +15,9 @@ use grammar::{Callee, Intrinsic, Op, StoreOp, Var};
 /// How near a burst hurts, in metres.
 const HURTING: i32 = 40;
 
+/// The least number that is taken for a range, and not for a power of the shot.
+const LEAST_FIXED: i32 = 6;
+
 /// A range from which on a shot goes nearly as far as it can.
 const FAR: i32 = 600;
 
@@ -46,18 +49,20 @@ pub fn warn_of_nobody(out: &mut Warnings, subject: &Subject<'_>, index: usize, n
             less.token,
             "a burst within 40 metres hurts the robot itself: shoot only if the range is greater than 40",
         );
-    } else if is_checked {
-    } else if looks_for_wall(subject, index, node, less) {
+    } else if is_checked {} else if looks_for_wall(subject, index, node, less) {
         out.tell(less.token, WALL);
     } else if shoots || less.most > HURTING && drives_only(subject, index, node) {
         let begin = node.token.saturating_add(2);
         let end = behind_brackets(subject.tokens, node.token).unwrap_or(begin);
         let rewrite = Rewrite::Positive(begin, end.saturating_sub(1), less.token);
         let example = "range > 0 && range < 100";
-        out.warn(less.token, match less.var {
-            Some(_) => Said::Written(NOBODY, rewrite, example),
-            None => Said::Words(NOBODY_KEPT),
-        });
+        out.warn(
+            less.token,
+            match less.var {
+                Some(_) => Said::Written(NOBODY, rewrite, example),
+                None => Said::Words(NOBODY_KEPT),
+            },
+        );
     }
 }
 
@@ -65,10 +70,12 @@ pub fn warn_of_nobody(out: &mut Warnings, subject: &Subject<'_>, index: usize, n
 const NOBODY: &str = "`scan` answers 0 if nobody is there, and 0 is less, too: leave 0 out";
 
 /// The same, of an answer that isn't kept.
-const NOBODY_KEPT: &str = "`scan` answers 0 if nobody is there, and 0 is less, too: keep the answer, `range = scan(angle, 10);`, and ask `range > 0 && range < 100`";
+const NOBODY_KEPT: &str =
+    "`scan` answers 0 if nobody is there, and 0 is less, too: keep the answer, `range = scan(angle, 10);`, and ask `range > 0 && range < 100`";
 
 /// What is said of a look for a wall.
-const WALL: &str = "`scan` sees other robots alone, and no walls; it answers 0 if nobody is there: where the walls are, `loc_x()` and `loc_y()` tell: 0 to 999";
+const WALL: &str =
+    "`scan` sees other robots alone, and no walls; it answers 0 if nobody is there: where the walls are, `loc_x()` and `loc_y()` tell: 0 to 999";
 
 /// Returns the comparison of a range with a number that is greater, in the condition of a node, if the condition has no other question
 /// after the range.
@@ -86,7 +93,12 @@ fn less_in(subject: &Subject<'_>, node: &Node) -> Option<Less> {
                 NodeKind::Call(Callee::Intrinsic(Intrinsic::Scan), _) => None,
                 _ => return None,
             };
-            return Some(Less { var, token: range.token, index: at, most });
+            return Some(Less {
+                var,
+                token: range.token,
+                index: at,
+                most,
+            });
         }
     }
     None
@@ -108,7 +120,10 @@ fn reads_before(subject: &Subject<'_>, node: &Node, less: Less) -> bool {
             is_read = is_read || at >= node.first && is_scan && !is_own;
         } else if set_by(below) == less.var {
             is_read = subject.tree.is_used(at) && !is_own;
-        } else if less.var.is_some_and(|var| below.kind == NodeKind::Fetch(var)) {
+        } else if less
+            .var
+            .is_some_and(|var| below.kind == NodeKind::Fetch(var))
+        {
             is_read = is_read || !is_own;
         }
     }
@@ -131,7 +146,9 @@ fn shoots_at(subject: &Subject<'_>, first: usize, end: usize, less: Less) -> boo
         if let Some(node) = subject.tree.get(at)
             && node.kind == NodeKind::Call(Callee::Intrinsic(Intrinsic::Cannon), 2)
             && let Some(range) = subject.tree.get(at.saturating_sub(1))
-            && less.var.is_some_and(|var| range.kind == NodeKind::Fetch(var))
+            && less
+                .var
+                .is_some_and(|var| range.kind == NodeKind::Fetch(var))
         {
             return true;
         }
@@ -162,7 +179,11 @@ fn sets_degree(subject: &Subject<'_>, index: usize, nodes: &[Node]) -> bool {
 /// Reports whether the `if` of an index turns a course to which it looks, by more than a look goes on.
 fn looks_for_wall(subject: &Subject<'_>, index: usize, node: &Node, less: Less) -> bool {
     let tree = subject.tree;
-    if asks(subject, tree.within(node.second, node.third), &[Intrinsic::Cannon]) {
+    if asks(
+        subject,
+        tree.within(node.second, node.third),
+        &[Intrinsic::Cannon],
+    ) {
         return false;
     }
     for at in node.second..node.third {
@@ -202,7 +223,8 @@ fn is_great(subject: &Subject<'_>, index: usize) -> bool {
         None => subject.constants.get(value.saturating_sub(1)),
     };
     match (subject.tree.get(index), step) {
-        (Some(node), Some(step)) => !matches!(step, -44..=44) || !matches!(node.kind, NodeKind::Store(..)),
+        (Some(node), Some(step)) => !matches!(step, -44..=44)
+            || !matches!(node.kind, NodeKind::Store(..)),
         (Some(node), None) => matches!(node.kind, NodeKind::Store(..)),
         (None, _) => false,
     }
@@ -212,14 +234,22 @@ fn is_great(subject: &Subject<'_>, index: usize) -> bool {
 pub fn warn_of_far(out: &mut Warnings, subject: &Subject<'_>, index: usize, node: &Node) {
     let tree = subject.tree;
     let last = node.second.saturating_sub(1);
-    let (Some(condition), Some(2..)) = (tree.get(last), subject.constants.get(last.saturating_sub(1)))
-    else {
+    let (Some(condition), Some(2..)) = (
+        tree.get(last),
+        subject.constants.get(last.saturating_sub(1)),
+    ) else {
         return;
     };
-    let is_far = matches!(condition.kind, NodeKind::Binary(Op::Greater | Op::GreaterOrEqual))
-        && subject.meanings.get(condition.second.saturating_sub(1)) == Meaning::Range;
+    let is_far = matches!(
+        condition.kind,
+        NodeKind::Binary(Op::Greater | Op::GreaterOrEqual)
+    ) && subject.meanings.get(condition.second.saturating_sub(1)) == Meaning::Range;
     let body = tree.within(node.second, index);
-    let is_idle = !asks(subject, body, &[Intrinsic::Cannon, Intrinsic::Scan, Intrinsic::Drive]);
+    let is_idle = !asks(
+        subject,
+        body,
+        &[Intrinsic::Cannon, Intrinsic::Scan, Intrinsic::Drive],
+    );
     if is_far && is_idle && is_driven(subject, node) {
         out.tell(condition.token, WALL);
     }
@@ -234,14 +264,16 @@ fn is_driven(subject: &Subject<'_>, node: &Node) -> bool {
     };
     let degree = tree.get(tree.first_of(call));
     let look = tree.get(node.first);
-    matches!(drive.kind, NodeKind::Call(Callee::Intrinsic(Intrinsic::Drive), _))
-        && matches!((degree, look), (Some(degree), Some(look)) if degree.kind == look.kind)
+    matches!(
+        drive.kind,
+        NodeKind::Call(Callee::Intrinsic(Intrinsic::Drive), _)
+    ) && matches!((degree, look), (Some(degree), Some(look)) if degree.kind == look.kind)
 }
 
 /// Warns of the shot of an index at a number, if the range of a look to the same degree is kept, and only asked whether somebody is there.
 /// Reports whether it warned.
 pub fn warn_of_fixed(out: &mut Warnings, subject: &Subject<'_>, index: usize, node: &Node) {
-    let Some(HURTING..) = subject.constants.get(index.saturating_sub(1)) else {
+    let Some(LEAST_FIXED..) = subject.constants.get(index.saturating_sub(1)) else {
         return;
     };
     if let Some(scan) = look_of(subject, index, node) {
@@ -275,6 +307,7 @@ fn look_of(subject: &Subject<'_>, index: usize, node: &Node) -> Option<usize> {
                 found = is_somebody(subject, below).then_some((look, range, true));
             }
             _ if set_by(below) == Some(degree) => found = None,
+            _ if found.is_some_and(|(_, range, _)| set_by(below) == Some(range)) => found = None,
             _ => {}
         }
     }
@@ -308,7 +341,10 @@ fn is_somebody(subject: &Subject<'_>, node: &Node) -> bool {
             NodeKind::Binary(Op::Equal | Op::NotEqual) => number == 0,
             _ => false,
         },
-        (Some(asked), None) => matches!(asked.kind, NodeKind::If | NodeKind::IfElse | NodeKind::While),
+        (Some(asked), None) => matches!(
+            asked.kind,
+            NodeKind::If | NodeKind::IfElse | NodeKind::While
+        ),
         (None, _) => false,
     }
 }

@@ -1,5 +1,6 @@
 //! Warnings about statements that are an expression: without effect, or a `drive` that is replaced at once.
 
+use crate::courses::REPLACED;
 use crate::indices::{before, follows};
 use crate::rewriting::Rewrite;
 use crate::variables::set_by;
@@ -40,10 +41,7 @@ pub fn warn_of_statement(out: &mut Warnings, subject: &Subject<'_>, index: usize
             &Token::Punctuator(Punctuator::Semicolon),
         )
     {
-        out.tell(
-            node.token,
-            "this `drive` replaces the one before it at once: wait between them in a loop",
-        );
+        out.tell(node.token, REPLACED);
     }
 }
 

@@ -130,7 +130,12 @@ fn is_denied_question(subject: &Subject<'_>, left: &Node, right: &Node) -> bool 
     let is_question = match subject.tree.get(left.first) {
         Some(question) => matches!(
             question.kind,
-            NodeKind::Call(Callee::Intrinsic(Intrinsic::Damage | Intrinsic::LocX | Intrinsic::LocY | Intrinsic::Speed), 0)
+            NodeKind::Call(
+                Callee::Intrinsic(
+                    Intrinsic::Damage | Intrinsic::LocX | Intrinsic::LocY | Intrinsic::Speed
+                ),
+                0
+            )
         ),
         None => false,
     };
@@ -418,7 +423,7 @@ fn warn_of_parts(out: &mut Warnings, tokens: &[Located], factor: &Node) {
 
 /// Reports whether a number is among the tokens of a source, or may be after the last one, which is a lexical
 /// error. Behind a fault there are tokens, but no nodes.
-pub fn may_have(tokens: &[Located], number: u32) -> bool {
+fn may_have(tokens: &[Located], number: u32) -> bool {
     let wanted = Token::Constant(number);
     for located in tokens {
         if located.token == wanted || matches!(located.token, Token::Fault(_)) {

@@ -256,7 +256,10 @@ static DROPPED: [(&[u8], &str); 6] = [
     (b"rand", "; one of a to b is `a + rand(b - a + 1)`"),
     (b"atan", "; it takes a quotient: `atan(100000 * y / x)`"),
     (b"damage", ", as it tells the robot's own damage"),
-    (b"speed", ", as it tells the robot's own speed, and sets none"),
+    (
+        b"speed",
+        ", as it tells the robot's own speed, and sets none",
+    ),
     (b"loc_x", ", as it tells where the robot itself is"),
     (b"loc_y", ", as it tells where the robot itself is"),
 ];

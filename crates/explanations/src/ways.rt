@@ -162,7 +162,9 @@ pub fn on_haste(subject: &Subject<'_>, op: Op, asked: usize, kept: usize) -> Opt
         let is_set = node.kind == NodeKind::Store(var, StoreOp::Set);
         if is_set && tree.get(at.checked_sub(1)?)?.kind == question {
             return if is_damage {
-                has_shot.then_some("`damage()` is the robot's own: whether a shot hits another one, nothing tells")
+                has_shot.then_some(
+                    "`damage()` is the robot's own: whether a shot hits another one, nothing tells",
+                )
             } else {
                 Some(SOON)
             };
@@ -178,4 +180,5 @@ pub fn on_haste(subject: &Subject<'_>, op: Op, asked: usize, kept: usize) -> Opt
 }
 
 /// What is said of a place that is asked for twice without a wait.
-const SOON: &str = "the field moves every 15 cycles, and this is asked too soon after it was kept: wait in a loop between";
+const SOON: &str =
+    "the field moves every 15 cycles, and this is asked too soon after it was kept: wait in a loop between";
