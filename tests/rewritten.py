@@ -174,37 +174,37 @@ SOURCES: list[tuple[str, list[str]]] = [
      "    while (angle < 360) {\n      range = scan(angle, 10);\n      if (range < best) {\n        best = range;\n"
      "        target = angle;\n      }\n      angle += 20;\n    }\n    cannon(target, best);\n  }\n}\n",
      ["`if (range > 0 && range < best)`"]),
-    ("main()\n{\n  int angle, range, best, target, hurt, old;\n\n  while (1) {\n    best = 2000;\n"
+    ("main()\n{\n  int angle, range, best, target, hurt, old;\n\n  while (1) {\n    best = 2000; angle = 0;\n"
      "    while (angle < 360) {\n      range = scan(angle, 10);\n      if (best > range) {\n"
      "        target = angle; best = range;\n      }\n      angle += 20;\n    }\n    cannon(target, best);\n  }\n}\n",
      ["`if (range > 0 && best > range)`"]),
-    ("main()\n{\n  int angle, range, best, target, hurt, old;\n\n  while (1) {\n    best = 2000;\n"
+    ("main()\n{\n  int angle, range, best, target, hurt, old;\n\n  while (1) {\n    best = 2000; angle = 0;\n"
      "    while (angle < 360) {\n      if ((range = scan(angle, 10)) <= best) {\n        target = angle; best = range;\n"
      "      }\n      angle += 20;\n    }\n    cannon(target, best);\n  }\n}\n",
      ["leave 0 out"]),
-    ("main()\n{\n  int angle, range, best, target, hurt, old;\n\n  while (1) {\n    best = 2000;\n"
+    ("main()\n{\n  int angle, range, best, target, hurt, old;\n\n  while (1) {\n    best = 2000; angle = 0;\n"
      "    while (angle < 360) {\n      range = scan(angle, 10);\n      if (range < best && angle != old) {\n"
      "        target = angle; best = range;\n      }\n      angle += 20;\n    }\n    old = target; cannon(target, best);\n"
      "  }\n}\n",
      ["leave 0 out"]),
-    ("int best, target;\nmain()\n{\n  int angle, range;\n  while (1) {\n    best = 2000;\n    while (angle < 360) {\n"
+    ("int best, target;\nmain()\n{\n  int angle, range;\n  while (1) {\n    best = 2000; angle = 0;\n    while (angle < 360) {\n"
      "      range = scan(angle, 10);\n      if (range < best)\n        best = range;\n      angle += 20;\n    }\n"
      "    cannon(target, best); target = angle;\n  }\n}\n",
      ["leave 0 out"]),
-    ("main()\n{\n  int angle, range, best, target, hurt, old;\n\n  while (1) {\n    best = 2000;\n"
+    ("main()\n{\n  int angle, range, best, target, hurt, old;\n\n  while (1) {\n    best = 2000; angle = 0;\n"
      "    while (angle < 360) {\n      range = scan(angle, 10);\n      if (range > 0 && range < best) {\n"
      "        target = angle; best = range;\n      }\n      angle += 20;\n    }\n    cannon(target, best);\n  }\n}\n",
      []),
-    ("main()\n{\n  int angle, range, best, target, hurt, old;\n\n  while (1) {\n    best = 2000;\n"
+    ("main()\n{\n  int angle, range, best, target, hurt, old;\n\n  while (1) {\n    best = 2000; angle = 0;\n"
      "    while (angle < 360) {\n      range = scan(angle, 10);\n      if (range)\n        if (range < best) {\n"
      "          target = angle; best = range;\n        }\n      angle += 20;\n    }\n    cannon(target, best);\n  }\n}\n",
      []),
-    ("main()\n{\n  int angle, range, best, target, hurt, old;\n\n  while (1) {\n    best = 2000;\n"
+    ("main()\n{\n  int angle, range, best, target, hurt, old;\n\n  while (1) {\n    best = 2000; angle = 0;\n"
      "    while (angle < 360) {\n      range = scan(angle, 10);\n      if (range < best) {\n        if (range > 0) {\n"
      "          target = angle; best = range;\n        }\n      }\n      angle += 20;\n    }\n    cannon(target, best);\n"
      "  }\n}\n",
      []),
-    ("main()\n{\n  int angle, range, best, target, hurt, old;\n\n  while (1) {\n    best = 2000;\n"
+    ("main()\n{\n  int angle, range, best, target, hurt, old;\n\n  while (1) {\n    best = 2000; angle = 0;\n"
      "    while (angle < 360) {\n      range = scan(angle, 10);\n      if (range == 0) range = 2000;\n"
      "      if (range < best) {\n        target = angle; best = range;\n      }\n      angle += 20;\n    }\n"
      "    cannon(target, best);\n  }\n}\n",
@@ -251,11 +251,11 @@ SOURCES: list[tuple[str, list[str]]] = [
      "    if (damage() > hurt) { drive(rand(360), 50); hurt = damage(); }\n  }\n}\n",
      []),
     ("next(angle) { angle = angle + 20; }\nmain() { int a; while (1) { a = rand(9); next(a); drive(a, 9); } }\n", ["`return angle;`"]),
-    ("main()\n{\n  int angle, range, best, target, hurt, old;\n\n  while (1) {\n    best = 2000;\n"
+    ("main()\n{\n  int angle, range, best, target, hurt, old;\n\n  while (1) {\n    best = 2000; angle = 0;\n"
      "    while (angle < 360) {\n      if (range = scan(angle, 10))\n        if (range < best) {\n"
      "          target = angle; best = range;\n        }\n      angle += 20;\n    }\n    cannon(target, best);\n  }\n}\n",
      []),
-    ("main()\n{\n  int angle, range, best, target, hurt, old;\n\n  while (1) {\n    best = 2000;\n"
+    ("main()\n{\n  int angle, range, best, target, hurt, old;\n\n  while (1) {\n    best = 2000; angle = 0;\n"
      "    while (angle < 360) {\n      while ((range = scan(angle, 10)) == 0)\n        angle += 20;\n"
      "      if (range < best) {\n        target = angle; best = range;\n      }\n      angle += 20;\n    }\n"
      "    cannon(target, best);\n  }\n}\n",
@@ -287,8 +287,13 @@ SOURCES: list[tuple[str, list[str]]] = [
     (LOOK.format("  x = loc_x();", "    if (x > 500) drive(180, 50); else drive(0, 50);"), []),
     (LOOK.format("  x = loc_x();", "    if (loc_x() > x + 90) drive(180, 50); else drive(0, 50);"), []),
     (LOOK.format("  drive(0, 50);\n  x = loc_x();\n  while (x < 900) ;\n  drive(0, 0);", ""), ["`x = loc_x()` there"]),
-    (LOOK.format("  x = rand(90);\n  n = rand(90);\n  drive(atan(100000 * n / x), 30);\n  while (speed() > 0) ;", ""), ["-90 to 90", "add 180"]),
-    (LOOK.format("  x = rand(90);\n  n = rand(90);\n  drive(atan(100000 * n / x) + 180, 30);\n  while (speed() > 0) ;", ""), []),
+    (LOOK.format("", "    if (loc_x() == 500) drive(90, 50); else drive(0, 50);"), ["hardly ever is exactly there"]),
+    (LOOK.format("", "    if (loc_x() == 0) drive(0, 50);"), []),
+    (LOOK.format("", "    n = 0;\n    cannon(n, 300);\n    n += 20;"), ["`n` begins anew"]),
+    (LOOK.format("", "    n = 0;\n    while (n < 360) {\n      cannon(n, 300);\n      n += 20;\n    }"), []),
+    (LOOK.format("  n = 0;", "    while (n < 360) {\n      cannon(n, 300);\n      n += 20;\n    }"), ["done once alone"]),
+    (LOOK.format("", "    x = n = 0;\n    while (n < 360) {\n      range = scan(n, 10);\n      if (range > 0 && range < x) x = range;\n      n += 20;\n    }"),
+     ["begins with 0"]),
     (LOOK.format("", "    n = 300 * sin(angle * 314 / 18000) / 100000;\n    if (n > 50) drive(0, 50);"), ["no radians"]),
     (LOOK.format("", "    drive(angle, range / 700 * 100);"), ["rounded down first"]),
     (LOOK.format("", "    drive(angle, 100 * range / 1400);"), []),

@@ -10,7 +10,7 @@ use crate::pieces::{add_argument, add_piece};
 use crate::ranges::warn_of_fixed;
 use crate::reach::is_straight;
 use crate::rewriting::Rewrite;
-use crate::steps::{body_at, degree_of, steps_on};
+use crate::steps::{asks_for, body_at, degree_of, steps_on};
 use crate::told::text_of;
 use crate::variables::set_by;
 use crate::warnings::{Said, Subject, Warnings};
@@ -36,7 +36,7 @@ fn look_before(subject: &Subject<'_>, index: usize, wanted: Option<Var>) -> Opti
 /// Reports whether the node of an index is a scan.
 fn is_scan(subject: &Subject<'_>, index: usize) -> bool {
     match subject.tree.get(index) {
-        Some(node) => node.kind == NodeKind::Call(Callee::Intrinsic(Intrinsic::Scan), 2),
+        Some(node) => asks_for(node, Intrinsic::Scan),
         None => false,
     }
 }
@@ -154,7 +154,7 @@ pub fn warn_of_hits(out: &mut Warnings, subject: &Subject<'_>, index: usize, nod
         Some(condition) => is_shot(condition),
         None => false,
     };
-    if is_asked && node.kind != NodeKind::While {
+    if is_asked {
         for below in subject.tree.within(node.second, index) {
             if set_by(below).is_some() && is_hit(subject, below) {
                 out.tell(node.token, FIRED);
@@ -165,10 +165,7 @@ pub fn warn_of_hits(out: &mut Warnings, subject: &Subject<'_>, index: usize, nod
 
 /// Reports whether a node is a shot.
 fn is_shot(node: &Node) -> bool {
-    matches!(
-        node.kind,
-        NodeKind::Call(Callee::Intrinsic(Intrinsic::Cannon), _)
-    )
+    asks_for(node, Intrinsic::Cannon)
 }
 
 /// Reports whether the variable that a node sets is named like a hit.

@@ -12,7 +12,7 @@ use crate::nearest::warn_of_least;
 use crate::ranges::{warn_of_far, warn_of_nobody};
 use crate::rewriting::Rewrite;
 use crate::rows::warn_of_loop;
-use crate::steps::only_step;
+use crate::steps::{asks_for, only_step};
 use crate::values::{holds, is_turned};
 use crate::variables::set_by;
 use crate::warnings::{Said, Subject, Warnings};
@@ -38,20 +38,7 @@ pub fn warn_of_branch(out: &mut Warnings, subject: &Subject<'_>, index: usize, n
     {
         out.warn(equals, on_equals(tokens, node.token, equals));
     }
-    warn_of_least(out, subject, index, node);
-    warn_of_damage(out, subject, index, node);
-    warn_of_hits(out, subject, index, node);
-    warn_of_early(out, subject, index, node);
-    if node.kind != NodeKind::While {
-        if is_exact(subject, last, condition) {
-            out.tell(
-                condition.token,
-                "a robot moves some metres at once, and hardly ever is exactly there: write `<` or `>`",
-            );
-        }
-        warn_of_nobody(out, subject, index, node);
-        warn_of_led(out, subject, index, node);
-    }
+    warn_of_question(out, subject, index, node, condition);
     if let Some(said) = on_bits(condition) {
         out.warn(condition.token, said);
     }
@@ -70,6 +57,31 @@ pub fn warn_of_branch(out: &mut Warnings, subject: &Subject<'_>, index: usize, n
         warn_of_once(out, subject, index, node);
         warn_of_way(out, subject, index, node, condition);
         warn_of_far(out, subject, index, node);
+    }
+}
+
+/// Warns of the condition of the `if` or `while` of an index by what it asks of the game.
+fn warn_of_question(
+    out: &mut Warnings,
+    subject: &Subject<'_>,
+    index: usize,
+    node: &Node,
+    condition: &Node,
+) {
+    warn_of_damage(out, subject, index, node);
+    if node.kind == NodeKind::While {
+        return;
+    }
+    warn_of_least(out, subject, index, node);
+    warn_of_hits(out, subject, index, node);
+    warn_of_early(out, subject, index, node);
+    warn_of_nobody(out, subject, index, node);
+    warn_of_led(out, subject, index, node);
+    if is_exact(subject, node.second.saturating_sub(1), condition) {
+        out.tell(
+            condition.token,
+            "a robot moves some metres at once, and hardly ever is exactly there: write `<` or `>`",
+        );
     }
 }
 
@@ -185,10 +197,7 @@ fn is_stuck(subject: &Subject<'_>, index: usize, node: &Node, condition: &Node) 
     ) else {
         return false;
     };
-    let asks_speed = matches!(
-        left.kind,
-        NodeKind::Call(Callee::Intrinsic(Intrinsic::Speed), _)
-    );
+    let asks_speed = asks_for(left, Intrinsic::Speed);
     let goes_on = op != Op::Equal && value > 0 && holds(op, 0, value) == Some(true);
     asks_speed && goes_on && !have_calls(subject.tree.within(node.second, index))
 }

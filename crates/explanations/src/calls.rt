@@ -426,12 +426,6 @@ fn warn_of_look(
     if let Some(words) = on_angle(subject, index, node, intrinsic) {
         out.tell(node.token, words);
     }
-    if intrinsic == Intrinsic::Rand && matches!(constants.get(last), Some(..=1)) {
-        out.tell(
-            node.token,
-            "this is always 0: `rand(n)` is one of 0 to n - 1, so a degree is `rand(360)`",
-        );
-    }
     if matches!(intrinsic, Intrinsic::Sin | Intrinsic::Cos | Intrinsic::Tan)
         && let Some(words) = on_degree(subject.meanings.get(last))
         && let Some(argument) = tree.get(last)
@@ -440,7 +434,7 @@ fn warn_of_look(
     }
 }
 
-/// Returns what is said of a look to a whole circle, and of a factor by which degrees become radians.
+/// Returns what is said of a random number below 1, of a look to a whole circle, and of a factor by which degrees become radians.
 fn on_angle(
     subject: &Subject<'_>,
     index: usize,
@@ -449,6 +443,9 @@ fn on_angle(
 ) -> Option<&'static str> {
     let first = subject.tree.outermost(node.first, index);
     match intrinsic {
+        Intrinsic::Rand if matches!(subject.constants.get(first), Some(..=1)) => Some(
+            "this is always 0: `rand(n)` is one of 0 to n - 1, so a degree is `rand(360)`",
+        ),
         Intrinsic::Scan if subject.constants.get(first) == Some(CIRCLE) => Some(
             "360 degrees are 0: this looks to the east alone, by the resolution to both sides; to look round write `angle += 20` in a loop",
         ),

@@ -45,6 +45,16 @@ fn is_in_test(scene: &Scene<'_>) -> bool {
     false
 }
 
+/// Returns the hint on a `,` or a `;` between conditions.
+pub fn on_joined_conditions(scene: &Scene<'_>) -> Option<Hint> {
+    let parts = scene.is_mark(Punctuator::Comma) || scene.is_mark(Punctuator::Semicolon);
+    (parts && is_in_test(scene)).then_some(Hint::Written(
+        "conditions are joined by `&&`, if both are to hold, or by `||`",
+        Rewrite::Joined(scene.index, scene.index.saturating_add(1), "&&"),
+        "a > 1 && a < 9",
+    ))
+}
+
 /// Returns the hint on brackets that aren't closed or not opened, and on arguments without a `,` between them.
 pub fn on_brackets(scene: &Scene<'_>) -> Option<Hint> {
     let may_close = scene.fits_mark(Punctuator::CloseRound);
@@ -55,15 +65,6 @@ pub fn on_brackets(scene: &Scene<'_>) -> Option<Hint> {
             "a product is written with `*`",
             Rewrite::Joined(scene.index, scene.index, "*"),
             "2 * (a + b)",
-        ));
-    }
-    if (scene.is_mark(Punctuator::Comma) || scene.is_mark(Punctuator::Semicolon))
-        && is_in_test(scene)
-    {
-        return Some(Hint::Written(
-            "conditions are joined by `&&`, if both are to hold, or by `||`",
-            Rewrite::Joined(scene.index, scene.index.saturating_add(1), "&&"),
-            "a > 1 && a < 9",
         ));
     }
     if may_close && follows_number && matches!(scene.met(), Token::Name(_)) {

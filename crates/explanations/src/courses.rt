@@ -5,7 +5,7 @@ use crate::calls::body_of;
 use crate::chances::compared;
 use crate::indices::is_name;
 use crate::rows::is_call_of;
-use crate::steps::{body_at, steps_on};
+use crate::steps::{asks_for, body_at, steps_on};
 use crate::variables::set_by;
 use crate::warnings::{Subject, Warnings};
 use derivations::{Body, Node, NodeKind, SourceTree};
@@ -17,16 +17,6 @@ const MOST_TURNING: i32 = 50;
 /// The most statements in a row that are looked at.
 const MOST_STATEMENTS: usize = 20;
 
-/// The most nodes between two `drive` that are done before the robot has moved.
-const MOST_SOON: usize = 14;
-
-/// The nodes of a `drive` of two numbers, as a statement.
-const MOST_OF_DRIVE: usize = 4;
-
-/// What is said of a `drive` that comes too soon after another one.
-pub const REPLACED: &str =
-    "this `drive` replaces the one before it at once: wait between them in a loop";
-
 /// A `drive` that is a statement: the index of the node of its degree, and its speed, if that is known.
 #[derive(Clone, Copy)]
 struct Course {
@@ -34,10 +24,9 @@ struct Course {
     speed: Option<i32>,
 }
 
-/// What stands between two statements of a row: more than some nodes, a loop, one that counts, and a statement that sets the degree.
+/// What stands between two statements of a row: a loop, one that counts, and a statement that sets the degree.
 #[derive(Clone, Copy, Default)]
 struct Between {
-    lasts: bool,
     waits: bool,
     counts: bool,
     turns: bool,
@@ -50,10 +39,7 @@ pub fn warn_of_course(out: &mut Warnings, subject: &Subject<'_>, index: usize, n
         return;
     };
     if goes_off(subject, index, course) {
-        out.tell(
-            node.token,
-            "a robot stops at the wall, and doesn't bounce: there its speed is 0, and only another `drive` moves it; nothing calls `drive` again",
-        );
+        out.tell(node.token, OFF);
     }
     let Some((before, between)) = course_before(subject, index, course) else {
         return;
@@ -61,32 +47,29 @@ pub fn warn_of_course(out: &mut Warnings, subject: &Subject<'_>, index: usize, n
     let Some(last) = course_at(subject, before) else {
         return;
     };
-    if !between.waits {
-        if !between.lasts
-            && index.saturating_sub(before) > MOST_OF_DRIVE
-            && turns(subject, last, course, between)
-        {
-            out.tell(node.token, REPLACED);
-        }
-        return;
-    }
     let is_same = before == index && !between.turns;
     if is_same && between.counts && is_turn(subject, course) {
-        out.tell(
-            node.token,
-            "this is the same degree each time: degrees are absolute, 0 is east, 90 north, 180 west and 270 south; to turn by it, add it to a variable: `course += 90; drive(course, 50);`",
-        );
+        out.tell(node.token, SAME);
     } else if !is_same
         && course.speed > Some(0)
         && last.speed > Some(MOST_TURNING)
         && turns(subject, last, course, between)
     {
-        out.tell(
-            node.token,
-            "a robot above speed 50 only brakes here: slow down first, `drive(0, 50); while (speed() > 50) ;`",
-        );
+        out.tell(node.token, FAST);
     }
 }
+
+/// What is said of a last `drive`.
+const OFF: &str =
+    "a robot stops at the wall, and doesn't bounce: there its speed is 0, and only another `drive` moves it; nothing calls `drive` again";
+
+/// What is said of a `drive` that turns nothing.
+const SAME: &str =
+    "this is the same degree each time: degrees are absolute, 0 is east, 90 north, 180 west and 270 south; to turn by it, add it to a variable: `course += 90; drive(course, 50);`";
+
+/// What is said of a turn at too high a speed.
+const FAST: &str =
+    "a robot above speed 50 only brakes here: slow down first, `drive(0, 50); while (speed() > 50) ;`";
 
 /// Returns the course of the statement of an index, if it is a `drive`.
 fn course_at(subject: &Subject<'_>, index: usize) -> Option<Course> {
@@ -133,8 +116,7 @@ fn course_before(subject: &Subject<'_>, index: usize, course: Course) -> Option<
     for _ in 0..MOST_STATEMENTS {
         at = statement_before(subject, at).or(last_of_turn(subject, at))?;
         if is_call_of(subject.tree, at, Intrinsic::Drive) {
-            between.lasts = at.saturating_add(MOST_SOON) < index || index <= at;
-            return Some((at, between));
+            return between.waits.then_some((at, between));
         }
         let (first, end) = (subject.tree.first_of(at), at.saturating_add(1));
         if asks(
@@ -326,7 +308,6 @@ pub fn warn_of_early(out: &mut Warnings, subject: &Subject<'_>, index: usize, no
     if is_main
         && is_told
         && node.above.is_none()
-        && node.kind != NodeKind::While
         && asks(
             subject,
             tree.within(node.first, node.second),
@@ -352,10 +333,7 @@ pub fn is_course(tree: &SourceTree, index: usize, var: Var) -> bool {
     };
     for at in body.first..body.end {
         if let Some(node) = tree.get(at)
-            && matches!(
-                node.kind,
-                NodeKind::Call(Callee::Intrinsic(Intrinsic::Drive), _)
-            )
+            && asks_for(node, Intrinsic::Drive)
             && let Some(degree) = tree.get(tree.outermost(node.first, at))
             && degree.kind == NodeKind::Fetch(var)
         {

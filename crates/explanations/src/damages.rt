@@ -2,6 +2,7 @@
 
 use crate::chances::compared;
 use crate::courses::asks;
+use crate::steps::asks_for;
 use crate::warnings::{Subject, Warnings};
 use derivations::{Node, NodeKind};
 use grammar::{Callee, Intrinsic, Op};
@@ -75,10 +76,7 @@ fn flees(subject: &Subject<'_>, index: usize, node: &Node) -> bool {
 fn moves(subject: &Subject<'_>, first: usize, end: usize) -> bool {
     for at in first..end {
         if let Some(node) = subject.tree.get(at)
-            && matches!(
-                node.kind,
-                NodeKind::Call(Callee::Intrinsic(Intrinsic::Drive), _)
-            )
+            && asks_for(node, Intrinsic::Drive)
             && subject.constants.get(at.saturating_sub(1)) != Some(0)
         {
             return true;

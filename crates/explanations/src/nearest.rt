@@ -20,9 +20,6 @@ struct Search {
 /// Warns of the `if` of an index whose condition asks whether a range is less than the least one, if its branch keeps that and
 /// nothing leaves out 0.
 pub fn warn_of_least(out: &mut Warnings, subject: &Subject<'_>, index: usize, node: &Node) {
-    if node.kind == NodeKind::While {
-        return;
-    }
     for at in node.first..node.second {
         if let Some(search) = search_at(subject, at)
             && keeps(subject, node, search)

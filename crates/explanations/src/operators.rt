@@ -79,6 +79,19 @@ static TURNED: [(Punctuator, &str, &str); 3] = [
     (Punctuator::Not, "perhaps `!=` is meant", "!="),
 ];
 
+/// Returns the hint on a `!` with a `=` behind it, and something between.
+pub fn on_parted_operators(scene: &Scene<'_>) -> Option<Hint> {
+    let next = scene.index.saturating_add(1);
+    let is_parted = scene.is_mark(Punctuator::Not)
+        && scene.token(next) == Token::Punctuator(Punctuator::Equals)
+        && scene.kinds.operator;
+    is_parted.then_some(Hint::Written(
+        "perhaps `!=` is meant",
+        Rewrite::Joined(scene.index, next.saturating_add(1), "!="),
+        "",
+    ))
+}
+
 /// Returns the hint on punctuators that are no operators here.
 pub fn on_operators(scene: &Scene<'_>) -> Option<Hint> {
     let (before, next) = (scene.index.saturating_sub(1), scene.index.saturating_add(1));
@@ -89,16 +102,6 @@ pub fn on_operators(scene: &Scene<'_>) -> Option<Hint> {
     }
     if scene.is_mark(Punctuator::Equals) && begins_arrow(scene) {
         return Some(Hint::Text(ARROW));
-    }
-    if scene.is_mark(Punctuator::Not)
-        && scene.token(next) == Token::Punctuator(Punctuator::Equals)
-        && scene.kinds.operator
-    {
-        return Some(Hint::Written(
-            "perhaps `!=` is meant",
-            Rewrite::Joined(scene.index, next.saturating_add(1), "!="),
-            "",
-        ));
     }
     for (second, says, sign) in &TURNED {
         let is_met = scene.is_mark(Punctuator::Equals)

@@ -6,7 +6,7 @@ use crate::heads::behind_brackets;
 use crate::meanings::Meaning;
 use crate::reach::is_straight;
 use crate::rewriting::Rewrite;
-use crate::steps::{body_at, degree_of, is_degree};
+use crate::steps::{asks_for, body_at, degree_of, is_degree};
 use crate::variables::set_by;
 use crate::warnings::{Said, Subject, Warnings};
 use derivations::{Node, NodeKind};
@@ -43,13 +43,16 @@ pub fn warn_of_nobody(out: &mut Warnings, subject: &Subject<'_>, index: usize, n
         return;
     };
     let shoots = shoots_at(subject, node.second, node.third, less);
-    let is_checked = reads_before(subject, node, less);
     if shoots && less.most <= HURTING.saturating_add(1) {
         out.tell(
             less.token,
             "a burst within 40 metres hurts the robot itself: shoot only if the range is greater than 40",
         );
-    } else if is_checked {} else if looks_for_wall(subject, index, node, less) {
+    }
+    if shoots && less.most <= HURTING.saturating_add(1) || reads_before(subject, node, less) {
+        return;
+    }
+    if looks_for_wall(subject, index, node, less) {
         out.tell(less.token, WALL);
     } else if shoots || less.most > HURTING && drives_only(subject, index, node) {
         let begin = node.token.saturating_add(2);
@@ -116,7 +119,7 @@ fn reads_before(subject: &Subject<'_>, node: &Node, less: Less) -> bool {
         };
         let is_own = below.above == Some(less.index);
         if less.var.is_none() {
-            let is_scan = below.kind == NodeKind::Call(Callee::Intrinsic(Intrinsic::Scan), 2);
+            let is_scan = asks_for(below, Intrinsic::Scan);
             is_read = is_read || at >= node.first && is_scan && !is_own;
         } else if set_by(below) == less.var {
             is_read = subject.tree.is_used(at) && !is_own;
@@ -144,7 +147,7 @@ fn is_joined(subject: &Subject<'_>, node: &Node) -> bool {
 fn shoots_at(subject: &Subject<'_>, first: usize, end: usize, less: Less) -> bool {
     for at in first..end {
         if let Some(node) = subject.tree.get(at)
-            && node.kind == NodeKind::Call(Callee::Intrinsic(Intrinsic::Cannon), 2)
+            && asks_for(node, Intrinsic::Cannon)
             && let Some(range) = subject.tree.get(at.saturating_sub(1))
             && less
                 .var
@@ -207,7 +210,7 @@ fn is_looked_to(subject: &Subject<'_>, node: &Node, less: Less, var: Var) -> boo
     let mut found = None;
     for at in body.first..node.second {
         if let Some(below) = subject.tree.get(at)
-            && below.kind == NodeKind::Call(Callee::Intrinsic(Intrinsic::Scan), 2)
+            && asks_for(below, Intrinsic::Scan)
         {
             found = degree_of(subject.tree, at, below);
         }
@@ -264,10 +267,8 @@ fn is_driven(subject: &Subject<'_>, node: &Node) -> bool {
     };
     let degree = tree.get(tree.first_of(call));
     let look = tree.get(node.first);
-    matches!(
-        drive.kind,
-        NodeKind::Call(Callee::Intrinsic(Intrinsic::Drive), _)
-    ) && matches!((degree, look), (Some(degree), Some(look)) if degree.kind == look.kind)
+    asks_for(drive, Intrinsic::Drive)
+        && matches!((degree, look), (Some(degree), Some(look)) if degree.kind == look.kind)
 }
 
 /// Warns of the shot of an index at a number, if the range of a look to the same degree is kept, and only asked whether somebody is there.
@@ -320,8 +321,7 @@ fn is_look_to(subject: &Subject<'_>, index: usize, degree: Var) -> bool {
     let scan = index.saturating_sub(1);
     match subject.tree.get(scan) {
         Some(node) => {
-            node.kind == NodeKind::Call(Callee::Intrinsic(Intrinsic::Scan), 2)
-                && degree_of(subject.tree, scan, node) == Some(degree)
+            asks_for(node, Intrinsic::Scan) && degree_of(subject.tree, scan, node) == Some(degree)
         }
         None => false,
     }

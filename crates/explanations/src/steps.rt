@@ -16,6 +16,16 @@ pub fn body_at(tree: &SourceTree, index: usize) -> Option<&Body> {
     None
 }
 
+/// Reports whether a node calls this intrinsic function.
+/// It isn't inlined, since the page's module is to be small.
+#[inline(never)]
+pub fn asks_for(node: &Node, wanted: Intrinsic) -> bool {
+    match node.kind {
+        NodeKind::Call(Callee::Intrinsic(called), _) => called == wanted,
+        _ => false,
+    }
+}
+
 /// Reports whether a variable is somewhere the degree of a scan, a shot or a drive, in the function that the node of an
 /// index is in.
 pub fn is_degree(tree: &SourceTree, index: usize, var: Var) -> bool {

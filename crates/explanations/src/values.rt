@@ -6,7 +6,7 @@ use crate::indices::{is_name, token_at, touches};
 use crate::meanings::Meaning;
 use crate::renewals::warn_of_old_reading;
 use crate::rewriting::Rewrite;
-use crate::steps::is_degree;
+use crate::steps::{asks_for, is_degree};
 use crate::warnings::{Meant, Said, Subject, Warnings};
 use crate::ways::on_haste;
 use derivations::{Located, Node, NodeKind};
@@ -291,10 +291,7 @@ fn most_of(subject: &Subject<'_>, index: usize, depth: u8) -> Option<i64> {
 
 /// Returns what is said of a comparison of what `cannon` answers with a number, if it never holds.
 fn on_shot(op: Op, left: &Node, value: Option<i32>) -> Option<&'static str> {
-    let is_shot = matches!(
-        left.kind,
-        NodeKind::Call(Callee::Intrinsic(Intrinsic::Cannon), _)
-    );
+    let is_shot = asks_for(left, Intrinsic::Cannon);
     let never = !holds(op, 0, value?)? && !holds(op, 1, value?)?;
     (is_shot && never).then_some(
         "`cannon` answers 1 if it fired, and else 0: this never holds; a hit isn't answered",
@@ -468,6 +465,24 @@ pub fn warn_of_store(
             "this sets the variable to itself: nothing changes",
         );
     }
+    warn_of_off_course(out, subject, index, node, op);
+    if op == StoreOp::Set && sets_answer(subject, index) {
+        out.warn(node.token, on_set_answer(node.token));
+    }
+    if let Some(words) = on_hit(subject, index, node, op) {
+        out.tell(node.token, words);
+    }
+    warn_of_turned(out, subject.tokens, node.token.saturating_add(1));
+}
+
+/// Warns of an assignment of an index of a degree to a variable that is named by another direction.
+fn warn_of_off_course(
+    out: &mut Warnings,
+    subject: &Subject<'_>,
+    index: usize,
+    node: &Node,
+    op: StoreOp,
+) {
     if op == StoreOp::Set
         && let Some(value) = subject.constants.get(index.saturating_sub(1))
         && is_off_course(subject.tokens, node.token, value)
@@ -477,13 +492,6 @@ pub fn warn_of_store(
             Said::Variable(" is another degree", Meant::Used),
         );
     }
-    if let Some(words) = on_hit(subject, index, node, op) {
-        out.tell(node.token, words);
-    }
-    if op == StoreOp::Set && sets_answer(subject, index) {
-        out.warn(node.token, on_set_answer(node.token));
-    }
-    warn_of_turned(out, subject.tokens, node.token.saturating_add(1));
 }
 
 /// Warns of a `=-` or a `=!` whose `=` is the token of an index.
