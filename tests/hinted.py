@@ -330,9 +330,10 @@ def unseen(random_: random.Random) -> tuple[str, bool]:
         ("r < 700", True), ("r <= 300", True), ("r < 700 && d > 5", True), ("r > 0 && r < 700", False), ("r < 700 && r > 40", False),
         ("r && r < 700", False), ("r < 700 && r", False), ("r > 40", False)))
     before, is_asked = random_.choice((("", False), ("", False), ("if (r == 0) d += 9; else ", True), ("if (r) ", True)))
-    look = random_.choice(("r = scan(d, 10);", "r = look(d);"))
+    # another function may answer no 0
+    look, is_own = random_.choice((("r = scan(d, 10);", True), ("r = scan(d, 10);", True), ("r = look(d);", False)))
     return (f"look(d) {{ return scan(d, 10); }}\nmain() {{\n  int d, r;\n  while (1) {{\n    {look}\n    {before}if ({test}) cannon(d, r);\n    d += 20;\n"
-            "    r = look(d);\n    if (r > 40) cannon(d, r);\n  }\n}\n"), passes and not is_asked
+            "    r = look(d);\n    if (r > 40) cannon(d, r);\n  }\n}\n"), passes and is_own and not is_asked
 
 
 def fixed(random_: random.Random) -> tuple[str, bool]:

@@ -34,7 +34,7 @@ fn look_before(subject: &Subject<'_>, index: usize, wanted: Option<Var>) -> Opti
 }
 
 /// Reports whether the node of an index is a scan.
-fn is_scan(subject: &Subject<'_>, index: usize) -> bool {
+pub fn is_scan(subject: &Subject<'_>, index: usize) -> bool {
     match subject.tree.get(index) {
         Some(node) => asks_for(node, Intrinsic::Scan),
         None => false,

@@ -1,6 +1,7 @@
 //! Warnings about ranges: a look that saw nobody taken for somebody near, a look for a wall, a shot that hurts the robot itself, and one
 //! at another range than that of the look.
 
+use crate::aims::is_scan;
 use crate::courses::{asks, is_course};
 use crate::heads::behind_brackets;
 use crate::meanings::Meaning;
@@ -112,25 +113,34 @@ fn reads_before(subject: &Subject<'_>, node: &Node, less: Less) -> bool {
     let Some(body) = body_at(subject.tree, less.index) else {
         return true;
     };
-    let mut is_read = false;
+    let Some(var) = less.var else {
+        return looks_again(subject, node, less);
+    };
+    // what another function set may have been asked there
+    let mut is_read = true;
     for at in body.first..node.second {
         let Some(below) = subject.tree.get(at) else {
             return true;
         };
         let is_own = below.above == Some(less.index);
-        if less.var.is_none() {
-            let is_scan = asks_for(below, Intrinsic::Scan);
-            is_read = is_read || at >= node.first && is_scan && !is_own;
-        } else if set_by(below) == less.var {
-            is_read = subject.tree.is_used(at) && !is_own;
-        } else if less
-            .var
-            .is_some_and(|var| below.kind == NodeKind::Fetch(var))
-        {
+        if set_by(below) == Some(var) {
+            is_read = subject.tree.is_used(at) && !is_own
+                || !is_scan(subject, at.saturating_sub(1));
+        } else if below.kind == NodeKind::Fetch(var) {
             is_read = is_read || !is_own;
         }
     }
-    is_read || less.var.is_some() && is_joined(subject, node)
+    is_read || is_joined(subject, node)
+}
+
+/// Reports whether the condition of a node has another look than that of a comparison.
+fn looks_again(subject: &Subject<'_>, node: &Node, less: Less) -> bool {
+    for below in subject.tree.within(node.first, node.second) {
+        if asks_for(below, Intrinsic::Scan) && below.above != Some(less.index) {
+            return true;
+        }
+    }
+    false
 }
 
 /// Reports whether a condition has an `||`.
@@ -149,9 +159,7 @@ fn shoots_at(subject: &Subject<'_>, first: usize, end: usize, less: Less) -> boo
         if let Some(node) = subject.tree.get(at)
             && asks_for(node, Intrinsic::Cannon)
             && let Some(range) = subject.tree.get(at.saturating_sub(1))
-            && less
-                .var
-                .is_some_and(|var| range.kind == NodeKind::Fetch(var))
+            && matches!(less.var, Some(var) if range.kind == NodeKind::Fetch(var))
         {
             return true;
         }
@@ -303,12 +311,13 @@ fn look_of(subject: &Subject<'_>, index: usize, node: &Node) -> Option<usize> {
                 found = Some((at, var, false));
             }
             NodeKind::Call(Callee::Function(_), _) => found = None,
-            NodeKind::Fetch(var) if found.is_some_and(|(_, range, _)| range == var) => {
+            NodeKind::Fetch(var) if matches!(found, Some((_, range, _)) if range == var) => {
                 let (look, range, _) = found?;
                 found = is_somebody(subject, below).then_some((look, range, true));
             }
             _ if set_by(below) == Some(degree) => found = None,
-            _ if found.is_some_and(|(_, range, _)| set_by(below) == Some(range)) => found = None,
+            _ if matches!(found, Some((_, range, _)) if set_by(below) == Some(range)) => found =
+                None,
             _ => {}
         }
     }
@@ -321,7 +330,7 @@ fn is_look_to(subject: &Subject<'_>, index: usize, degree: Var) -> bool {
     let scan = index.saturating_sub(1);
     match subject.tree.get(scan) {
         Some(node) => {
-            asks_for(node, Intrinsic::Scan) && degree_of(subject.tree, scan, node) == Some(degree)
+            is_scan(subject, scan) && degree_of(subject.tree, scan, node) == Some(degree)
         }
         None => false,
     }

@@ -319,7 +319,7 @@ fn on_rounded(
         && left.kind == NodeKind::Binary(Op::Divide)
         && value? >= LEAST_ROUNDED
         && divisor > LEAST_ROUNDED
-        && greatest.saturating_div(divisor) <= 2).then_some(
+        && greatest < divisor.saturating_mul(3)).then_some(
         "this quotient is rounded down first, to 0, 1 or 2: multiply first, and divide the product",
     )
 }
