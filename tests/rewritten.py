@@ -301,6 +301,18 @@ SOURCES: list[tuple[str, list[str]]] = [
     (LOOK.format("  drive(atan(x, n), 0);\n  x = n = 1;", ""), ["`atan(100000 * y / x)`"]),
     (LOOK.format("", "    if (range /= 0) drive(angle, 50);"), ["`range != 0`"]),
     (LOOK.format("", "    if (!damage() == old) old = damage();"), ["`!(damage() == old)`"]),
+    # heads, conditions and remainders as in other languages, and what is nearly so
+    ("turn(d = 9) {\n  drive(d, 50);\n}\nmain() { while (1) turn(9); }\n", ["no default value", "`turn(d) {`"]),
+    ("turn(d) returns int {\n  drive(d, 50);\n}\nmain() { while (1) turn(9); }\n", ["nothing stands between the head of a function and its `{`", "`turn(d) {`"]),
+    ("turn(d) => {\n  drive(d, 50);\n}\nmain() { while (1) turn(9); }\n", ["`turn(d) {`"]),
+    ("turn d {\n  drive(d, 50);\n}\nmain() { while (1) turn(9); }\n", ["brackets behind its name"]),
+    ("proc turn(d) {\n  drive(d, 50);\n}\nmain() { while (1) turn(9); }\n", ["`turn(d) {`"]),
+    ("turn(d,) {\n  drive(d, 50);\n}\nmain() { while (1) turn(9); }\n", ["`turn(d) {`"]),
+    (LOOK.format("", "    while (n = 0; n < 360; n += 20) cannon(n, 300);"), ["`n = 0; while (n < 360) { cannon(n, 300); n += 20; }`"]),
+    (LOOK.format("", "    if (range > 40, 1, 2);"), ["one condition in its brackets"]),
+    (LOOK.format("", "    n = (n - 1) % 4;\n    drive(n * 90, 50);"), ["`(n + 3) % 4`"]),
+    (LOOK.format("", "    n = (n + 3) % 4;\n    drive(n * 90, 50);"), []),
+    (LOOK.format("", "    drive(angle, (999 - loc_x()) * 100 / 999);"), []),
     # words, signs and marks of other languages, by kind
     (LOOK.format("", "    if (range -lt 40) angle = 5;"), ["`lt` is Shell: write `<`"]),
     (LOOK.format("", "    if (range eq 40) angle = 5;"), ["write `==`"]),

@@ -1,6 +1,6 @@
 //! Hints on what parts and ends: commas, brackets, semicolons and braces.
 
-use crate::heads::line_from;
+use crate::heads::{behind_brackets, line_from};
 use crate::hints::{Hint, by_layout};
 use crate::misfits::begins_value;
 use crate::operators::compares;
@@ -45,9 +45,36 @@ fn is_in_test(scene: &Scene<'_>) -> bool {
     false
 }
 
+/// Reports whether the brackets of the `if` or `while` of an index are closed in its line: what is behind the token that doesn't fit is no
+/// condition.
+fn holds_statements(scene: &Scene<'_>, word: usize) -> bool {
+    let is_test = matches!(
+        scene.token(word),
+        Token::Keyword(Keyword::If | Keyword::While)
+    );
+    let Some(behind) = behind_brackets(scene.tokens, word) else {
+        return false;
+    };
+    is_test && scene.line(behind.saturating_sub(1)) == scene.line(word)
+}
+
 /// Returns the hint on a `,` or a `;` between conditions.
 pub fn on_joined_conditions(scene: &Scene<'_>) -> Option<Hint> {
     let parts = scene.is_mark(Punctuator::Comma) || scene.is_mark(Punctuator::Semicolon);
+    let word = scene.pending_at(Item::Exactly(Punctuator::CloseRound))?;
+    if parts && !is_in_test(scene) && holds_statements(scene, word) {
+        return Some(Hint::Written(
+            "an `if` or a `while` has one condition in its brackets, and behind them a statement",
+            if scene.is_mark(Punctuator::Semicolon)
+                && scene.token(word) == Token::Keyword(Keyword::While)
+            {
+                Rewrite::For(word)
+            } else {
+                Rewrite::Listed(word)
+            },
+            "if (..) ..; else ..;",
+        ));
+    }
     (parts && is_in_test(scene)).then_some(Hint::Written(
         "conditions are joined by `&&`, if both are to hold, or by `||`",
         Rewrite::Joined(scene.index, scene.index.saturating_add(1), "&&"),

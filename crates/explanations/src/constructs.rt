@@ -67,6 +67,7 @@ inline'@\t^leave it out
 printf'( puts'(\ta robot writes nothing, and has no text: leave the line out
 scanf'(\ta robot reads nothing: leave the line out
 volatile'@\tleave `volatile` out
+proc'@ method'@ routine'@ subroutine'@ task'@\t^a function begins with its name
 sleep'(\tnothing waits by itself: a loop does, such as `while (speed() > 0) ;`
 NULL\twrite 0
 exit'(\ta robot ends with the match: leave it out

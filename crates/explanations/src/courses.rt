@@ -146,7 +146,7 @@ fn sets(nodes: &[Node], read: NodeKind) -> bool {
 }
 
 /// Returns the index of the statement right before the one of an index, in the same body.
-fn statement_before(subject: &Subject<'_>, index: usize) -> Option<usize> {
+pub fn statement_before(subject: &Subject<'_>, index: usize) -> Option<usize> {
     let node = subject.tree.get(index)?;
     let before = node.first.checked_sub(1)?;
     let other = subject.tree.get(before)?;

@@ -5,6 +5,7 @@
 mod aims;
 mod arrows;
 mod assigning;
+mod bounds;
 mod branches;
 mod calls;
 mod carets;

@@ -19,7 +19,10 @@ pub fn on_values(scene: &Scene<'_>) -> Option<Hint> {
         return Some(Hint::Text("there are no structures and no pointers: a name stands alone"));
     }
     if scene.is_mark(Punctuator::Equals) && scene.is_outside() && is_in_list(scene) {
-        return Some(Hint::Text("a parameter has no default value: each call gives it one"));
+        return Some(Hint::Head(
+            "a parameter has no default value: each call gives it one",
+            scene.head()?,
+        ));
     }
     if scene.is_mark(Punctuator::And) && scene.kinds.expression {
         return Some(Hint::Text(

@@ -2,9 +2,11 @@
 //!
 //! A rewriting that can't be made, as of a piece on several lines or a long one, leaves an example in its place.
 
+use crate::assigning::value_end;
 use crate::chosen::{add_chosen, add_decided, end_from};
 use crate::conditions::condition_end;
 use crate::counted::{add_counted, add_for};
+use crate::heads::behind_brackets;
 use crate::indices::token_at;
 use crate::named::{add_exchanged_names, add_unnamed};
 use crate::notes::Note;
@@ -85,6 +87,10 @@ pub enum Rewrite {
     Assigned(usize, usize, usize),
     /// A call of `atan` with its argument multiplied.
     Multiplied(usize),
+    /// An `if` or a `while` whose statements stand in its brackets.
+    Listed(usize),
+    /// A remainder by the index of its sign, of what is added in place of what is taken away.
+    Raised(usize),
 }
 
 /// Adds how something is to be written: its rewriting, or an example where there is one.
@@ -124,6 +130,8 @@ impl Rewrite {
                 Some(())
             }
             Rewrite::Surrounded(word) => add_surrounded(note, tokens, word),
+            Rewrite::Listed(word) => add_listed(note, tokens, word),
+            Rewrite::Raised(sign) => add_raised(note, tokens, sign),
             Rewrite::Counted(word) => add_counted(note, tokens, word),
             Rewrite::For(word) => add_for(note, tokens, word),
             Rewrite::Assigned(begin, end, name) => add_assigned(note, tokens, begin, end, name),
@@ -266,6 +274,47 @@ fn add_surrounded(note: &mut Note, tokens: &[Located], word: usize) -> Option<()
     note.add(" (");
     add_piece(note, tokens, begin, end)?;
     note.push(')');
+    Some(())
+}
+
+/// Adds an `if` or a `while` whose statements stand in its brackets.
+fn add_listed(note: &mut Note, tokens: &[Located], word: usize) -> Option<()> {
+    let Token::Keyword(test) = token_at(tokens, word) else {
+        return None;
+    };
+    let close = behind_brackets(tokens, word)?.checked_sub(1)?;
+    let begin = word.saturating_add(2);
+    let first = value_end(tokens, begin);
+    let statement = first.saturating_add(1);
+    let end = value_end(tokens, statement);
+    let second = if end < close { end } else { close };
+    note.add(word_of(test)?);
+    note.add(" (");
+    add_piece(note, tokens, begin, first)?;
+    note.add(") ");
+    add_piece(note, tokens, statement, second)?;
+    note.push(';');
+    if second < close {
+        note.add(" else ");
+        add_piece(note, tokens, second.saturating_add(1), close)?;
+        note.push(';');
+    }
+    Some(())
+}
+
+/// Adds a remainder by the index of its sign, of a name in brackets to which something is added in place of what is taken away.
+fn add_raised(note: &mut Note, tokens: &[Located], sign: usize) -> Option<()> {
+    let step = token_at(tokens, sign.checked_sub(2)?);
+    let (Token::Constant(less), Token::Constant(whole)) = (
+        step,
+        token_at(tokens, sign.saturating_add(1)),
+    ) else {
+        return None;
+    };
+    note.push('(');
+    add_name(note, tokens, sign.checked_sub(4)?)?;
+    note.count(" + ", u64::from(whole.checked_sub(less)?), ")");
+    note.count(" % ", u64::from(whole), "");
     Some(())
 }
 

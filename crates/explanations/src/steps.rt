@@ -144,14 +144,18 @@ pub fn steps_on(subject: &Subject<'_>, index: usize, var: Var) -> bool {
     !matches!(step, None | Some(0))
 }
 
-/// Returns what is added to a variable in the sum of an index, of which a remainder may be taken.
+/// Returns what is added to a variable in the sum of an index, of which a remainder may be taken: then the shorter way.
 fn sum_of(tree: &SourceTree, constants: &Constants, index: usize, var: Var) -> Option<i32> {
     let node = tree.get(index)?;
     let left = node.second.saturating_sub(1);
     match node.kind {
         NodeKind::Binary(Op::Remainder) => {
-            let sum = tree.get(left)?;
-            added(tree, constants, left, sum, var)
+            let step = added(tree, constants, left, tree.get(left)?, var)?;
+            match constants.get(index.saturating_sub(1)) {
+                // nearly a whole turn forwards is a short way back
+                Some(whole) if step > whole / 2 && step <= whole => whole.checked_sub(step),
+                _ => Some(step),
+            }
         }
         _ => added(tree, constants, index, node, var),
     }

@@ -1,6 +1,7 @@
 //! Warnings about operators and assignments that probably aren't meant as they are written.
 
 use crate::aims::on_hit;
+use crate::bounds::{greatest_of, on_negative, on_negative_rest};
 use crate::chances::{BOTH_ALWAYS, BOTH_NEVER, on_both, on_chance};
 use crate::indices::{is_name, token_at, touches};
 use crate::meanings::Meaning;
@@ -42,6 +43,10 @@ pub fn warn_of_operator(
         out.warn(node.token, with_sign(words, node.token));
     } else if op == Op::Remainder && is_itself(left_value, right_value) {
         out.warn(node.token, Said::Grouped);
+    } else if op == Op::Remainder
+        && let Some(said) = on_negative(subject, index, node, right_value)
+    {
+        out.warn(node.token, said);
     }
     if is_masked(subject, op, node, left, right) {
         out.warn(right.token, on_masked(node.token));
@@ -63,8 +68,9 @@ fn on_operation(subject: &Subject<'_>, op: Op, index: usize, node: &Node) -> Opt
         .or(on_bounds(turned(op), subject.meanings.get(right_index), left_value))
         .or(on_product(subject, op, index))
         .or(on_shot(op, left, right_value))
-        .or(on_quotient(op, subject.meanings.get(left_index), right_value))
+        .or(on_quotient(subject, op, left_index, right_value))
         .or(on_rounded(subject, op, left, right_value))
+        .or(on_rounded(subject, op, right, left_value))
         .or(on_circle(subject, op, node, right_value))
         .or(on_chance(subject, op, left_index, right_value))
         .or(on_both(subject, op, left_index, right_index))
@@ -298,27 +304,45 @@ fn on_shot(op: Op, left: &Node, value: Option<i32>) -> Option<&'static str> {
     )
 }
 
-/// Returns what is said of a quotient of what is meant so by a number, if it is always 0.
-fn on_quotient(op: Op, meaning: Meaning, value: Option<i32>) -> Option<&'static str> {
-    let (_, greatest) = meaning.bounds()?;
-    (op == Op::Divide && value? > greatest).then_some(
-        "this quotient is always 0: multiply first, and divide the product",
-    )
+/// Returns what is said of a quotient of the node of an index by a number, if it is always 0, or hardly ever another number.
+fn on_quotient(
+    subject: &Subject<'_>,
+    op: Op,
+    index: usize,
+    value: Option<i32>,
+) -> Option<&'static str> {
+    let divisor = i64::from(value?);
+    if op != Op::Divide || divisor < i64::from(LEAST_ROUNDED) {
+        return None;
+    }
+    let greatest = greatest_of(subject, index)?;
+    if greatest < divisor {
+        Some("this quotient is always 0: multiply first, and divide the product")
+    } else if greatest == divisor {
+        Some(
+            "this quotient is 0 but for the greatest number, since it is rounded down: multiply first, and divide the product",
+        )
+    } else {
+        None
+    }
 }
 
 /// Returns what is said of a product of a quotient and a number, if the quotient is 2 at most.
 fn on_rounded(
     subject: &Subject<'_>,
     op: Op,
-    left: &Node,
+    quotient: &Node,
     value: Option<i32>,
 ) -> Option<&'static str> {
-    let divisor = subject.constants.get(left.third.checked_sub(1)?)?;
-    let (_, greatest) = subject.meanings.get(left.second.checked_sub(1)?).bounds()?;
-    (op == Op::Multiply
-        && left.kind == NodeKind::Binary(Op::Divide)
-        && value? >= LEAST_ROUNDED
-        && divisor > LEAST_ROUNDED
+    if op != Op::Multiply || quotient.kind != NodeKind::Binary(Op::Divide) {
+        return None;
+    }
+    let divisor = subject.constants.get(quotient.third.checked_sub(1)?)?;
+    let greatest = greatest_of(subject, quotient.second.checked_sub(1)?)?;
+    let divisor = i64::from(divisor);
+    (value? >= LEAST_ROUNDED
+        && divisor > i64::from(LEAST_ROUNDED)
+        && greatest > divisor
         && greatest < divisor.saturating_mul(3)).then_some(
         "this quotient is rounded down first, to 0, 1 or 2: multiply first, and divide the product",
     )
@@ -464,6 +488,11 @@ pub fn warn_of_store(
             node.token,
             "this sets the variable to itself: nothing changes",
         );
+    }
+    if op == StoreOp::Remainder
+        && let Some(words) = on_negative_rest(subject, index, node, var)
+    {
+        out.tell(node.token, words);
     }
     warn_of_off_course(out, subject, index, node, op);
     if op == StoreOp::Set && sets_answer(subject, index) {

@@ -2,11 +2,12 @@
 //! compared with what it was before the field has moved.
 
 use crate::chances::compared;
-use crate::courses::is_course;
+use crate::courses::{is_course, statement_before};
 use crate::rows::driven;
+use crate::variables::set_by;
 use crate::warnings::{Subject, Warnings};
 use derivations::{Node, NodeKind};
-use grammar::{Callee, Intrinsic, Op, StoreOp};
+use grammar::{Callee, Intrinsic, Op, StoreOp, Var};
 
 /// The most nodes between two questions that are asked too soon after each other: each takes a cycle at least, and the field
 /// moves every 15 cycles.
@@ -21,7 +22,7 @@ pub fn warn_of_way(
     node: &Node,
     condition: &Node,
 ) {
-    let Some((asked, grows)) = waited_for(subject, node, condition) else {
+    let Some((asked, grows)) = waited_for(subject, index, node) else {
         return;
     };
     let Some(degree) = only_degree(subject, index, node) else {
@@ -85,23 +86,45 @@ fn set_course(subject: &Subject<'_>, whole: usize, index: usize) -> Option<i32> 
     }
 }
 
-/// Returns the coordinate that a loop waits for, and whether it is to grow (1) or to become less (-1).
-fn waited_for(subject: &Subject<'_>, node: &Node, condition: &Node) -> Option<(Intrinsic, i32)> {
-    let NodeKind::Call(Callee::Intrinsic(asked), 0) = subject.tree.get(node.first)?.kind else {
-        return None;
+/// Returns the coordinate that the loop of an index waits for, and whether it is to grow (1) or to become less (-1).
+fn waited_for(subject: &Subject<'_>, index: usize, node: &Node) -> Option<(Intrinsic, i32)> {
+    let asked = compared(subject, node.second.checked_sub(1)?)?;
+    let place = match asked.value {
+        NodeKind::Fetch(var) => renewed(subject, node.second, index, var)?,
+        value => place_asked(value)?,
     };
-    let NodeKind::Binary(op) = condition.kind else {
-        return None;
-    };
-    let is_whole = condition.second == node.first.saturating_add(1)
-        && subject.constants.get(node.second.checked_sub(2)?).is_some()
-        && matches!(asked, Intrinsic::LocX | Intrinsic::LocY);
-    match op {
-        Op::Less | Op::LessOrEqual if is_whole => Some((asked, 1)),
-        Op::Greater | Op::GreaterOrEqual if is_whole => Some((asked, -1)),
+    match asked.op {
+        Op::Less | Op::LessOrEqual => Some((place, 1)),
+        Op::Greater | Op::GreaterOrEqual => Some((place, -1)),
         // no other comparison waits for a side
         _ => None,
     }
+}
+
+/// Returns the coordinate that a node asks for, if it does.
+fn place_asked(value: NodeKind) -> Option<Intrinsic> {
+    match value {
+        NodeKind::Call(Callee::Intrinsic(asked @ (Intrinsic::LocX | Intrinsic::LocY)), 0) => {
+            Some(asked)
+        }
+        _ => None,
+    }
+}
+
+/// Returns the coordinate to which some nodes between two indices set a variable, if they set it to one alone.
+fn renewed(subject: &Subject<'_>, first: usize, end: usize, var: Var) -> Option<Intrinsic> {
+    let mut only = None;
+    for at in first..end {
+        let node = subject.tree.get(at)?;
+        if set_by(node) == Some(var) {
+            let place = place_asked(subject.tree.get(at.checked_sub(1)?)?.kind)?;
+            if node.kind != NodeKind::Store(var, StoreOp::Set) || only.is_some() {
+                return None;
+            }
+            only = Some(place);
+        }
+    }
+    only
 }
 
 /// Returns the only degree to which the robot drives in the loop of an index, or right before it if the loop calls nothing.
@@ -122,11 +145,11 @@ fn only_degree(subject: &Subject<'_>, index: usize, node: &Node) -> Option<i32> 
             _ => {}
         }
     }
-    match (only, driven(subject, node.first.checked_sub(1)?)) {
-        (None, Some((degree, speed))) if speed > 0 => Some(degree),
-        (None, _) => None,
-        (found, _) => found,
+    if only.is_some() {
+        return only;
     }
+    let (degree, speed) = driven(subject, statement_before(subject, index)?)?;
+    (speed > 0).then_some(degree)
 }
 
 /// Returns whether a robot with a degree goes east (1), west (-1), or neither (0).
