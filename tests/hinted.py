@@ -2,6 +2,7 @@
 
 from __future__ import annotations
 
+import math
 import operator
 import random
 import re
@@ -165,7 +166,7 @@ def branched(random_: random.Random) -> tuple[str, list[str]]:
 def swept(random_: random.Random) -> tuple[str, bool]:
     """A robot whose looks go on by a step, and whether there are whole degrees between two looks that neither sees."""
     resolution, step = random_.randrange(11), random_.randrange(1, 26)
-    on = random_.choice((f"d += {step};", f"d = d + {step};", f"d = (d + {step}) % 360;", f"d -= {step};"))
+    on = random_.choice((f"d += {step};", f"d = d + {step};", f"d = (d + {step}) % 360;", f"d -= {step};", f"d = (d + {360 - step}) % 360;"))
     seen = {degree for look in (0, step) for degree in range(look - resolution, look + resolution + 1)}
     return f"main() {{\n  int d;\n  while (1) {{\n    cannon(d, scan(d, {resolution}));\n    {on}\n  }}\n}}\n", not seen >= {*range(step)}
 
@@ -310,3 +311,107 @@ def lettered(random_: random.Random) -> tuple[str, int]:
     text = "".join(f"/*{''.join(random_.choice(random_.choice(alphabets)) for _ in range(random_.randrange(1, 6)))}*/" for _ in range(random_.randrange(1, 4)))
     before = f"main() {{ {text} a = 1 "
     return f"{before}2; }}", columns(before)
+
+
+def near_wall(random_: random.Random) -> tuple[str, bool]:
+    """A robot that asks whether it is near a wall, and drives then; and whether that leads on to the wall."""
+    axis, sign, degree = random_.choice("xy"), random_.choice(("<", "<=", ">", ">=")), 45 * random_.randrange(8)
+    number, speed = random_.choice((50, 200, 500, 800, 950)), random_.choice((0, 40))
+    way = math.cos(math.radians(degree)) if axis == "x" else math.sin(math.radians(degree))
+    leads = (way > 0.1 and number >= 800) if ">" in sign else (way < -0.1 and number <= 200)
+    told = random_.choice((f"drive({degree}, {speed});", f"course = {degree};"))
+    return (f"main() {{\n  int course;\n  course = rand(360);\n  while (1) {{\n    drive(course, 30);\n    if (loc_{axis}() {sign} {number}) {{\n      {told}\n"
+            "      cannon(0, 90);\n    }\n  }\n}\n"), leads and (speed > 0 or "course" in told)
+
+
+def unseen(random_: random.Random) -> tuple[str, bool]:
+    """A robot that shoots at a range below a number; and whether it does so at nobody, whose range is 0."""
+    test, passes = random_.choice((
+        ("r < 700", True), ("r <= 300", True), ("r < 700 && d > 5", True), ("r > 0 && r < 700", False), ("r < 700 && r > 40", False),
+        ("r && r < 700", False), ("r < 700 && r", False), ("r > 40", False)))
+    before, is_asked = random_.choice((("", False), ("", False), ("if (r == 0) d += 9; else ", True), ("if (r) ", True)))
+    # another function may answer no 0
+    look, is_own = random_.choice((("r = scan(d, 10);", True), ("r = scan(d, 10);", True), ("r = look(d);", False)))
+    return (f"look(d) {{ return scan(d, 10); }}\nmain() {{\n  int d, r;\n  while (1) {{\n    {look}\n    {before}if ({test}) cannon(d, r);\n    d += 20;\n"
+            "    r = look(d);\n    if (r > 40) cannon(d, r);\n  }\n}\n"), passes and is_own and not is_asked
+
+
+def fixed(random_: random.Random) -> tuple[str, bool]:
+    """A robot that looks, and shoots at a number; and whether it knows a range there of which it only asked whether it is one."""
+    test, is_somebody = random_.choice((("r > 40", True), ("r", True), ("r != 0", True), ("r > 0 && r < 700", True), ("r > 600", False),
+                                        ("r > 40 && r < 200", False), ("damage() > 5", False)))
+    degree, number = random_.choice("dde"), random_.choice((60, 300, 700))
+    other = random_.choice(("", "", "d += 20; ", "r = scan(e, 5); "))
+    return (f"main() {{\n  int d, e, r;\n  e = rand(9);\n  while (1) {{\n    r = scan(d, 10);\n    {other}if ({test}) cannon({degree}, {number});\n"
+            "    d += 20;\n    r = scan(e, 10);\n    if (r > 40) cannon(e, r);\n  }\n}\n"), is_somebody and (
+                degree == "d" and not other or degree == "e" and other.startswith("r"))
+
+
+def rounds(random_: random.Random) -> tuple[str, bool]:
+    """A robot that drives to one degree after another in an endless loop, and waits between; and whether it is told to turn at a speed above 50."""
+    legs = [(90 * random_.randrange(4), random_.choice((40, 50, 60, 100)), random_.randrange(4)) for _ in range(2)]
+    waits = ["while (damage() < 50) shoot();", "while (loc_x() < 500) ;", "while (speed() > 0) ;", "shoot();"]
+    turn = "\n    ".join(f"drive({degree}, {speed});\n    {waits[wait]}" for degree, speed, wait in legs)
+    # a robot that asks for its speed may know it, and one that doesn't wait has no speed yet
+    is_fast = any(fast > 50 and wait < 2 and degree != then for (degree, fast, wait), (then, _, _) in (legs, legs[::-1]))
+    return (f"int d;\nshoot() {{\n  int r;\n  r = scan(d, 10);\n  if (r > 40) cannon(d, r);\n  d += 20;\n}}\nmain() {{\n  while (1) {{\n    {turn}\n  }}\n}}\n"), is_fast
+
+
+def going_back(random_: random.Random) -> tuple[str, bool]:
+    """A robot with a variable that a remainder is kept in; and whether that is below 0 some time, and the robot neither asks nor goes round a circle."""
+    whole, sign = random_.choice((4, 90, 180, 360, 720)), random_.choice("+--")
+    step, asks = random_.randrange(1, whole), random_.random() < 0.2
+    on = random_.choice((f"n = (n {sign} {step}) % {whole};", f"n {sign}= {step}; n %= {whole};"))
+    asked = f" if (n < 0) n += {whole};" if asks else ""
+    return f"main() {{\n  int n;\n  while (1) {{\n    cannon(n, scan(n, 10));\n    {on}{asked}\n  }}\n}}\n", sign == "-" and whole % 360 != 0 and not asks
+
+
+def waiting(random_: random.Random) -> tuple[str, bool]:
+    """A robot that drives to a degree until a coordinate is large or small enough; and whether it never is by that."""
+    axis, sign, degree = random_.choice("xy"), random_.choice(("<", "<=", ">", ">=")), 45 * random_.randrange(8)
+    way = math.cos(math.radians(degree)) if axis == "x" else math.sin(math.radians(degree))
+    before, test, after = random_.choice(((f"drive({degree}, 50);", f"loc_{axis}()", ";"), ("", f"loc_{axis}()", f"drive({degree}, 50);"),
+                                          (f"n = loc_{axis}();", "n", f"{{ drive({degree}, 50); n = loc_{axis}(); }}")))
+    never = way < 0.1 if "<" in sign else way > -0.1
+    return f"main() {{\n  int n;\n  {before}\n  while ({test} {sign} {random_.choice((50, 500, 900))}) {after}\n  while (1) cannon(n, 90);\n}}\n", never
+
+
+def lower(random_: random.Random) -> tuple[str, bool]:
+    """A robot with a function that uses a variable; and whether that of the file stands below it alone, though it isn't the function's own."""
+    place, own = random_.choice(("above", "below", "nowhere")), random_.choice(("", "", "int d; "))
+    used = random_.choice(("d += 20; return scan(d, 10);", "d = d + 20; return scan(d, 10);", "return scan(d, 10);", "d = rand(360); return 50;"))
+    above, below = ("int d;\n" if place == which else "" for which in ("above", "below"))
+    return (f"{above}look() {{ {own}{used} }}\n{below}main() {{\n  int r;\n  while (1) {{\n    r = look();\n    cannon(d, r);\n    d += 5;\n  }}\n}}\n",
+            place == "below" and not own)
+
+
+def divided(random_: random.Random) -> tuple[str, str | None]:
+    """A robot with a quotient that is multiplied; and what is said of that."""
+    value, most = random_.choice((("loc_x()", 999), ("damage()", 99), ("speed()", 100), ("rand(50)", 49), ("(999 - loc_y())", 999), ("(loc_x() - 500)", 500),
+                                  ("n", 999), ("scan(n, 10)", 1414)))
+    divisor = random_.choice((20, 49, 50, 99, 100, 500, 999, 1000, 1414, 1500))
+    product = random_.choice((f"{value} / {divisor} * 90", f"90 * ({value} / {divisor})"))
+    words = ("always 0" if most < divisor else "0 but for the greatest number" if most == divisor else "rounded down first" if most < 3 * divisor else None)
+    return f"main() {{\n  int n;\n  n = 999 - loc_x();\n  while (1) drive({product}, 50);\n}}\n", words
+
+
+def headed(random_: random.Random) -> tuple[str, str]:
+    """A robot with a function whose parameters are written as in other languages; and the hint on these."""
+    forms = ("int {}", "{}: i32", "{} int", "{} as Integer", "var {}", "ref {}", "final int {}", "{}: number = 5", "{}?: number", "float {}", "Integer {}", "&{}",
+             "*{}", "int {}[]", "{}: Int", "const int {}", "mut {}: u32", "{} String", "@{}")
+    names = ("angle", "range", "wide")[:random_.randrange(1, 4)]
+    plain = random_.randrange(len(names))
+    listed_ = ", ".join((name if number < plain else random_.choice(forms).format(name)) for number, name in enumerate(names))
+    return (f"shoot({listed_}) {{\n  cannon(angle, 90);\n}}\nmain() {{ while (1) shoot({', '.join('9' for _ in names)}); }}\n",
+            f"a list of parameters has names alone, without types: write `shoot({', '.join(names)}) {{`")
+
+
+def listed(random_: random.Random) -> tuple[str, str]:
+    """A robot with a condition in whose brackets statements follow; and the hint on these."""
+    test = random_.choice(("r > 40", "damage() > 50", "scan(d, 10)"))
+    statements = random_.choice((["cannon(d, r)"], ["cannon(d, r)", "d += 20"], ["d = rand(360)", "drive(d, 50)"]))
+    word = "while" if len(statements) == 1 and random_.random() < 0.5 else "if"
+    mark = ", " if word == "while" else random_.choice((", ", "; "))
+    meant = f"{word} ({test}) " + " else ".join(f"{statement};" for statement in statements)
+    return (f"main() {{\n  int d, r;\n  while (1) {{\n    {word} ({mark.join([test, *statements])});\n    r = scan(d, 9);\n  }}\n}}\n",
+            f"an `if` or a `while` has one condition in its brackets, and behind them a statement: write `{meant}`")

@@ -105,6 +105,10 @@ STATEMENTS: list[tuple[str, list[str]]] = [
     ("if (b == 5 || 10) drive(b, d);", ["`b == 5 || b == 10`"]),
 ]
 
+# A robot that looks round and shoots, with statements before its loop, and others at the loop's beginning.
+LOOK = ("main() {{\n  int angle, range, course, x, n, hits, old;\n\n{}\n  while (1) {{\n{}\n    range = scan(angle, 10);\n    if (range > 40)\n"
+        "      cannon(angle, range);\n    else\n      angle += 20;\n  }}\n}}\n")
+
 # Whole sources. Where there are no words, nothing is said of one.
 SOURCES: list[tuple[str, list[str]]] = [
     ("main()\n{\n  int angle, range, best, target, hurt, old;\n\n  while (1) {\n    range = scan(angle, 10);\n"
@@ -170,37 +174,37 @@ SOURCES: list[tuple[str, list[str]]] = [
      "    while (angle < 360) {\n      range = scan(angle, 10);\n      if (range < best) {\n        best = range;\n"
      "        target = angle;\n      }\n      angle += 20;\n    }\n    cannon(target, best);\n  }\n}\n",
      ["`if (range > 0 && range < best)`"]),
-    ("main()\n{\n  int angle, range, best, target, hurt, old;\n\n  while (1) {\n    best = 2000;\n"
+    ("main()\n{\n  int angle, range, best, target, hurt, old;\n\n  while (1) {\n    best = 2000; angle = 0;\n"
      "    while (angle < 360) {\n      range = scan(angle, 10);\n      if (best > range) {\n"
      "        target = angle; best = range;\n      }\n      angle += 20;\n    }\n    cannon(target, best);\n  }\n}\n",
      ["`if (range > 0 && best > range)`"]),
-    ("main()\n{\n  int angle, range, best, target, hurt, old;\n\n  while (1) {\n    best = 2000;\n"
+    ("main()\n{\n  int angle, range, best, target, hurt, old;\n\n  while (1) {\n    best = 2000; angle = 0;\n"
      "    while (angle < 360) {\n      if ((range = scan(angle, 10)) <= best) {\n        target = angle; best = range;\n"
      "      }\n      angle += 20;\n    }\n    cannon(target, best);\n  }\n}\n",
      ["leave 0 out"]),
-    ("main()\n{\n  int angle, range, best, target, hurt, old;\n\n  while (1) {\n    best = 2000;\n"
+    ("main()\n{\n  int angle, range, best, target, hurt, old;\n\n  while (1) {\n    best = 2000; angle = 0;\n"
      "    while (angle < 360) {\n      range = scan(angle, 10);\n      if (range < best && angle != old) {\n"
      "        target = angle; best = range;\n      }\n      angle += 20;\n    }\n    old = target; cannon(target, best);\n"
      "  }\n}\n",
      ["leave 0 out"]),
-    ("int best, target;\nmain()\n{\n  int angle, range;\n  while (1) {\n    best = 2000;\n    while (angle < 360) {\n"
+    ("int best, target;\nmain()\n{\n  int angle, range;\n  while (1) {\n    best = 2000; angle = 0;\n    while (angle < 360) {\n"
      "      range = scan(angle, 10);\n      if (range < best)\n        best = range;\n      angle += 20;\n    }\n"
      "    cannon(target, best); target = angle;\n  }\n}\n",
      ["leave 0 out"]),
-    ("main()\n{\n  int angle, range, best, target, hurt, old;\n\n  while (1) {\n    best = 2000;\n"
+    ("main()\n{\n  int angle, range, best, target, hurt, old;\n\n  while (1) {\n    best = 2000; angle = 0;\n"
      "    while (angle < 360) {\n      range = scan(angle, 10);\n      if (range > 0 && range < best) {\n"
      "        target = angle; best = range;\n      }\n      angle += 20;\n    }\n    cannon(target, best);\n  }\n}\n",
      []),
-    ("main()\n{\n  int angle, range, best, target, hurt, old;\n\n  while (1) {\n    best = 2000;\n"
+    ("main()\n{\n  int angle, range, best, target, hurt, old;\n\n  while (1) {\n    best = 2000; angle = 0;\n"
      "    while (angle < 360) {\n      range = scan(angle, 10);\n      if (range)\n        if (range < best) {\n"
      "          target = angle; best = range;\n        }\n      angle += 20;\n    }\n    cannon(target, best);\n  }\n}\n",
      []),
-    ("main()\n{\n  int angle, range, best, target, hurt, old;\n\n  while (1) {\n    best = 2000;\n"
+    ("main()\n{\n  int angle, range, best, target, hurt, old;\n\n  while (1) {\n    best = 2000; angle = 0;\n"
      "    while (angle < 360) {\n      range = scan(angle, 10);\n      if (range < best) {\n        if (range > 0) {\n"
      "          target = angle; best = range;\n        }\n      }\n      angle += 20;\n    }\n    cannon(target, best);\n"
      "  }\n}\n",
      []),
-    ("main()\n{\n  int angle, range, best, target, hurt, old;\n\n  while (1) {\n    best = 2000;\n"
+    ("main()\n{\n  int angle, range, best, target, hurt, old;\n\n  while (1) {\n    best = 2000; angle = 0;\n"
      "    while (angle < 360) {\n      range = scan(angle, 10);\n      if (range == 0) range = 2000;\n"
      "      if (range < best) {\n        target = angle; best = range;\n      }\n      angle += 20;\n    }\n"
      "    cannon(target, best);\n  }\n}\n",
@@ -247,13 +251,85 @@ SOURCES: list[tuple[str, list[str]]] = [
      "    if (damage() > hurt) { drive(rand(360), 50); hurt = damage(); }\n  }\n}\n",
      []),
     ("next(angle) { angle = angle + 20; }\nmain() { int a; while (1) { a = rand(9); next(a); drive(a, 9); } }\n", ["`return angle;`"]),
-    ("main()\n{\n  int angle, range, best, target, hurt, old;\n\n  while (1) {\n    best = 2000;\n"
+    ("main()\n{\n  int angle, range, best, target, hurt, old;\n\n  while (1) {\n    best = 2000; angle = 0;\n"
      "    while (angle < 360) {\n      if (range = scan(angle, 10))\n        if (range < best) {\n"
      "          target = angle; best = range;\n        }\n      angle += 20;\n    }\n    cannon(target, best);\n  }\n}\n",
      []),
-    ("main()\n{\n  int angle, range, best, target, hurt, old;\n\n  while (1) {\n    best = 2000;\n"
+    ("main()\n{\n  int angle, range, best, target, hurt, old;\n\n  while (1) {\n    best = 2000; angle = 0;\n"
      "    while (angle < 360) {\n      while ((range = scan(angle, 10)) == 0)\n        angle += 20;\n"
      "      if (range < best) {\n        target = angle; best = range;\n      }\n      angle += 20;\n    }\n"
      "    cannon(target, best);\n  }\n}\n",
      []),
+    # what the game does otherwise: each source has what is misread of it, and one that is nearly the same and right has nothing
+    (LOOK.format("", "    drive(90, 50);\n    n = 0;\n    while (n < 40) n += 1;"), ["absolute", "`course += 90; drive(course, 50);`"]),
+    (LOOK.format("", "    drive(course, 50);\n    n = 0;\n    while (n < 40) n += 1;\n    course += 90;"), []),
+    (LOOK.format("  drive(rand(360), 80);", ""), ["stops at the wall", "doesn't bounce"]),
+    (LOOK.format("  drive(rand(360), 80);", "    if (speed() == 0) drive(rand(360), 50);"), []),
+    (LOOK.format("  drive(90, 50);", ""), []),
+    (LOOK.format("  drive(90, 50);\n  if (loc_y() > 900)\n    drive(90, 0);", ""), ["asked once", "`while`"]),
+    (LOOK.format("  if (loc_y() > 500) course = 270; else course = 90;\n  drive(course, 50);", ""), []),
+    (LOOK.format("  drive(0, 50);\n  while (scan(0, 5) > 100) ;\n  drive(0, 0);", ""), ["no walls", "`loc_x()`"]),
+    (LOOK.format("  drive(course, 50);", "    if (scan(course, 5) < 100)\n      course = 180 - course;\n    drive(course, 50);"), ["no walls"]),
+    (LOOK.format("", "    if (loc_x() < 100) course = 0;\n    if (loc_x() > 900) course = 180;\n    drive(course, 50);"), []),
+    (LOOK.format("", "    if (loc_y() < 100) drive(270, 50); else drive(90, 0);"), ["y to the north"]),
+    (LOOK.format("", "    if (scan(angle, 10) < 100)\n      drive(angle + 180, 50);"), ["0 is less", "range > 0"]),
+    (LOOK.format("", "    if (damage() < 30 && loc_x() > 100)\n      drive(180, 50);\n    else\n      drive(180, 0);"), ["own", "grows"]),
+    (LOOK.format("", "    if (damage() > 70 && loc_x() > 100)\n      drive(180, 50);\n    else\n      drive(180, 0);"), []),
+    (LOOK.format("", "    if (damage() < 30) drive(course, 50); else drive(course, 30);\n    course = rand(360);"), []),
+    (LOOK.format("  while (damage() > 0) cannon(0, 300);", ""), ["`damage()` is the robot's own", "`while (1)`"]),
+    (LOOK.format("", "    while (damage() < 100) cannon(angle, range);"), ["own", "always so"]),
+    (LOOK.format("", "    old = damage();\n    cannon(angle, 300);\n    if (damage() > old) drive(angle, 50);"), ["own", "nothing tells"]),
+    (LOOK.format("", "    hits = cannon(angle, 300);\n    if (hits) drive(angle, 50);"), ["1 if it fired", "nothing tells"]),
+    (LOOK.format("", "    if (cannon(angle, 300)) hits += 1;\n    if (hits > 5) drive(angle, 50);"), ["1 if it fired"]),
+    (LOOK.format("", "    if (scan(angle, 10) == 3) drive(angle, 50);"), ["how many metres off"]),
+    (LOOK.format("", "    n = scan(360, 10);\n    if (n > 40) cannon(0, n);"), ["to the east alone"]),
+    (LOOK.format("  x = loc_x();", "    if (x > 900) drive(180, 50); else drive(0, 50);"), ["one question before this loop"]),
+    (LOOK.format("  x = loc_x();", "    if (x > 500) drive(180, 50); else drive(0, 50);"), []),
+    (LOOK.format("  x = loc_x();", "    if (loc_x() > x + 90) drive(180, 50); else drive(0, 50);"), []),
+    (LOOK.format("  drive(0, 50);\n  x = loc_x();\n  while (x < 900) ;\n  drive(0, 0);", ""), ["`x = loc_x()` there"]),
+    (LOOK.format("", "    if (loc_x() == 500) drive(90, 50); else drive(0, 50);"), ["hardly ever is exactly there"]),
+    (LOOK.format("", "    if (loc_x() == 0) drive(0, 50);"), []),
+    (LOOK.format("", "    n = 0;\n    cannon(n, 300);\n    n += 20;"), ["`n` begins anew"]),
+    (LOOK.format("", "    n = 0;\n    while (n < 360) {\n      cannon(n, 300);\n      n += 20;\n    }"), []),
+    (LOOK.format("  n = 0;", "    while (n < 360) {\n      cannon(n, 300);\n      n += 20;\n    }"), ["done once alone"]),
+    (LOOK.format("", "    x = n = 0;\n    while (n < 360) {\n      range = scan(n, 10);\n      if (range > 0 && range < x) x = range;\n      n += 20;\n    }"),
+     ["begins with 0"]),
+    (LOOK.format("", "    n = 300 * sin(angle * 314 / 18000) / 100000;\n    if (n > 50) drive(0, 50);"), ["no radians"]),
+    (LOOK.format("", "    drive(angle, range / 700 * 100);"), ["rounded down first"]),
+    (LOOK.format("", "    drive(angle, 100 * range / 1400);"), []),
+    (LOOK.format("  drive(rand(0, 360), 0);", ""), ["`a + rand(b - a + 1)`"]),
+    (LOOK.format("  drive(atan(x, n), 0);\n  x = n = 1;", ""), ["`atan(100000 * y / x)`"]),
+    (LOOK.format("", "    if (range /= 0) drive(angle, 50);"), ["`range != 0`"]),
+    (LOOK.format("", "    if (!damage() == old) old = damage();"), ["`!(damage() == old)`"]),
+    # heads, conditions and remainders as in other languages, and what is nearly so
+    ("turn(d = 9) {\n  drive(d, 50);\n}\nmain() { while (1) turn(9); }\n", ["no default value", "`turn(d) {`"]),
+    ("turn(d) returns int {\n  drive(d, 50);\n}\nmain() { while (1) turn(9); }\n", ["nothing stands between the head of a function and its `{`", "`turn(d) {`"]),
+    ("turn(d) => {\n  drive(d, 50);\n}\nmain() { while (1) turn(9); }\n", ["`turn(d) {`"]),
+    ("turn d {\n  drive(d, 50);\n}\nmain() { while (1) turn(9); }\n", ["brackets behind its name"]),
+    ("proc turn(d) {\n  drive(d, 50);\n}\nmain() { while (1) turn(9); }\n", ["`turn(d) {`"]),
+    ("turn(d,) {\n  drive(d, 50);\n}\nmain() { while (1) turn(9); }\n", ["`turn(d) {`"]),
+    (LOOK.format("", "    while (n = 0; n < 360; n += 20) cannon(n, 300);"), ["`n = 0; while (n < 360) { cannon(n, 300); n += 20; }`"]),
+    (LOOK.format("", "    if (range > 40, 1, 2);"), ["one condition in its brackets"]),
+    (LOOK.format("", "    n = (n - 1) % 4;\n    drive(n * 90, 50);"), ["`(n + 3) % 4`"]),
+    (LOOK.format("", "    n = (n + 3) % 4;\n    drive(n * 90, 50);"), []),
+    (LOOK.format("", "    drive(angle, (999 - loc_x()) * 100 / 999);"), []),
+    # words, signs and marks of other languages, by kind
+    (LOOK.format("", "    if (range -lt 40) angle = 5;"), ["`lt` is Shell: write `<`"]),
+    (LOOK.format("", "    if (range eq 40) angle = 5;"), ["write `==`"]),
+    (LOOK.format("", "    if (range > = 40) angle = 5;"), ["`range >= 40`"]),
+    (LOOK.format("", "    if (range ! = 40) angle = 5;"), ["`range != 40`"]),
+    (LOOK.format("", "    if (range > 40 & & range < 700) angle = 5;"), ["`40 && range`"]),
+    (LOOK.format("", "    if (range > 40, range < 700) angle = 5;"), ["`40 && range`", "`||`"]),
+    (LOOK.format("", "    scan(angle, 10) = range;"), ["`range = scan(angle, 10);`"]),
+    (LOOK.format("", "    range + 20 = range;"), ["`range = range + 20;`"]),
+    (LOOK.format("", "    damage() = 0;"), ["nothing mends damage"]),
+    (LOOK.format("", "    drive(90deg, 50);"), ["no unit"]),
+    (LOOK.format("", "    cannon(angle, 500m);"), ["no unit", "metres"]),
+    (LOOK.format("", "    drive(angle, 50 %);"), ["no percent sign"]),
+    (LOOK.format("", "    n = 1_000;"), ["digits alone"]),
+    (LOOK.format("", "    n = (n + 1)(n + 2);"), ["`(n + 1) * (n + 2)`"]),
+    (LOOK.format("", "    n = n \\ 2;"), ["a quotient is written `/`"]),
+    (LOOK.format("", "    cannon(*angle, range);"), ["no pointers"]),
+    (LOOK.format("", "    repair();"), ["nothing mends damage"]),
+    (LOOK.format("", "    n = acos(5);"), ["it isn't there"]),
 ]

@@ -3,13 +3,14 @@
 
 use crate::calls::MOST_RANGE;
 use crate::heads::behind_brackets;
-use crate::indices::name_at;
+use crate::indices::{is_name, name_at};
 use crate::meanings::Meaning;
 use crate::notes::Note;
 use crate::pieces::{add_argument, add_piece};
+use crate::ranges::warn_of_fixed;
 use crate::reach::is_straight;
 use crate::rewriting::Rewrite;
-use crate::steps::{body_at, degree_of, steps_on};
+use crate::steps::{asks_for, body_at, degree_of, steps_on};
 use crate::told::text_of;
 use crate::variables::set_by;
 use crate::warnings::{Said, Subject, Warnings};
@@ -33,9 +34,9 @@ fn look_before(subject: &Subject<'_>, index: usize, wanted: Option<Var>) -> Opti
 }
 
 /// Reports whether the node of an index is a scan.
-fn is_scan(subject: &Subject<'_>, index: usize) -> bool {
+pub fn is_scan(subject: &Subject<'_>, index: usize) -> bool {
     match subject.tree.get(index) {
-        Some(node) => node.kind == NodeKind::Call(Callee::Intrinsic(Intrinsic::Scan), 2),
+        Some(node) => asks_for(node, Intrinsic::Scan),
         None => false,
     }
 }
@@ -124,7 +125,57 @@ pub fn warn_of_aim(
         && let Some(scan) = asked_alone(subject, index)
     {
         out.warn(node.token, Said::Thrown(scan));
+    } else {
+        warn_of_fixed(out, subject, index, node);
     }
+}
+
+/// Names of what is kept of hits.
+static HITS: [&[u8]; 6] = [b"hit", b"hits", b"struck", b"killed", b"kills", b"dead"];
+
+/// What is said of a shot that is asked whether it hit.
+const FIRED: &str =
+    "`cannon` answers 1 if it fired, and 0 if two shots are in the air: whether one hits, nothing tells";
+
+/// Returns what is said of the assignment of an index, if it keeps what a shot answers as a hit.
+pub fn on_hit(
+    subject: &Subject<'_>,
+    index: usize,
+    node: &Node,
+    op: StoreOp,
+) -> Option<&'static str> {
+    let value = subject.tree.get(index.checked_sub(1)?)?;
+    (op == StoreOp::Set && is_shot(value) && is_hit(subject, node)).then_some(FIRED)
+}
+
+/// Warns of the `if` of an index that counts a hit if a shot was fired.
+pub fn warn_of_hits(out: &mut Warnings, subject: &Subject<'_>, index: usize, node: &Node) {
+    let is_asked = match subject.tree.get(node.second.saturating_sub(1)) {
+        Some(condition) => is_shot(condition),
+        None => false,
+    };
+    if is_asked {
+        for below in subject.tree.within(node.second, index) {
+            if set_by(below).is_some() && is_hit(subject, below) {
+                out.tell(node.token, FIRED);
+            }
+        }
+    }
+}
+
+/// Reports whether a node is a shot.
+fn is_shot(node: &Node) -> bool {
+    asks_for(node, Intrinsic::Cannon)
+}
+
+/// Reports whether the variable that a node sets is named like a hit.
+fn is_hit(subject: &Subject<'_>, node: &Node) -> bool {
+    for name in &HITS {
+        if is_name(subject.tokens, node.token, name) {
+            return true;
+        }
+    }
+    false
 }
 
 /// Returns the token at which the degree of a shot of an index goes on by a step, behind the look whose range the shot has.

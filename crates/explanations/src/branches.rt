@@ -1,18 +1,22 @@
 //! Warnings about `if` and `while`: empty bodies, `=` in conditions, conditions that can't change, and indentation.
 
+use crate::aims::warn_of_hits;
 use crate::chains::on_chain;
-use crate::counters::warn_of_counters;
+use crate::counters::{warn_of_counters, warn_of_once};
+use crate::courses::warn_of_early;
+use crate::damages::warn_of_damage;
 use crate::heads::behind_brackets;
 use crate::indices::token_at;
 use crate::meanings::Meaning;
 use crate::nearest::warn_of_least;
+use crate::ranges::{warn_of_far, warn_of_nobody};
 use crate::rewriting::Rewrite;
 use crate::rows::warn_of_loop;
-use crate::steps::only_step;
+use crate::steps::{asks_for, only_step};
 use crate::values::{holds, is_turned};
 use crate::variables::set_by;
 use crate::warnings::{Said, Subject, Warnings};
-use crate::ways::warn_of_way;
+use crate::ways::{warn_of_led, warn_of_way};
 use derivations::{Located, Node, NodeKind, SourceTree};
 use grammar::{Callee, Intrinsic, Op, StoreOp, Var};
 use tokens::{Keyword, Punctuator, Token};
@@ -34,7 +38,7 @@ pub fn warn_of_branch(out: &mut Warnings, subject: &Subject<'_>, index: usize, n
     {
         out.warn(equals, on_equals(tokens, node.token, equals));
     }
-    warn_of_least(out, subject, index, node);
+    warn_of_question(out, subject, index, node, condition);
     if let Some(said) = on_bits(condition) {
         out.warn(condition.token, said);
     }
@@ -50,7 +54,34 @@ pub fn warn_of_branch(out: &mut Warnings, subject: &Subject<'_>, index: usize, n
         warn_of_waiting(out, subject, index, node, condition);
         warn_of_loop(out, subject, index, node, condition);
         warn_of_counters(out, subject, index, node);
+        warn_of_once(out, subject, index, node);
         warn_of_way(out, subject, index, node, condition);
+        warn_of_far(out, subject, index, node);
+    }
+}
+
+/// Warns of the condition of the `if` or `while` of an index by what it asks of the game.
+fn warn_of_question(
+    out: &mut Warnings,
+    subject: &Subject<'_>,
+    index: usize,
+    node: &Node,
+    condition: &Node,
+) {
+    warn_of_damage(out, subject, index, node);
+    if node.kind == NodeKind::While {
+        return;
+    }
+    warn_of_least(out, subject, index, node);
+    warn_of_hits(out, subject, index, node);
+    warn_of_early(out, subject, index, node);
+    warn_of_nobody(out, subject, index, node);
+    warn_of_led(out, subject, index, node);
+    if is_exact(subject, node.second.saturating_sub(1), condition) {
+        out.tell(
+            condition.token,
+            "a robot moves some metres at once, and hardly ever is exactly there: write `<` or `>`",
+        );
     }
 }
 
@@ -64,7 +95,7 @@ fn on_equals(tokens: &[Located], word: usize, equals: usize) -> Said {
     )
 }
 
-/// Returns what is said of a condition that turns or shifts bits.
+/// Returns what is said of a condition that turns or shifts bits, or divides.
 fn on_bits(condition: &Node) -> Option<Said> {
     let (token, next) = (condition.token, condition.token.saturating_add(1));
     match condition.kind {
@@ -79,6 +110,11 @@ fn on_bits(condition: &Node) -> Option<Said> {
         NodeKind::Binary(Op::ShiftLeft) => Some(Said::Written(
             "`<<` shifts bits: to compare write `<`",
             Rewrite::Joined(token, next, "<"),
+            "",
+        )),
+        NodeKind::Store(_, StoreOp::Divide) => Some(Said::Written(
+            "`/=` divides, and sets the variable: whether both are unequal asks `!=`",
+            Rewrite::Joined(next, next.saturating_add(1), "!="),
             "",
         )),
         // no other operator on bits looks like one of conditions
@@ -161,10 +197,7 @@ fn is_stuck(subject: &Subject<'_>, index: usize, node: &Node, condition: &Node) 
     ) else {
         return false;
     };
-    let asks_speed = matches!(
-        left.kind,
-        NodeKind::Call(Callee::Intrinsic(Intrinsic::Speed), _)
-    );
+    let asks_speed = asks_for(left, Intrinsic::Speed);
     let goes_on = op != Op::Equal && value > 0 && holds(op, 0, value) == Some(true);
     asks_speed && goes_on && !have_calls(subject.tree.within(node.second, index))
 }
@@ -190,6 +223,16 @@ fn is_missed(subject: &Subject<'_>, index: usize, condition: &Node) -> bool {
         )
         && value.is_some()
         && value != Some(0)
+}
+
+/// Reports whether the condition of an index asks for an exact coordinate, but for that at a wall.
+fn is_exact(subject: &Subject<'_>, index: usize, condition: &Node) -> bool {
+    condition.kind == NodeKind::Binary(Op::Equal)
+        && subject.meanings.get(condition.second.saturating_sub(1)) == Meaning::Coordinate
+        && matches!(
+            subject.constants.get(index.saturating_sub(1)),
+            Some(1..=998)
+        )
 }
 
 /// Warns of the body that begins at the token of an index: of a `;` alone, and of a statement after it that looks as if

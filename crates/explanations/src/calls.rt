@@ -148,7 +148,7 @@ fn parameters(tree: &SourceTree, callee: Callee) -> Option<usize> {
 }
 
 /// Returns the function of this number.
-fn body_of(tree: &SourceTree, number: u8) -> Option<&Body> {
+pub fn body_of(tree: &SourceTree, number: u8) -> Option<&Body> {
     for body in tree.bodies() {
         if body.number == number {
             return Some(body);
@@ -423,11 +423,8 @@ fn warn_of_look(
             ),
         );
     }
-    if intrinsic == Intrinsic::Rand && matches!(constants.get(last), Some(..=1)) {
-        out.tell(
-            node.token,
-            "this is always 0: `rand(n)` is one of 0 to n - 1, so a degree is `rand(360)`",
-        );
+    if let Some(words) = on_angle(subject, index, node, intrinsic) {
+        out.tell(node.token, words);
     }
     if matches!(intrinsic, Intrinsic::Sin | Intrinsic::Cos | Intrinsic::Tan)
         && let Some(words) = on_degree(subject.meanings.get(last))
@@ -435,6 +432,41 @@ fn warn_of_look(
     {
         out.tell(argument.token, words);
     }
+}
+
+/// Returns what is said of a random number below 1, of a look to a whole circle, and of a factor by which degrees become radians.
+fn on_angle(
+    subject: &Subject<'_>,
+    index: usize,
+    node: &Node,
+    intrinsic: Intrinsic,
+) -> Option<&'static str> {
+    let first = subject.tree.outermost(node.first, index);
+    match intrinsic {
+        Intrinsic::Rand if matches!(subject.constants.get(first), Some(..=1)) => Some(
+            "this is always 0: `rand(n)` is one of 0 to n - 1, so a degree is `rand(360)`",
+        ),
+        Intrinsic::Scan if subject.constants.get(first) == Some(CIRCLE) => Some(
+            "360 degrees are 0: this looks to the east alone, by the resolution to both sides; to look round write `angle += 20` in a loop",
+        ),
+        Intrinsic::Sin | Intrinsic::Cos | Intrinsic::Tan if has_pi(subject, node.first, index) => {
+            Some("this takes degrees, and no radians: leave the factor out")
+        }
+        _ => None,
+    }
+}
+
+/// Reports whether some node between two indices is a number with the digits of pi.
+fn has_pi(subject: &Subject<'_>, first: usize, end: usize) -> bool {
+    for at in first..end {
+        if matches!(
+            subject.constants.get(at),
+            Some(314 | 3141 | 3142 | 31415 | 31416 | 314_159)
+        ) {
+            return true;
+        }
+    }
+    false
 }
 
 /// Reports whether the argument of a call of an index is a quotient of which nothing is multiplied, and which has no great

@@ -1,7 +1,9 @@
 //! Hints on what parts and ends: commas, brackets, semicolons and braces.
 
+use crate::heads::{behind_brackets, line_from};
 use crate::hints::{Hint, by_layout};
 use crate::misfits::begins_value;
+use crate::operators::compares;
 use crate::returned::on_last_values;
 use crate::rewriting::Rewrite;
 use crate::scenes::Scene;
@@ -23,11 +25,69 @@ pub fn on_commas(scene: &Scene<'_>) -> Option<Hint> {
     })
 }
 
+/// Reports whether the token that doesn't fit stands in the brackets of an `if` or a `while`, and these are closed behind it in its line, which
+/// goes on then.
+fn is_in_test(scene: &Scene<'_>) -> bool {
+    let word = Token::Keyword(Keyword::If);
+    let is_test = match scene.pending_at(Item::Exactly(Punctuator::CloseRound)) {
+        Some(at) => scene.token(at) == word || scene.token(at) == Token::Keyword(Keyword::While),
+        None => false,
+    };
+    let mut may_follow = false;
+    for located in line_from(scene.tokens, scene.index.saturating_add(1)) {
+        match located.token {
+            Token::Punctuator(Punctuator::CloseRound) => return is_test && may_follow,
+            Token::Punctuator(Punctuator::Semicolon | Punctuator::OpenCurly | Punctuator::Equals) =>
+                return false,
+            _ => may_follow = may_follow || compares(&located.token),
+        }
+    }
+    false
+}
+
+/// Reports whether the brackets of the `if` or `while` of an index are closed in its line: what is behind the token that doesn't fit is no
+/// condition.
+fn holds_statements(scene: &Scene<'_>, word: usize) -> bool {
+    let is_test = matches!(
+        scene.token(word),
+        Token::Keyword(Keyword::If | Keyword::While)
+    );
+    let Some(behind) = behind_brackets(scene.tokens, word) else {
+        return false;
+    };
+    is_test && scene.line(behind.saturating_sub(1)) == scene.line(word)
+}
+
+/// Returns the hint on a `,` or a `;` between conditions.
+pub fn on_joined_conditions(scene: &Scene<'_>) -> Option<Hint> {
+    let parts = scene.is_mark(Punctuator::Comma) || scene.is_mark(Punctuator::Semicolon);
+    let word = scene.pending_at(Item::Exactly(Punctuator::CloseRound))?;
+    if parts && !is_in_test(scene) && holds_statements(scene, word) {
+        return Some(Hint::Written(
+            "an `if` or a `while` has one condition in its brackets, and behind them a statement",
+            if scene.is_mark(Punctuator::Semicolon)
+                && scene.token(word) == Token::Keyword(Keyword::While)
+            {
+                Rewrite::For(word)
+            } else {
+                Rewrite::Listed(word)
+            },
+            "if (..) ..; else ..;",
+        ));
+    }
+    (parts && is_in_test(scene)).then_some(Hint::Written(
+        "conditions are joined by `&&`, if both are to hold, or by `||`",
+        Rewrite::Joined(scene.index, scene.index.saturating_add(1), "&&"),
+        "a > 1 && a < 9",
+    ))
+}
+
 /// Returns the hint on brackets that aren't closed or not opened, and on arguments without a `,` between them.
 pub fn on_brackets(scene: &Scene<'_>) -> Option<Hint> {
     let may_close = scene.fits_mark(Punctuator::CloseRound);
     let follows_number = matches!(scene.before()?.token, Token::Constant(_));
-    if follows_number && scene.is_mark(Punctuator::OpenRound) {
+    let follows_product = scene.touches_mark(Punctuator::CloseRound) && scene.kinds.operator;
+    if (follows_number || follows_product) && scene.is_mark(Punctuator::OpenRound) {
         return Some(Hint::Written(
             "a product is written with `*`",
             Rewrite::Joined(scene.index, scene.index, "*"),

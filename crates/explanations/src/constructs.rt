@@ -8,7 +8,7 @@
 //! are those that this language refuses, and others. Texts are smaller in the page's module than rows of texts.
 
 /// The languages, and their constructs. Small letters stand for capital ones, too.
-pub static LANGUAGES: [(&str, &str); 16] = [
+pub static LANGUAGES: [(&str, &str); 17] = [
     ("Go", GO),
     ("C", C),
     ("C++", CPP),
@@ -25,6 +25,7 @@ pub static LANGUAGES: [(&str, &str); 16] = [
     ("Lua", LUA),
     ("PHP", PHP),
     ("HTML", HTML),
+    ("Shell", SHELL),
 ];
 
 /// The constructs of Go.
@@ -66,6 +67,7 @@ inline'@\t^leave it out
 printf'( puts'(\ta robot writes nothing, and has no text: leave the line out
 scanf'(\ta robot reads nothing: leave the line out
 volatile'@\tleave `volatile` out
+proc'@ method'@ routine'@ subroutine'@ task'@\t^a function begins with its name
 sleep'(\tnothing waits by itself: a loop does, such as `while (speed() > 0) ;`
 NULL\twrite 0
 exit'(\ta robot ends with the match: leave it out
@@ -207,3 +209,12 @@ echo\ta robot writes nothing, and has no text: leave the line out";
 
 /// The constructs of HTML.
 const HTML: &str = "<'!\ta comment stands between `/*` and `*/`: `/* go east */`";
+
+/// The constructs of the shell, and of Perl.
+const SHELL: &str = "gt'@ gt'9\twrite `>`
+lt'@ lt'9\twrite `<`
+ge\twrite `>=`
+le\twrite `<=`
+eq\twrite `==`
+ne\twrite `!=`
+fi done\ta block ends with `}`";

@@ -1,6 +1,7 @@
 //! Warnings about counters that begin anew in each turn of a loop.
 
 use crate::chances::compared;
+use crate::courses::is_endless;
 use crate::values::holds;
 use crate::variables::set_by;
 use crate::warnings::{Said, Subject, Warnings};
@@ -15,7 +16,9 @@ pub fn warn_of_counters(out: &mut Warnings, subject: &Subject<'_>, index: usize,
         if let NodeKind::Store(Var::Local(_), StoreOp::Set) = below.kind
             && is_statement_of(subject, at, index)
             && let Some(last) = reached(subject, at, node.second, index)
-            && (asks_for_more(subject, at, index, last) || goes_on(subject, at, node, last))
+            && (asks_for_more(subject, at, index, last)
+                || goes_on(subject, at, node, last)
+                || is_lost(subject, at, index, node))
         {
             out.warn(
                 below.token,
@@ -102,6 +105,74 @@ fn goes_on(subject: &Subject<'_>, set: usize, node: &Node, most: i32) -> bool {
         }
         None => false,
     }
+}
+
+/// Reports whether nothing reads what an endless loop of an index adds to the variable that the node of another index sets, before that is
+/// set anew.
+fn is_lost(subject: &Subject<'_>, set: usize, index: usize, node: &Node) -> bool {
+    let Some(var) = subject.tree.get(set).and_then(set_by) else {
+        return false;
+    };
+    let mut last = None;
+    for at in set.saturating_add(1)..index {
+        if let Some(below) = subject.tree.get(at) {
+            if set_by(below) == Some(var) {
+                last = Some(at);
+                if subject.tree.is_used(at) {
+                    return false;
+                }
+            } else if last.is_some() && below.kind == NodeKind::Fetch(var) {
+                return false;
+            } else if below.kind == NodeKind::Return {
+                return false;
+            }
+        }
+    }
+    last.is_some() && is_endless(subject, node)
+}
+
+/// Warns of a loop of an index in an endless one that goes on until a counter has some number, if only that loop changes the counter, and
+/// what stands before the endless one: it is done once.
+pub fn warn_of_once(out: &mut Warnings, subject: &Subject<'_>, index: usize, node: &Node) {
+    let Some(asked) = compared(subject, node.second.saturating_sub(1)) else {
+        return;
+    };
+    let NodeKind::Fetch(var @ Var::Local(_)) = asked.value else {
+        return;
+    };
+    let Some(whole) = endless_above(subject, node) else {
+        return;
+    };
+    let is_up = matches!(asked.op, Op::Less | Op::LessOrEqual);
+    let mut steps = false;
+    for at in whole.0..whole.1 {
+        if let Some(below) = subject.tree.get(at)
+            && set_by(below) == Some(var)
+        {
+            let is_step = node.second <= at
+                && at < index
+                && added(subject, at, below, var).is_some();
+            if !is_step {
+                return;
+            }
+            steps = true;
+        }
+    }
+    if is_up && steps {
+        out.warn(
+            node.token,
+            Said::Words(
+                "this loop is done once alone: nothing in the loop around it sets its counter back; set it before this one",
+            ),
+        );
+    }
+}
+
+/// Returns where the body of the endless loop begins and ends in which a node is a statement.
+fn endless_above(subject: &Subject<'_>, node: &Node) -> Option<(usize, usize)> {
+    let above = node.above?;
+    let whole = subject.tree.get(above)?;
+    is_endless(subject, whole).then_some((whole.second, above))
 }
 
 /// Reports whether more is asked of a variable between two indices, the first of which sets it, than it has at most.

@@ -1,9 +1,11 @@
 //! Hints on declarations: of functions, of parameters and of variables.
 
-use crate::heads::behind_brackets;
+use crate::heads::{behind_brackets, is_no_parameter};
 use crate::hints::{Hint, by_layout};
 use crate::scenes::Scene;
+use crate::told::spelling_of;
 use derivations::{Item, Role};
+use grammar::intrinsic_named;
 use tokens::{Keyword, Name, Punctuator, Token};
 
 /// Returns the hint on a declaration of a function, which has no block.
@@ -36,7 +38,47 @@ pub fn on_reserved_names(scene: &Scene<'_>) -> Option<Hint> {
     ))
 }
 
-/// Returns the hint on declarations: with values, of parameters in their list, and after statements.
+/// Signs that stand in a list of parameters in other languages.
+static SIGNS: [&str; 9] = [":", "?", "@", ".", "[", "&", "*", ",", ")"];
+
+/// Returns the hint on what a list of parameters has beside names: types, and words and signs of other languages.
+pub fn on_parameters(scene: &Scene<'_>) -> Option<Hint> {
+    let met = scene.tokens.get(scene.index)?;
+    let head = scene.head()?;
+    let is_call = intrinsic_named(&scene.name(head)?).is_some();
+    let is_listed = is_in_list(scene) || scene.fits_mark(Punctuator::CloseRound);
+    if is_call || !scene.is_outside() || !is_listed {
+        return None;
+    }
+    let is_paired = scene.name(scene.index).is_some()
+        && (is_other_word(scene, scene.index)
+            || is_other_word(scene, scene.index.saturating_sub(1)));
+    let is_empty = scene.token(scene.index.saturating_add(1))
+        == Token::Punctuator(Punctuator::CloseRound);
+    let is_typed = scene.is_word(Keyword::Type) || scene.is_word(Keyword::Refused) && !is_empty;
+    let is_other = is_typed || is_paired || is_sign(spelling_of(scene.source, met));
+    is_other.then_some(Hint::Head("a list of parameters has names alone, without types", head))
+}
+
+/// Reports whether the token of an index is a word that stands beside a parameter in another language.
+fn is_other_word(scene: &Scene<'_>, index: usize) -> bool {
+    match scene.name(index) {
+        Some(name) => is_no_parameter(name.as_bytes()),
+        None => false,
+    }
+}
+
+/// Reports whether a text is a sign that stands in a list of parameters in another language.
+fn is_sign(text: &str) -> bool {
+    for sign in &SIGNS {
+        if sign.as_bytes() == text.as_bytes() {
+            return true;
+        }
+    }
+    false
+}
+
+/// Returns the hint on declarations: with values, and after statements.
 pub fn on_declarations(scene: &Scene<'_>) -> Option<Hint> {
     if scene.is_mark(Punctuator::Equals) && declares(scene) {
         return Some(Hint::Declaration(
@@ -46,10 +88,6 @@ pub fn on_declarations(scene: &Scene<'_>) -> Option<Hint> {
     }
     if !scene.is_word(Keyword::Type) {
         return None;
-    }
-    if scene.is_outside() && is_in_list(scene) {
-        let head = scene.head().unwrap_or(scene.index);
-        return Some(Hint::Head("a list of parameters has names alone", head));
     }
     if scene.kinds.statement {
         let words =

@@ -2,6 +2,7 @@
 
 use crate::hints::Hint;
 use crate::indices::{is_name, touches};
+use crate::operators::TURNED_ROUND;
 use crate::rewriting::Rewrite;
 use crate::scenes::Scene;
 use derivations::Item;
@@ -49,8 +50,8 @@ pub fn on_assigning_arrows(scene: &Scene<'_>) -> Option<Hint> {
         && scene.token(next.saturating_add(1)) == Token::Punctuator(Punctuator::Semicolon);
     let begin = scene.pending_at(Item::Exactly(Punctuator::Semicolon))?;
     (is_arrow && ends).then_some(Hint::Written(
-        "an assignment has its variable on the left",
-        Rewrite::Assigned(begin, minus),
+        TURNED_ROUND,
+        Rewrite::Assigned(begin, minus, next),
         "r = scan(a, 10);",
     ))
 }

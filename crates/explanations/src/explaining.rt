@@ -9,8 +9,9 @@ use crate::carets::{add_marked, add_shown};
 use crate::chosen::on_chosen_values;
 use crate::comments::{is_unbegun, nested, swallowing};
 use crate::conditions::on_ended_conditions;
-use crate::declaring::{on_prototypes, on_reserved_names};
+use crate::declaring::{on_parameters, on_prototypes, on_reserved_names};
 use crate::foreign::foreign_at;
+use crate::functions::on_head_ends;
 use crate::hints::Hint;
 use crate::letters::name_around;
 use crate::marks::on_character;
@@ -190,6 +191,8 @@ fn hint_for(found: &Found<'_>, scene: &Scene<'_>) -> Option<Hint> {
     if let Some(hint) = on_remarks(found.source, found.met.start())
         .or(on_prototypes(scene))
         .or(on_reserved_names(scene))
+        .or(on_parameters(scene))
+        .or(on_head_ends(scene))
         .or(on_ended_conditions(scene))
         .or(on_arrows(scene))
         .or(on_members(scene))

@@ -1,12 +1,14 @@
 //! Hints on functions: one that begins inside another one, their heads, and what is outside of them.
 
 use crate::foreign::is_foreign;
-use crate::heads::{block_end_before, is_call, is_head};
+use crate::heads::{block_end_before, is_call, is_head, line_from};
 use crate::hints::{Hint, by_layout};
+use crate::indices::is_called;
 use crate::lookalikes::{is_in_capitals, meant_by};
 use crate::scenes::Scene;
 use derivations::{Item, Located, Symbol};
-use tokens::{Punctuator, Token};
+use grammar::store_operator;
+use tokens::{Keyword, Punctuator, Token};
 
 /// Returns the hint on a function that begins while a block is still open.
 pub fn on_inner_functions(scene: &Scene<'_>) -> Option<Hint> {
@@ -67,13 +69,34 @@ pub fn on_heads(scene: &Scene<'_>) -> Option<Hint> {
             "no `;` stands behind the head of a function; one that is defined further down needs no declaration",
         ));
     }
-    if scene.is_behind_head() && is_sign(&scene.met()) {
-        return Some(Hint::Head(
-            "nothing stands between the head of a function and its `{`",
-            scene.head()?,
-        ));
+    let is_named = scene.is_outside()
+        && scene.wants(Punctuator::OpenRound)
+        && scene.name(scene.index).is_some()
+        && !is_called(scene.tokens, scene.index);
+    match line_from(scene.tokens, scene.index).last() {
+        Some(last) if is_named && last.token == Token::Punctuator(Punctuator::OpenCurly) => Some(
+            Hint::Text("a function has brackets behind its name: `main() {`"),
+        ),
+        _ => None,
     }
-    None
+}
+
+/// Returns the hint on a sign or a word between the head of a function and its block, in one line.
+pub fn on_head_ends(scene: &Scene<'_>) -> Option<Hint> {
+    let next = scene.token(scene.index.saturating_add(1));
+    let is_word = scene.is_word(Keyword::Refused)
+        || match scene.name(scene.index) {
+            Some(name) => !name.has_bytes(b"begin"),
+            None => false,
+        };
+    let goes_on = next == Token::Punctuator(Punctuator::OpenRound)
+        || store_operator(&next).is_some()
+        || scene.before()?.line != scene.line(scene.index);
+    let is_between = is_sign(&scene.met()) || is_word && !goes_on;
+    (scene.is_behind_head() && is_between).then_some(Hint::Head(
+        "nothing stands between the head of a function and its `{`",
+        scene.head()?,
+    ))
 }
 
 /// Reports whether a token is the sign by which another language gives a function its block or its type.

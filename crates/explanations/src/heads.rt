@@ -2,6 +2,7 @@
 
 use crate::indices::{follows, is_called, name_at, token_at};
 use crate::notes::Note;
+use crate::spelling::is_same_but_for_case;
 use crate::told::text_of;
 use derivations::Located;
 use grammar::MOST_NAMES;
@@ -230,6 +231,7 @@ fn later_name<'a>(name: &'a [u8], word: &'a [u8]) -> &'a [u8] {
     }
     match word {
         [] | [b'0'..=b'9', ..] => name,
+        _ if !name.is_empty() && is_no_parameter(word) => name,
         _ => word,
     }
 }
@@ -237,6 +239,23 @@ fn later_name<'a>(name: &'a [u8], word: &'a [u8]) -> &'a [u8] {
 /// The types of C, which are no names.
 static TYPES: [&str; 10] = [
     "int", "long", "auto", "register", "void", "char", "float", "double", "short", "unsigned",
+];
+
+/// Reports whether a word stands beside a parameter in another language: it is a type, or says how the value is given.
+pub fn is_no_parameter(word: &[u8]) -> bool {
+    for other in &WORDS {
+        if is_same_but_for_case(word, other) {
+            return true;
+        }
+    }
+    false
+}
+
+/// Words beside parameters in other languages.
+static WORDS: [&[u8]; 28] = [
+    b"integer", b"int", b"int32", b"i32", b"i64", b"u32", b"number", b"num", b"string", b"str",
+    b"boolean", b"bool", b"real", b"any", b"var", b"val", b"let", b"mut", b"in", b"out", b"inout",
+    b"ref", b"const", b"final", b"byval", b"byref", b"as", b"of",
 ];
 
 /// Returns the tokens of a line from an index on.

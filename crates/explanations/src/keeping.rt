@@ -1,6 +1,8 @@
 //! Warnings about variables that keep too little, or too much: a function's that begin with 0 at each call, and a look that is not
 //! repeated.
 
+use crate::chances::compared;
+use crate::courses::{asks, is_endless};
 use crate::indices::is_name;
 use crate::variables::set_by;
 use crate::warnings::{Said, Subject, Warnings};
@@ -33,7 +35,7 @@ pub fn warn_of_kept(
         out.warn(
             token,
             Said::Named(
-                " is the answer of one look before this loop, and stays as it is: look again in the loop",
+                " is the answer of one question before this loop, and stays as it is: ask again in the loop",
             ),
         );
         return true;
@@ -79,28 +81,54 @@ fn is_looped(subject: &Subject<'_>, body: &Body, index: usize) -> bool {
 /// that loop, to what a look answers.
 fn looked(subject: &Subject<'_>, body: &Body, var: Var, set: usize) -> Option<usize> {
     let tree = subject.tree;
-    let is_look = tree.get(set)?.kind == NodeKind::Store(var, StoreOp::Set)
-        && matches!(
-            tree.get(set.checked_sub(1)?)?.kind,
-            NodeKind::Call(Callee::Intrinsic(Intrinsic::Scan), _)
-        );
-    if !is_look || is_set(tree.within(set.saturating_add(1), body.end), var) {
+    let question = tree.get(set.checked_sub(1)?)?.kind;
+    let NodeKind::Call(Callee::Intrinsic(asked), _) = question else {
+        return None;
+    };
+    let is_look = asked == Intrinsic::Scan;
+    let is_asked = tree.get(set)?.kind == NodeKind::Store(var, StoreOp::Set)
+        && (is_look || asked.argument_count() == 0);
+    if !is_asked || is_set(tree.within(set.saturating_add(1), body.end), var) {
         return None;
     }
     for (place, node) in tree.within(set, body.end).iter().enumerate() {
         let index = set.saturating_add(place);
-        let is_endless = node.kind == NodeKind::While
-            && node.first > set
-            && !matches!(
-                subject.constants.get(node.second.saturating_sub(1)),
-                None | Some(0)
-            );
-        if is_endless {
-            return first_read(tree.within(node.second, index), var);
+        if node.first > set && is_endless(subject, node) {
+            return if is_look {
+                first_read(tree.within(node.second, index), var)
+            } else {
+                first_compared(subject, node.second, index, var, asked)
+            };
         }
     }
     None
 }
+
+/// Returns the token of the first node between two indices that compares a variable with a number, but for the middle of the field, if
+/// none asks a question again.
+fn first_compared(
+    subject: &Subject<'_>,
+    first: usize,
+    end: usize,
+    var: Var,
+    asked: Intrinsic,
+) -> Option<usize> {
+    if asks(subject, subject.tree.within(first, end), &[asked]) {
+        return None;
+    }
+    for at in first..end {
+        if let Some(comparison) = compared(subject, at)
+            && comparison.value == NodeKind::Fetch(var)
+            && comparison.number != MIDDLE
+        {
+            return Some(subject.tree.get(subject.tree.first_of(at))?.token);
+        }
+    }
+    None
+}
+
+/// The middle of the field, by which a robot knows the side where it began.
+const MIDDLE: i32 = 500;
 
 /// Reports whether some node sets a variable.
 fn is_set(nodes: &[Node], var: Var) -> bool {

@@ -40,10 +40,18 @@ pub fn on_character(found: &Found<'_>, scene: &Scene<'_>) -> Option<&'static str
             Some("there are no fractions: all values are whole numbers")
         }
         b'.' => Some("there are no structures and no methods: a name stands alone"),
-        b'\\' => Some("a line needs no sign to go on in the next one"),
+        b'\\' => Some(on_backslash(source, met.start())),
         0 | 128.. => Some(on_foreign_byte(source, met.start())),
         b'$' => Some("a name has letters, digits and `_` alone: leave the `$` out"),
         _ => Some("this sign says nothing here: leave it out"),
+    }
+}
+
+/// Returns the hint on a `\`: at the end of a line, or as a sign of division.
+fn on_backslash(source: &[u8], at: usize) -> &'static str {
+    match source.get(at.saturating_add(1)) {
+        None | Some(b'\n' | b'\r') => "a line needs no sign to go on in the next one",
+        Some(_) => "a quotient is written `/`, and is a whole number",
     }
 }
 

@@ -1,6 +1,6 @@
 //! Hints on tokens that don't fit: which of all applies first, and those on comments, names and calls.
 
-use crate::closings::{on_brackets, on_commas, on_ends};
+use crate::closings::{on_brackets, on_commas, on_ends, on_joined_conditions};
 use crate::conditions::{on_conditions, on_split_conditions};
 use crate::declaring::{on_declarations, on_declared_names, on_own_types};
 use crate::entities::{on_assigning_arrows, on_entities};
@@ -10,7 +10,7 @@ use crate::hints::Hint;
 use crate::lookalikes::{is_in_capitals, meant_by};
 use crate::numerals::{on_marked_numbers, on_numbers};
 use crate::operands::{on_lacking_values, on_values};
-use crate::operators::{on_operands, on_operators};
+use crate::operators::{on_operands, on_operators, on_parted_operators};
 use crate::pieces::operand_end;
 use crate::rewriting::Rewrite;
 use crate::scenes::Scene;
@@ -30,6 +30,7 @@ pub fn hint_on(scene: &Scene<'_>) -> Option<Hint> {
         .or(on_declarations(scene))
         .or(on_declared_names(scene))
         .or(on_operators(scene))
+        .or(on_parted_operators(scene))
         .or(on_split_conditions(scene))
         .or(on_values(scene))
         .or(on_names(scene))
@@ -42,6 +43,7 @@ pub fn hint_on(scene: &Scene<'_>) -> Option<Hint> {
         .or(on_commas(scene))
         .or(on_lacking_values(scene))
         .or(on_operands(scene))
+        .or(on_joined_conditions(scene))
         .or(on_brackets(scene))
         .or(on_ends(scene))
 }

@@ -35,9 +35,9 @@ min minimum\t`min` isn't there: write `if (b < a) a = b;`, or a function of the 
 max maximum\t`max` isn't there: write `if (b > a) a = b;`, or a function of the file
 pow power\tthere are no powers: multiply, as `a * a`, or write a function of the file
 round floor ceil trunc parseint toint\tall values are whole numbers: leave it out, as a quotient is one
-atan2 hypot\tit isn't there: write it as a function of the file, by `atan(100000 * y / x)` or `sqrt(x * x + y * y)`
+atan2 hypot asin acos arctan arcsin arccos\tit isn't there: write it as a function of the file, by `atan(100000 * y / x)` or `sqrt(x * x + y * y)`
 sign exp normalize clamp\tit isn't there: write it as a function of the file
-heading getheading gunheading getgunheading getdirection getangle bearing getbearing facing\ta robot isn't told where it heads: keep the degree in a variable
+heading direction getheading gunheading getgunheading getdirection getangle bearing getbearing facing\ta robot isn't told where it heads: keep the degree in a variable
 distance dist getdistance distanceto\t`scan(degree, resolution)` answers how far a robot is; else write it as a function of the file
 time clock gettime gettick ticks millis now\tnothing tells the time: count the turns of a loop
 len length size append push\tthere are no arrays and no lists: use several variables
@@ -45,6 +45,13 @@ str string tostring\tthere is no text: all values are whole numbers
 exit quit die\ta robot ends with the match: leave it out
 hit ishit washit hitbywall gothit\tcompare `damage()` with what it was before
 wall atwall hitwall nearwall border\tcompare `loc_x()` and `loc_y()` with 0 and 999
+enemies robots opponents alive players count\tnothing tells how many robots are left: `scan(degree, resolution)` answers how far one is
+repair heal fix mend shield\tnothing mends damage: keep away from shots and walls
+reload load ammo ready\tnothing is loaded: at most two shots are in the air, and `cannon(degree, range)` answers 0 then
+bounce\ta robot stops at a wall: call `drive(degree, speed)` again, away from it
+loc location position pos getposition\tthe calls are `loc_x()` and `loc_y()`
+inc increment\twrite `a = a + 1;`
+srand seed randomize\tnothing begins the random numbers: leave it out, and call `rand(360)`
 null none nil nullptr undefined\twrite 0
 north south east west\t0 is east, 90 north, 180 west and 270 south
 pi\thalf of a circle is 180 degrees";

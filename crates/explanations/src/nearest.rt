@@ -20,14 +20,19 @@ struct Search {
 /// Warns of the `if` of an index whose condition asks whether a range is less than the least one, if its branch keeps that and
 /// nothing leaves out 0.
 pub fn warn_of_least(out: &mut Warnings, subject: &Subject<'_>, index: usize, node: &Node) {
-    if node.kind == NodeKind::While {
-        return;
-    }
     for at in node.first..node.second {
         if let Some(search) = search_at(subject, at)
             && keeps(subject, node, search)
-            && !leaves_out(subject, index, node, at, search)
         {
+            if !is_begun(subject, index, node, search) {
+                return out.tell(
+                    search.token,
+                    "this never holds, as the least range begins with 0: begin with a great one, such as 2000",
+                );
+            }
+            if leaves_out(subject, index, node, at, search) {
+                return;
+            }
             let begin = node.token.saturating_add(2);
             let end = behind_brackets(subject.tokens, node.token).unwrap_or(begin);
             return out.warn(
@@ -86,8 +91,26 @@ fn keeps(subject: &Subject<'_>, node: &Node, search: Search) -> bool {
     false
 }
 
+/// Reports whether the least range of the search of an index may begin with another value than 0, of which none is less.
+fn is_begun(subject: &Subject<'_>, index: usize, node: &Node, search: Search) -> bool {
+    let (Some(body), Var::Local(number)) = (body_at(subject.tree, index), search.least) else {
+        return true;
+    };
+    for at in body.first..body.end {
+        if let Some(below) = subject.tree.get(at)
+            && (at < node.second || at >= node.third)
+            && set_by(below) == Some(search.least)
+            && (below.kind != NodeKind::Store(search.least, StoreOp::Set)
+                || subject.constants.get(at) != Some(0))
+        {
+            return true;
+        }
+    }
+    usize::from(number) < body.parameters
+}
+
 /// Reports whether something else than the comparison of an index reads the range between where it is set and there, or in the
-/// condition: that may leave out 0. So does a least range that begins with 0, as nothing is less.
+/// condition: that may leave out 0.
 fn leaves_out(
     subject: &Subject<'_>,
     index: usize,
@@ -99,7 +122,6 @@ fn leaves_out(
         return true;
     };
     let mut first = body.first;
-    let mut is_begun = matches!(search.least, Var::External(_));
     for at in body.first..body.end {
         let Some(below) = subject.tree.get(at) else {
             return true;
@@ -111,11 +133,8 @@ fn leaves_out(
             }
             first = at;
         }
-        let is_other = at < node.second || at >= node.third;
-        let is_set = below.kind == NodeKind::Store(search.least, StoreOp::Set);
-        is_begun = is_begun || is_other && is_set && subject.constants.get(at) != Some(0);
     }
-    !is_begun || reads_between(subject, first, node.second, comparison, search.range)
+    reads_between(subject, first, node.second, comparison, search.range)
 }
 
 /// Reports whether a node between two indices reads a variable that isn't the left or right side of a comparison.

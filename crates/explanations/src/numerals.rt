@@ -15,12 +15,13 @@ const DIGITS_OF_A_GROUP: usize = 3;
 /// Returns the hint on a number with a `%` behind it, or with a `,` in it.
 pub fn on_marked_numbers(scene: &Scene<'_>) -> Option<Hint> {
     let number = scene.index.checked_sub(1)?;
+    let ends_argument = scene.is_mark(Punctuator::CloseRound) || scene.is_mark(Punctuator::Comma);
     let is_percent = scene.follows_mark(Punctuator::Percent)
-        && touches(scene.tokens, number)
+        && (touches(scene.tokens, number) || ends_argument)
         && matches!(scene.token(number.saturating_sub(1)), Token::Constant(_));
     if is_percent && scene.kinds.expression {
         return Some(Hint::Text(
-            "a number has no `%`: a speed and a damage are percentages as they are",
+            "`%` is the remainder of a division, and no percent sign: a speed and a damage are in percent as they are, so leave it out",
         ));
     }
     if matches!(scene.token(number), Token::Constant(_)) && parts_thousands(scene, scene.index) {
@@ -75,10 +76,30 @@ pub fn on_numbers(scene: &Scene<'_>) -> Option<Hint> {
         }
         [b'e' | b'E', ..] => Some(Hint::Text("numbers are whole, and written in digits alone")),
         [b'l' | b'L' | b'u' | b'U'] => Some(Hint::Text("a number has no letter behind it")),
+        [b'_', b'0'..=b'9', ..] => Some(Hint::Text("a number has digits alone: leave the `_` out")),
+        unit if has_unit(unit) => Some(Hint::Text(
+            "a number has no unit behind it: a direction is in degrees, a distance in metres, a speed in percent as it is",
+        )),
         _ => Some(Hint::Text(
             "a name begins with a letter or `_`, not with a digit; a product is written with `*`: `2 * a`",
         )),
     }
+}
+
+/// Units, as they stand behind a number.
+static UNITS: [&[u8]; 14] = [
+    b"m", b"metres", b"meters", b"metre", b"meter", b"km", b"cm", b"deg", b"degrees", b"degree",
+    b"s", b"sec", b"percent", b"rad",
+];
+
+/// Reports whether a name is a unit.
+fn has_unit(name: &[u8]) -> bool {
+    for unit in &UNITS {
+        if *unit == name {
+            return true;
+        }
+    }
+    false
 }
 
 /// Returns the value of hexadecimal digits, if they are some and it is a constant's.

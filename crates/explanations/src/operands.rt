@@ -12,14 +12,17 @@ const CAST: &str =
 /// Returns the hint on pointers, addresses and types of values.
 pub fn on_values(scene: &Scene<'_>) -> Option<Hint> {
     let follows_type = scene.follows(&Token::Keyword(Keyword::Type));
-    if scene.is_mark(Punctuator::Star) && (follows_type || scene.kinds.statement) {
+    if scene.is_mark(Punctuator::Star) && (follows_type || scene.kinds.expression) {
         return Some(Hint::Text("there are no pointers: a name stands alone"));
     }
     if scene.is_mark(Punctuator::Greater) && scene.touches_mark(Punctuator::Minus) {
         return Some(Hint::Text("there are no structures and no pointers: a name stands alone"));
     }
     if scene.is_mark(Punctuator::Equals) && scene.is_outside() && is_in_list(scene) {
-        return Some(Hint::Text("a parameter has no default value: each call gives it one"));
+        return Some(Hint::Head(
+            "a parameter has no default value: each call gives it one",
+            scene.head()?,
+        ));
     }
     if scene.is_mark(Punctuator::And) && scene.kinds.expression {
         return Some(Hint::Text(

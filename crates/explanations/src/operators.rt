@@ -4,11 +4,30 @@ use crate::arrows::{ARROW, begins_arrow};
 use crate::hints::Hint;
 use crate::rewriting::Rewrite;
 use crate::scenes::Scene;
+use derivations::Item;
 use grammar::{Intrinsic, intrinsic_named, operator_from, store_operator};
 use tokens::{Punctuator, Token};
 
 /// Operators as beginners spell them: two punctuators, of which the second doesn't fit, what is said, and what is meant.
-static MISSPELLED: [(Punctuator, Punctuator, &str, &str); 7] = [
+static MISSPELLED: [(Punctuator, Punctuator, &str, &str); 10] = [
+    (
+        Punctuator::And,
+        Punctuator::And,
+        "perhaps `&&` is meant",
+        "&&",
+    ),
+    (
+        Punctuator::Or,
+        Punctuator::Or,
+        "perhaps `||` is meant",
+        "||",
+    ),
+    (
+        Punctuator::Greater,
+        Punctuator::Equals,
+        "perhaps `>=` is meant",
+        ">=",
+    ),
     (
         Punctuator::Less,
         Punctuator::Greater,
@@ -60,6 +79,19 @@ static TURNED: [(Punctuator, &str, &str); 3] = [
     (Punctuator::Not, "perhaps `!=` is meant", "!="),
 ];
 
+/// Returns the hint on a `!` with a `=` behind it, and something between.
+pub fn on_parted_operators(scene: &Scene<'_>) -> Option<Hint> {
+    let next = scene.index.saturating_add(1);
+    let is_parted = scene.is_mark(Punctuator::Not)
+        && scene.token(next) == Token::Punctuator(Punctuator::Equals)
+        && scene.kinds.operator;
+    is_parted.then_some(Hint::Written(
+        "perhaps `!=` is meant",
+        Rewrite::Joined(scene.index, next.saturating_add(1), "!="),
+        "",
+    ))
+}
+
 /// Returns the hint on punctuators that are no operators here.
 pub fn on_operators(scene: &Scene<'_>) -> Option<Hint> {
     let (before, next) = (scene.index.saturating_sub(1), scene.index.saturating_add(1));
@@ -88,23 +120,46 @@ pub fn on_operators(scene: &Scene<'_>) -> Option<Hint> {
         ));
     }
     if store_operator(&scene.met()).is_some() && scene.kinds.operator {
-        return Some(Hint::Text(on_assigned(scene)));
+        return Some(on_assigned(scene));
     }
     None
 }
 
 /// Returns what is said of an assignment to something else than a name, as to the answer of a question.
-fn on_assigned(scene: &Scene<'_>) -> &'static str {
+fn on_assigned(scene: &Scene<'_>) -> Hint {
     let name = scene.name(scene.index.saturating_sub(3));
     let is_called = scene.follows_mark(Punctuator::CloseRound);
-    match name.and_then(|name| intrinsic_named(&name)) {
+    let words = match name.and_then(|name| intrinsic_named(&name)) {
         Some(Intrinsic::Speed) if is_called => "a speed is set by `drive(degree, speed)`",
         Some(Intrinsic::LocX | Intrinsic::LocY) if is_called => {
             "a robot comes to a place by `drive(degree, speed)`"
         }
-        _ => "only a single name can be assigned to; to compare write `==`",
+        Some(Intrinsic::Damage) if is_called && scene.wants(Punctuator::Semicolon) => {
+            "nothing mends damage: `damage()` only tells it"
+        }
+        _ => return on_turned_assignment(scene),
+    };
+    Hint::Text(words)
+}
+
+/// Returns the hint on a `=` with what is assigned on its left, and the variable on its right; or else on one that may compare.
+fn on_turned_assignment(scene: &Scene<'_>) -> Hint {
+    let (equals, name) = (scene.index, scene.index.saturating_add(1));
+    let ends = scene.token(name.saturating_add(1)) == Token::Punctuator(Punctuator::Semicolon);
+    match scene.pending_at(Item::Exactly(Punctuator::Semicolon)) {
+        Some(begin) if ends && scene.is_mark(Punctuator::Equals) && scene.name(name).is_some() => {
+            Hint::Written(
+                TURNED_ROUND,
+                Rewrite::Assigned(begin, equals, name),
+                "r = scan(a, 10);",
+            )
+        }
+        _ => Hint::Text("only a single name can be assigned to; to compare write `==`"),
     }
 }
+
+/// What is said of an assignment to the right.
+pub const TURNED_ROUND: &str = "an assignment has its variable on the left";
 
 /// Returns the hint on an operator without a right side.
 pub fn on_operands(scene: &Scene<'_>) -> Option<Hint> {
@@ -128,7 +183,7 @@ fn joins(token: &Token) -> bool {
 }
 
 /// Reports whether a token compares.
-fn compares(token: &Token) -> bool {
+pub fn compares(token: &Token) -> bool {
     matches!(
         token,
         Token::Punctuator(

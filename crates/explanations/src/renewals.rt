@@ -1,5 +1,6 @@
 //! Warnings about a reading that is compared, turn for turn, with what it was before the loop.
 
+use crate::courses::is_endless;
 use crate::indices::is_name;
 use crate::rewriting::Rewrite;
 use crate::steps::body_at;
@@ -116,15 +117,6 @@ fn first_endless(subject: &Subject<'_>, first: usize, end: usize) -> Option<usiz
         }
     }
     None
-}
-
-/// Reports whether a node is an endless loop.
-fn is_endless(subject: &Subject<'_>, node: &Node) -> bool {
-    node.kind == NodeKind::While
-        && !matches!(
-            subject.constants.get(node.second.saturating_sub(1)),
-            None | Some(0)
-        )
 }
 
 /// Returns the index of the first node of the outermost endless loop whose body has the node of an index.

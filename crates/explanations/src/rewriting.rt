@@ -2,10 +2,12 @@
 //!
 //! A rewriting that can't be made, as of a piece on several lines or a long one, leaves an example in its place.
 
+use crate::assigning::value_end;
 use crate::chosen::{add_chosen, add_decided, end_from};
 use crate::conditions::condition_end;
 use crate::counted::{add_counted, add_for};
-use crate::indices::{name_at, token_at};
+use crate::heads::behind_brackets;
+use crate::indices::token_at;
 use crate::named::{add_exchanged_names, add_unnamed};
 use crate::notes::Note;
 use crate::pieces::{add_argument, add_name, add_piece, operand_before, operand_end, word_of};
@@ -14,7 +16,6 @@ use crate::regrouped::{
     add_both, add_compared, add_compared_group, add_either, add_grown, add_joined, add_negated,
     add_squared,
 };
-use crate::told::text_of;
 use derivations::Located;
 use tokens::Token;
 
@@ -82,10 +83,14 @@ pub enum Rewrite {
     For(usize),
     /// A call with brackets around what stands behind its name, up to the end of the statement.
     Called(usize),
-    /// An assignment to the name behind an arrow, of what stands from an index on up to the arrow.
-    Assigned(usize, usize),
+    /// An assignment of what stands from an index on, up to another one, to the name of a third one.
+    Assigned(usize, usize, usize),
     /// A call of `atan` with its argument multiplied.
     Multiplied(usize),
+    /// An `if` or a `while` whose statements stand in its brackets.
+    Listed(usize),
+    /// A remainder by the index of its sign, of what is added in place of what is taken away.
+    Raised(usize),
 }
 
 /// Adds how something is to be written: its rewriting, or an example where there is one.
@@ -125,9 +130,11 @@ impl Rewrite {
                 Some(())
             }
             Rewrite::Surrounded(word) => add_surrounded(note, tokens, word),
+            Rewrite::Listed(word) => add_listed(note, tokens, word),
+            Rewrite::Raised(sign) => add_raised(note, tokens, sign),
             Rewrite::Counted(word) => add_counted(note, tokens, word),
             Rewrite::For(word) => add_for(note, tokens, word),
-            Rewrite::Assigned(begin, arrow) => add_assigned(note, tokens, begin, arrow),
+            Rewrite::Assigned(begin, end, name) => add_assigned(note, tokens, begin, end, name),
             Rewrite::Exchanged(_)
             | Rewrite::Limited(..)
             | Rewrite::Backwards(_)
@@ -270,12 +277,58 @@ fn add_surrounded(note: &mut Note, tokens: &[Located], word: usize) -> Option<()
     Some(())
 }
 
-/// Adds an assignment to the name behind an arrow of two tokens.
-fn add_assigned(note: &mut Note, tokens: &[Located], begin: usize, arrow: usize) -> Option<()> {
-    let name = name_at(tokens, arrow.saturating_add(2))?;
-    note.add(text_of(&name));
+/// Adds an `if` or a `while` whose statements stand in its brackets.
+fn add_listed(note: &mut Note, tokens: &[Located], word: usize) -> Option<()> {
+    let Token::Keyword(test) = token_at(tokens, word) else {
+        return None;
+    };
+    let close = behind_brackets(tokens, word)?.checked_sub(1)?;
+    let begin = word.saturating_add(2);
+    let first = value_end(tokens, begin);
+    let statement = first.saturating_add(1);
+    let end = value_end(tokens, statement);
+    let second = if end < close { end } else { close };
+    note.add(word_of(test)?);
+    note.add(" (");
+    add_piece(note, tokens, begin, first)?;
+    note.add(") ");
+    add_piece(note, tokens, statement, second)?;
+    note.push(';');
+    if second < close {
+        note.add(" else ");
+        add_piece(note, tokens, second.saturating_add(1), close)?;
+        note.push(';');
+    }
+    Some(())
+}
+
+/// Adds a remainder by the index of its sign, of a name in brackets to which something is added in place of what is taken away.
+fn add_raised(note: &mut Note, tokens: &[Located], sign: usize) -> Option<()> {
+    let step = token_at(tokens, sign.checked_sub(2)?);
+    let (Token::Constant(less), Token::Constant(whole)) = (
+        step,
+        token_at(tokens, sign.saturating_add(1)),
+    ) else {
+        return None;
+    };
+    note.push('(');
+    add_name(note, tokens, sign.checked_sub(4)?)?;
+    note.count(" + ", u64::from(whole.checked_sub(less)?), ")");
+    note.count(" % ", u64::from(whole), "");
+    Some(())
+}
+
+/// Adds an assignment to a name of what stands from an index on, up to another one.
+fn add_assigned(
+    note: &mut Note,
+    tokens: &[Located],
+    begin: usize,
+    end: usize,
+    name: usize,
+) -> Option<()> {
+    add_name(note, tokens, name)?;
     note.add(" = ");
-    add_piece(note, tokens, begin, arrow)?;
+    add_piece(note, tokens, begin, end)?;
     note.push(';');
     Some(())
 }

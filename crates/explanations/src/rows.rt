@@ -1,5 +1,6 @@
-//! Warnings about statements in a row: shots that are too many, and a turn at too high a speed.
+//! Warnings about statements in a row: shots that are too many; and about loops that count too far, or never begin.
 
+use crate::courses::warn_of_course;
 use crate::indices::follows;
 use crate::steps::body_at;
 use crate::values::holds;
@@ -8,9 +9,6 @@ use crate::warnings::{Said, Subject, Warnings};
 use derivations::{Body, Node, NodeKind, SourceTree};
 use grammar::{Callee, Intrinsic, Op, Var};
 use tokens::{Punctuator, Token};
-
-/// The greatest speed at which a robot turns, in percent.
-const MOST_TURNING: i32 = 50;
 
 /// A number that is counted to by ones in over 100,000 cycles: a turn of such a loop has at least six instructions.
 const LONG_COUNT: i32 = 20_000;
@@ -22,12 +20,8 @@ pub fn warn_of_row(out: &mut Warnings, subject: &Subject<'_>, index: usize, node
             node.token,
             "a robot has at most two shots in the air: this third one in a row is lost",
         );
-    } else if turns_fast(subject, index) {
-        out.tell(
-            node.token,
-            "a robot above speed 50 only brakes here: slow down first, `drive(0, 50); while (speed() > 50) ;`",
-        );
     }
+    warn_of_course(out, subject, index, node);
 }
 
 /// Reports whether the statement of an index and the two right before it are shots.
@@ -53,7 +47,7 @@ fn shot_before(subject: &Subject<'_>, index: usize) -> Option<usize> {
 }
 
 /// Reports whether the statement of an index is a call of this function.
-fn is_call_of(tree: &SourceTree, index: usize, intrinsic: Intrinsic) -> bool {
+pub fn is_call_of(tree: &SourceTree, index: usize, intrinsic: Intrinsic) -> bool {
     match tree.within(index.saturating_sub(1), index.saturating_add(1)) {
         [call, statement] => {
             statement.kind == NodeKind::Evaluate
@@ -61,24 +55,6 @@ fn is_call_of(tree: &SourceTree, index: usize, intrinsic: Intrinsic) -> bool {
         }
         _ => false,
     }
-}
-
-/// Reports whether the statement of an index drives to another degree than the one before it did at a higher speed than
-/// one turns at, and between them is only a loop that neither drives nor asks for the speed.
-fn turns_fast(subject: &Subject<'_>, index: usize) -> bool {
-    let tree = subject.tree;
-    let (Some((degree, speed)), Some(node)) = (driven(subject, index), tree.get(index)) else {
-        return false;
-    };
-    let wait = node.first.saturating_sub(1);
-    let Some(waiting) = tree.get(wait) else {
-        return false;
-    };
-    let before = driven(subject, waiting.first.saturating_sub(1));
-    waiting.kind == NodeKind::While
-        && keeps_speed(tree.within(waiting.first, wait))
-        && speed > 0
-        && matches!(before, Some((first, fast)) if first % 360 != degree % 360 && fast > MOST_TURNING)
 }
 
 /// Returns the degree and the speed of the statement of an index, if it is a `drive` and both are known.
@@ -90,22 +66,6 @@ pub fn driven(subject: &Subject<'_>, index: usize) -> Option<(i32, i32)> {
     let first = subject.tree.first_of(call);
     let degree = subject.constants.get(subject.tree.outermost(first, call))?;
     Some((degree, subject.constants.get(call.saturating_sub(1))?))
-}
-
-/// Reports whether these nodes neither drive nor ask for the speed.
-fn keeps_speed(nodes: &[Node]) -> bool {
-    for node in nodes {
-        if matches!(
-            node.kind,
-            NodeKind::Call(
-                Callee::Function(_) | Callee::Intrinsic(Intrinsic::Drive | Intrinsic::Speed),
-                _
-            )
-        ) {
-            return false;
-        }
-    }
-    true
 }
 
 /// Warns of a loop that counts for a large part of a match, and of one that never begins.

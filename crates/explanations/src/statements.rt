@@ -2,6 +2,7 @@
 
 use crate::indices::{before, follows};
 use crate::rewriting::Rewrite;
+use crate::rows::is_call_of;
 use crate::variables::set_by;
 use crate::warnings::{Said, Subject, Warnings};
 use derivations::{Located, Node, NodeKind, SourceTree};
@@ -31,8 +32,8 @@ pub fn warn_of_statement(out: &mut Warnings, subject: &Subject<'_>, index: usize
             Said::Named(" does nothing but answer, and that is dropped here"),
         );
     }
-    if is_drive(tree.within(node.first.saturating_sub(2), node.first))
-        && is_drive(tree.within(index.saturating_sub(1), index.saturating_add(1)))
+    if is_call_of(tree, node.first.saturating_sub(1), Intrinsic::Drive)
+        && is_call_of(tree, index, Intrinsic::Drive)
         && calls(below) == 1
         && follows(
             subject.tokens,
@@ -159,20 +160,6 @@ fn answers(tree: &SourceTree, first: usize, end: usize) -> bool {
         }
     }
     false
-}
-
-/// Reports whether these two nodes are a call of `drive` and its statement.
-fn is_drive(nodes: &[Node]) -> bool {
-    match nodes {
-        [call, statement] => {
-            statement.kind == NodeKind::Evaluate
-                && matches!(
-                    call.kind,
-                    NodeKind::Call(Callee::Intrinsic(Intrinsic::Drive), _)
-                )
-        }
-        _ => false,
-    }
 }
 
 /// Counts the calls among some nodes.

@@ -16,6 +16,16 @@ pub fn body_at(tree: &SourceTree, index: usize) -> Option<&Body> {
     None
 }
 
+/// Reports whether a node calls this intrinsic function.
+/// It isn't inlined, since the page's module is to be small.
+#[inline(never)]
+pub fn asks_for(node: &Node, wanted: Intrinsic) -> bool {
+    match node.kind {
+        NodeKind::Call(Callee::Intrinsic(called), _) => called == wanted,
+        _ => false,
+    }
+}
+
 /// Reports whether a variable is somewhere the degree of a scan, a shot or a drive, in the function that the node of an
 /// index is in.
 pub fn is_degree(tree: &SourceTree, index: usize, var: Var) -> bool {
@@ -134,14 +144,18 @@ pub fn steps_on(subject: &Subject<'_>, index: usize, var: Var) -> bool {
     !matches!(step, None | Some(0))
 }
 
-/// Returns what is added to a variable in the sum of an index, of which a remainder may be taken.
+/// Returns what is added to a variable in the sum of an index, of which a remainder may be taken: then the shorter way.
 fn sum_of(tree: &SourceTree, constants: &Constants, index: usize, var: Var) -> Option<i32> {
     let node = tree.get(index)?;
     let left = node.second.saturating_sub(1);
     match node.kind {
         NodeKind::Binary(Op::Remainder) => {
-            let sum = tree.get(left)?;
-            added(tree, constants, left, sum, var)
+            let step = added(tree, constants, left, tree.get(left)?, var)?;
+            match constants.get(index.saturating_sub(1)) {
+                // nearly a whole turn forwards is a short way back
+                Some(whole) if step > whole / 2 && step <= whole => whole.checked_sub(step),
+                _ => Some(step),
+            }
         }
         _ => added(tree, constants, index, node, var),
     }

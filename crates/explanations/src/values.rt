@@ -1,11 +1,13 @@
 //! Warnings about operators and assignments that probably aren't meant as they are written.
 
+use crate::aims::on_hit;
+use crate::bounds::{greatest_of, on_negative, on_negative_rest};
 use crate::chances::{BOTH_ALWAYS, BOTH_NEVER, on_both, on_chance};
 use crate::indices::{is_name, token_at, touches};
 use crate::meanings::Meaning;
 use crate::renewals::warn_of_old_reading;
 use crate::rewriting::Rewrite;
-use crate::steps::is_degree;
+use crate::steps::{asks_for, is_degree};
 use crate::warnings::{Meant, Said, Subject, Warnings};
 use crate::ways::on_haste;
 use derivations::{Located, Node, NodeKind};
@@ -35,10 +37,16 @@ pub fn warn_of_operator(
     warn_of_old_reading(out, subject, index, node, op);
     if let Some(said) = on_sides(op, left, right, node.token) {
         out.warn(node.token, said);
+    } else if matches!(op, Op::Equal | Op::NotEqual) && is_denied_question(subject, left, right) {
+        out.warn(node.token, on_denied(node.token));
     } else if let Some(words) = on_operation(subject, op, index, node) {
         out.warn(node.token, with_sign(words, node.token));
     } else if op == Op::Remainder && is_itself(left_value, right_value) {
         out.warn(node.token, Said::Grouped);
+    } else if op == Op::Remainder
+        && let Some(said) = on_negative(subject, index, node, right_value)
+    {
+        out.warn(node.token, said);
     }
     if is_masked(subject, op, node, left, right) {
         out.warn(right.token, on_masked(node.token));
@@ -60,7 +68,9 @@ fn on_operation(subject: &Subject<'_>, op: Op, index: usize, node: &Node) -> Opt
         .or(on_bounds(turned(op), subject.meanings.get(right_index), left_value))
         .or(on_product(subject, op, index))
         .or(on_shot(op, left, right_value))
-        .or(on_quotient(op, subject.meanings.get(left_index), right_value))
+        .or(on_quotient(subject, op, left_index, right_value))
+        .or(on_rounded(subject, op, left, right_value))
+        .or(on_rounded(subject, op, right, left_value))
         .or(on_circle(subject, op, node, right_value))
         .or(on_chance(subject, op, left_index, right_value))
         .or(on_both(subject, op, left_index, right_index))
@@ -96,11 +106,7 @@ fn on_sides(op: Op, left: &Node, right: &Node, token: usize) -> Option<Said> {
             Rewrite::Compared(token),
             "a < b && b < c",
         )),
-        (_, NodeKind::Not, _) if is_order(op) => Some(Said::Written(
-            "this compares the answer of `!`, 0 or 1",
-            Rewrite::Negated(token),
-            "!(a < b)",
-        )),
+        (_, NodeKind::Not, _) if is_order(op) => Some(on_denied(token)),
         (Op::BitXor, _, NodeKind::Constant(2..=9)) => Some(Said::Written(
             "`^` is no power: it is the exclusive or of bits; multiply instead",
             Rewrite::Squared(token, token.saturating_add(1)),
@@ -114,6 +120,34 @@ fn on_sides(op: Op, left: &Node, right: &Node, token: usize) -> Option<Said> {
         // no other operator is often meant in another way
         _ => None,
     }
+}
+
+/// Returns what is said of a comparison of a token with what a `!` answers.
+fn on_denied(token: usize) -> Said {
+    Said::Written(
+        "this compares the answer of `!`, 0 or 1",
+        Rewrite::Negated(token),
+        "!(a < b)",
+    )
+}
+
+/// Reports whether a `!` stands before a question that answers no truth, on the left of what is none either.
+fn is_denied_question(subject: &Subject<'_>, left: &Node, right: &Node) -> bool {
+    let is_question = match subject.tree.get(left.first) {
+        Some(question) => matches!(
+            question.kind,
+            NodeKind::Call(
+                Callee::Intrinsic(
+                    Intrinsic::Damage | Intrinsic::LocX | Intrinsic::LocY | Intrinsic::Speed
+                ),
+                0
+            )
+        ),
+        None => false,
+    };
+    left.kind == NodeKind::Not
+        && is_question
+        && matches!(right.kind, NodeKind::Fetch(_) | NodeKind::Constant(2..))
 }
 
 /// Reports whether the remainder of a number by another one is that number.
@@ -194,7 +228,10 @@ fn on_bounds(op: Op, meaning: Meaning, value: Option<i32>) -> Option<&'static st
     let value = value?;
     let (least_holds, greatest_holds) = (holds(op, least, value)?, holds(op, greatest, value)?);
     let is_within = least <= value && value <= greatest;
-    if meaning == Meaning::Range && value == 1 && matches!(op, Op::Equal | Op::NotEqual) {
+    if meaning == Meaning::Range
+        && matches!(value, 1..=4)
+        && matches!(op, Op::Equal | Op::NotEqual)
+    {
         return Some(
             "`scan` answers how many metres off a robot is, and 0 if none is there: compare with 0",
         );
@@ -204,7 +241,7 @@ fn on_bounds(op: Op, meaning: Meaning, value: Option<i32>) -> Option<&'static st
     }
     match (meaning, least_holds) {
         (Meaning::Damage, false) => Some(
-            "the damage is at least 0, and at most 99 while the robot lives: this is never so",
+            "`damage()` is the robot's own, at least 0, and at most 99 while it lives: this is never so",
         ),
         (Meaning::Speed, false) => Some("a speed is at least 0 and at most 100: this is never so"),
         (Meaning::Coordinate, false) => Some(
@@ -221,7 +258,7 @@ fn on_bounds(op: Op, meaning: Meaning, value: Option<i32>) -> Option<&'static st
         ),
         (Meaning::Speed, true) => Some("a speed is at least 0 and at most 100: this is always so"),
         (Meaning::Damage, true) => Some(
-            "the damage is at least 0, and at most 99 while the robot lives: this is always so",
+            "`damage()` is the robot's own, at least 0, and at most 99 while it lives: this is always so; another one's is told by nothing",
         ),
         _ => None,
     }
@@ -260,23 +297,59 @@ fn most_of(subject: &Subject<'_>, index: usize, depth: u8) -> Option<i64> {
 
 /// Returns what is said of a comparison of what `cannon` answers with a number, if it never holds.
 fn on_shot(op: Op, left: &Node, value: Option<i32>) -> Option<&'static str> {
-    let is_shot = matches!(
-        left.kind,
-        NodeKind::Call(Callee::Intrinsic(Intrinsic::Cannon), _)
-    );
+    let is_shot = asks_for(left, Intrinsic::Cannon);
     let never = !holds(op, 0, value?)? && !holds(op, 1, value?)?;
     (is_shot && never).then_some(
         "`cannon` answers 1 if it fired, and else 0: this never holds; a hit isn't answered",
     )
 }
 
-/// Returns what is said of a quotient of what is meant so by a number, if it is always 0.
-fn on_quotient(op: Op, meaning: Meaning, value: Option<i32>) -> Option<&'static str> {
-    let (_, greatest) = meaning.bounds()?;
-    (op == Op::Divide && value? > greatest).then_some(
-        "this quotient is always 0: multiply first, and divide the product",
+/// Returns what is said of a quotient of the node of an index by a number, if it is always 0, or hardly ever another number.
+fn on_quotient(
+    subject: &Subject<'_>,
+    op: Op,
+    index: usize,
+    value: Option<i32>,
+) -> Option<&'static str> {
+    let divisor = i64::from(value?);
+    if op != Op::Divide || divisor < i64::from(LEAST_ROUNDED) {
+        return None;
+    }
+    let greatest = greatest_of(subject, index)?;
+    if greatest < divisor {
+        Some("this quotient is always 0: multiply first, and divide the product")
+    } else if greatest == divisor {
+        Some(
+            "this quotient is 0 but for the greatest number, since it is rounded down: multiply first, and divide the product",
+        )
+    } else {
+        None
+    }
+}
+
+/// Returns what is said of a product of a quotient and a number, if the quotient is 2 at most.
+fn on_rounded(
+    subject: &Subject<'_>,
+    op: Op,
+    quotient: &Node,
+    value: Option<i32>,
+) -> Option<&'static str> {
+    if op != Op::Multiply || quotient.kind != NodeKind::Binary(Op::Divide) {
+        return None;
+    }
+    let divisor = subject.constants.get(quotient.third.checked_sub(1)?)?;
+    let greatest = greatest_of(subject, quotient.second.checked_sub(1)?)?;
+    let divisor = i64::from(divisor);
+    (value? >= LEAST_ROUNDED
+        && divisor > i64::from(LEAST_ROUNDED)
+        && greatest > divisor
+        && greatest < divisor.saturating_mul(3)).then_some(
+        "this quotient is rounded down first, to 0, 1 or 2: multiply first, and divide the product",
     )
 }
+
+/// A number by which a rounded quotient surely isn't meant to be multiplied, or something divided.
+const LEAST_ROUNDED: i32 = 10;
 
 /// Returns the comparison by which the right side of another one compares with the left one.
 fn turned(op: Op) -> Op {
@@ -360,7 +433,7 @@ fn warn_of_parts(out: &mut Warnings, tokens: &[Located], factor: &Node) {
         Callee::Intrinsic(Intrinsic::Sin | Intrinsic::Cos | Intrinsic::Tan),
         _,
     ) = factor.kind
-        && !may_have_parts(tokens)
+        && !may_have(tokens, PARTS)
     {
         out.warn(
             factor.token,
@@ -369,12 +442,12 @@ fn warn_of_parts(out: &mut Warnings, tokens: &[Located], factor: &Node) {
     }
 }
 
-/// Reports whether the number of parts is among the tokens of a source, or may be after the last one, which is a lexical
+/// Reports whether a number is among the tokens of a source, or may be after the last one, which is a lexical
 /// error. Behind a fault there are tokens, but no nodes.
-fn may_have_parts(tokens: &[Located]) -> bool {
-    let parts = Token::Constant(PARTS);
+fn may_have(tokens: &[Located], number: u32) -> bool {
+    let wanted = Token::Constant(number);
     for located in tokens {
-        if located.token == parts || matches!(located.token, Token::Fault(_)) {
+        if located.token == wanted || matches!(located.token, Token::Fault(_)) {
             return true;
         }
     }
@@ -416,6 +489,29 @@ pub fn warn_of_store(
             "this sets the variable to itself: nothing changes",
         );
     }
+    if op == StoreOp::Remainder
+        && let Some(words) = on_negative_rest(subject, index, node, var)
+    {
+        out.tell(node.token, words);
+    }
+    warn_of_off_course(out, subject, index, node, op);
+    if op == StoreOp::Set && sets_answer(subject, index) {
+        out.warn(node.token, on_set_answer(node.token));
+    }
+    if let Some(words) = on_hit(subject, index, node, op) {
+        out.tell(node.token, words);
+    }
+    warn_of_turned(out, subject.tokens, node.token.saturating_add(1));
+}
+
+/// Warns of an assignment of an index of a degree to a variable that is named by another direction.
+fn warn_of_off_course(
+    out: &mut Warnings,
+    subject: &Subject<'_>,
+    index: usize,
+    node: &Node,
+    op: StoreOp,
+) {
     if op == StoreOp::Set
         && let Some(value) = subject.constants.get(index.saturating_sub(1))
         && is_off_course(subject.tokens, node.token, value)
@@ -425,10 +521,6 @@ pub fn warn_of_store(
             Said::Variable(" is another degree", Meant::Used),
         );
     }
-    if op == StoreOp::Set && sets_answer(subject, index) {
-        out.warn(node.token, on_set_answer(node.token));
-    }
-    warn_of_turned(out, subject.tokens, node.token.saturating_add(1));
 }
 
 /// Warns of a `=-` or a `=!` whose `=` is the token of an index.

@@ -62,6 +62,9 @@ fn warn_of_body(out: &mut Warnings, subject: &Subject<'_>, body: &Body) {
     let uses = uses_of(subject.tree, body);
     for (number, own) in uses.iter().enumerate() {
         let is_parameter = number < body.parameters;
+        if !is_parameter && warn_of_lower(out, subject, body, own) {
+            continue;
+        }
         if let Some(set) = own.set
             && !is_parameter
             && warn_of_kept(out, subject, body, number, set)
@@ -94,6 +97,46 @@ fn warn_of_body(out: &mut Warnings, subject: &Subject<'_>, body: &Body) {
             _ => {}
         }
     }
+}
+
+/// Warns of the variable of a function that it doesn't declare, if the file declares one of its name further down. Reports whether it warned.
+fn warn_of_lower(out: &mut Warnings, subject: &Subject<'_>, body: &Body, own: &Use) -> bool {
+    let Some(first) = own.read.or(own.set) else {
+        return false;
+    };
+    let token = token_of(subject.tree, first);
+    let Some(name) = name_at(subject.tokens, token) else {
+        return false;
+    };
+    let is_apart = own.read.is_none()
+        || own.set.is_none()
+        || is_elsewhere(subject, token, &name, false);
+    let is_lower = is_apart
+        && is_declared_below(subject, token, &name)
+        && !is_declared_in(subject.tokens, body, &name);
+    if is_lower {
+        out.warn(
+            token,
+            Said::Named(
+                " is a variable of this function alone, and 0 at its beginning: that of the file is declared further down only, so move that above",
+            ),
+        );
+    }
+    is_lower
+}
+
+/// Reports whether a function declares a variable of this name.
+fn is_declared_in(tokens: &[Located], body: &Body, name: &Name) -> bool {
+    let mut is_declaring = false;
+    for located in tokens.get(body.token..body.closing).unwrap_or(&[]) {
+        match located.token {
+            Token::Keyword(Keyword::Type) => is_declaring = true,
+            Token::Name(declared) if is_declaring && declared == *name => return true,
+            Token::Name(_) | Token::Punctuator(Punctuator::Comma) => {}
+            _ => is_declaring = false,
+        }
+    }
+    false
 }
 
 /// Warns of each assignment to a parameter that nothing reads afterwards.
@@ -176,7 +219,7 @@ fn meant_as_set(subject: &Subject<'_>, uses: &Uses, token: usize) -> Meant {
 fn meant_as_read(subject: &Subject<'_>, uses: &Uses, token: usize) -> Meant {
     match (meant(subject, uses, token), name_at(subject.tokens, token)) {
         (Meant::Nothing, Some(name)) if is_function(subject, &name) => Meant::Call,
-        (Meant::Nothing, Some(name)) if is_elsewhere(subject, token, &name) => {
+        (Meant::Nothing, Some(name)) if is_elsewhere(subject, token, &name, true) => {
             Meant::Words("; that of another function is another one: declare it outside of both")
         }
         (Meant::Nothing, Some(_)) => Meant::Used,
@@ -189,11 +232,6 @@ fn meant(subject: &Subject<'_>, uses: &Uses, token: usize) -> Meant {
     let Some(name) = name_at(subject.tokens, token) else {
         return Meant::Nothing;
     };
-    if is_declared_below(subject, token, &name) {
-        return Meant::Words(
-            "; the variable of the file is declared further down only: move that above",
-        );
-    }
     match near_variable(subject, uses, token, &name) {
         Some(other) => Meant::Name(other),
         None if intrinsic_named(&name).is_some() => Meant::Call,
@@ -224,13 +262,13 @@ fn is_function(subject: &Subject<'_>, name: &Name) -> bool {
     false
 }
 
-/// Reports whether another function sets a variable of the name of a token.
-fn is_elsewhere(subject: &Subject<'_>, token: usize, name: &Name) -> bool {
+/// Reports whether another function sets a variable of the name of a token, or only reads it if it needn't be set.
+fn is_elsewhere(subject: &Subject<'_>, token: usize, name: &Name, is_set: bool) -> bool {
     for body in subject.tree.bodies() {
         let is_here = body.token <= token && token <= body.closing;
         for node in subject.tree.within(body.first, body.end) {
             if !is_here
-                && set_by(node).is_some()
+                && (set_by(node).is_some() || !is_set && matches!(node.kind, NodeKind::Fetch(_)))
                 && name_at(subject.tokens, node.token) == Some(*name)
             {
                 return true;

@@ -7,10 +7,12 @@ use crate::comments::{add_swallowing, warn_of_comments};
 use crate::constants::Constants;
 use crate::declarations::Declarations;
 use crate::flow::{warn_of_main, warn_of_recursion, warn_of_uncalled};
+use crate::heads::behind_brackets;
 use crate::indices::{is_name, name_at, token_at};
 use crate::meanings::Meanings;
 use crate::misnamed::on_used;
 use crate::notes::Note;
+use crate::pieces::{add_piece, is_mark};
 use crate::reach::Reach;
 use crate::rewriting::{Rewrite, add_written};
 use crate::rows::warn_of_row;
@@ -21,7 +23,7 @@ use crate::values::{warn_of_operator, warn_of_store};
 use crate::variables::{is_truth, warn_of_variables};
 use arrayvec::ArrayVec;
 use derivations::{Located, Node, NodeKind, SourceTree};
-use grammar::{Diagnostic, Profile};
+use grammar::{Diagnostic, Profile, intrinsic_named};
 use tokens::{Keyword, Punctuator, Token};
 
 /// The most warnings of a source: those that are found after this many are left out.
@@ -198,9 +200,31 @@ fn add_unchanged(note: &mut Note, tokens: &[Located], token: usize) {
         && !is_truth(&name)
     {
         note.add("; write `");
-        note.add(text_of(&name));
-        note.add(" += 1` there");
+        let mut own = Note::new();
+        if add_asked(&mut own, tokens, token).is_some() {
+            note.add(own.as_str());
+        } else {
+            note.add(text_of(&name));
+            note.add(" += 1");
+        }
+        note.add("` there");
     }
+}
+
+/// Adds the last assignment before a token by which the variable of its name is set to what an intrinsic function answers.
+fn add_asked(note: &mut Note, tokens: &[Located], token: usize) -> Option<()> {
+    let name = name_at(tokens, token)?;
+    for back in 1..token {
+        let at = token.checked_sub(back)?;
+        let call = at.saturating_add(2);
+        if name_at(tokens, at) == Some(name)
+            && is_mark(tokens, at.saturating_add(1), Punctuator::Equals)
+        {
+            intrinsic_named(&name_at(tokens, call)?)?;
+            return add_piece(note, tokens, at, behind_brackets(tokens, call)?);
+        }
+    }
+    None
 }
 
 /// Adds that the remainder of a `%`, the token of an index, is that of the number before it alone, and what is meant.
@@ -227,6 +251,19 @@ fn add_grouped(note: &mut Note, tokens: &[Located], percent: usize) {
     }
 }
 
+/// What is said of arguments that are dropped: how the function is asked for what was meant, or that it speaks of the robot alone.
+static DROPPED: [(&[u8], &str); 6] = [
+    (b"rand", "; one of a to b is `a + rand(b - a + 1)`"),
+    (b"atan", "; it takes a quotient: `atan(100000 * y / x)`"),
+    (b"damage", ", as it tells the robot's own damage"),
+    (
+        b"speed",
+        ", as it tells the robot's own speed, and sets none",
+    ),
+    (b"loc_x", ", as it tells where the robot itself is"),
+    (b"loc_y", ", as it tells where the robot itself is"),
+];
+
 /// Adds how many arguments a function takes, and how many it is given.
 fn add_arguments(note: &mut Note, tokens: &[Located], call: usize, wanted: usize, given: usize) {
     match wanted {
@@ -235,13 +272,18 @@ fn add_arguments(note: &mut Note, tokens: &[Located], call: usize, wanted: usize
         _ => note.count(" takes ", wanted as u64, " arguments"),
     }
     note.count(", and is given ", given as u64, "");
-    note.add(if given >= wanted {
-        ": the others are dropped"
+    if given > wanted {
+        note.add(": the others are dropped");
+        for (name, words) in &DROPPED {
+            if is_name(tokens, call, name) {
+                return note.add(words);
+            }
+        }
     } else if is_name(tokens, call, b"rand") {
-        ": it is 0 then, and so this is always 0"
+        note.add(": it is 0 then, and so this is always 0");
     } else {
-        ": those that lack are 0"
-    });
+        note.add(": those that lack are 0");
+    }
     if wanted > 0 {
         add_written(note, &[], tokens, Rewrite::Filled(call, wanted, given), "");
     }

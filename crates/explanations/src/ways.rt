@@ -1,10 +1,13 @@
 //! Warnings about ways: a loop that waits for a coordinate which the robot's degree doesn't lead to, and a coordinate that is
 //! compared with what it was before the field has moved.
 
+use crate::chances::compared;
+use crate::courses::{is_course, statement_before};
 use crate::rows::driven;
+use crate::variables::set_by;
 use crate::warnings::{Subject, Warnings};
 use derivations::{Node, NodeKind};
-use grammar::{Callee, Intrinsic, Op, StoreOp};
+use grammar::{Callee, Intrinsic, Op, StoreOp, Var};
 
 /// The most nodes between two questions that are asked too soon after each other: each takes a cycle at least, and the field
 /// moves every 15 cycles.
@@ -19,7 +22,7 @@ pub fn warn_of_way(
     node: &Node,
     condition: &Node,
 ) {
-    let Some((asked, grows)) = waited_for(subject, node, condition) else {
+    let Some((asked, grows)) = waited_for(subject, index, node) else {
         return;
     };
     let Some(degree) = only_degree(subject, index, node) else {
@@ -37,23 +40,91 @@ pub fn warn_of_way(
     }
 }
 
-/// Returns the coordinate that a loop waits for, and whether it is to grow (1) or to become less (-1).
-fn waited_for(subject: &Subject<'_>, node: &Node, condition: &Node) -> Option<(Intrinsic, i32)> {
-    let NodeKind::Call(Callee::Intrinsic(asked), 0) = subject.tree.get(node.first)?.kind else {
-        return None;
+/// Warns of the `if` of an index that asks whether the robot is near a wall, and then only drives to degrees that lead there.
+pub fn warn_of_led(out: &mut Warnings, subject: &Subject<'_>, index: usize, node: &Node) {
+    let Some(asked) = compared(subject, node.second.saturating_sub(1)) else {
+        return;
     };
-    let NodeKind::Binary(op) = condition.kind else {
-        return None;
+    let side = match (asked.op, asked.number) {
+        (Op::Greater | Op::GreaterOrEqual, 800..) => 1,
+        (Op::Less | Op::LessOrEqual, ..=200) => -1,
+        _ => return,
     };
-    let is_whole = condition.second == node.first.saturating_add(1)
-        && subject.constants.get(node.second.checked_sub(2)?).is_some()
-        && matches!(asked, Intrinsic::LocX | Intrinsic::LocY);
-    match op {
-        Op::Less | Op::LessOrEqual if is_whole => Some((asked, 1)),
-        Op::Greater | Op::GreaterOrEqual if is_whole => Some((asked, -1)),
+    let turn = match asked.value {
+        NodeKind::Call(Callee::Intrinsic(Intrinsic::LocX), 0) => 0,
+        NodeKind::Call(Callee::Intrinsic(Intrinsic::LocY), 0) => 90,
+        _ => return,
+    };
+    let mut is_led = false;
+    for at in node.second..node.third {
+        if let Some(degree) = set_course(subject, index, at) {
+            if way_east(degree.saturating_sub(turn)) != side {
+                return;
+            }
+            is_led = true;
+        }
+    }
+    if is_led {
+        out.tell(
+            node.token,
+            "this leads on to the wall that is near: x grows to the east and y to the north, and 0 is east, 90 north, 180 west and 270 south",
+        );
+    }
+}
+
+/// Returns the degree to which the node of an index sets the robot's course: a `drive`, or the variable of one.
+fn set_course(subject: &Subject<'_>, whole: usize, index: usize) -> Option<i32> {
+    match subject.tree.get(index)?.kind {
+        NodeKind::Call(Callee::Intrinsic(Intrinsic::Drive), _) => {
+            let (degree, speed) = driven(subject, index.saturating_add(1))?;
+            (speed > 0).then_some(degree)
+        }
+        NodeKind::Store(var, StoreOp::Set) if is_course(subject.tree, whole, var) => {
+            subject.constants.get(index)
+        }
+        _ => None,
+    }
+}
+
+/// Returns the coordinate that the loop of an index waits for, and whether it is to grow (1) or to become less (-1).
+fn waited_for(subject: &Subject<'_>, index: usize, node: &Node) -> Option<(Intrinsic, i32)> {
+    let asked = compared(subject, node.second.checked_sub(1)?)?;
+    let place = match asked.value {
+        NodeKind::Fetch(var) => renewed(subject, node.second, index, var)?,
+        value => place_asked(value)?,
+    };
+    match asked.op {
+        Op::Less | Op::LessOrEqual => Some((place, 1)),
+        Op::Greater | Op::GreaterOrEqual => Some((place, -1)),
         // no other comparison waits for a side
         _ => None,
     }
+}
+
+/// Returns the coordinate that a node asks for, if it does.
+fn place_asked(value: NodeKind) -> Option<Intrinsic> {
+    match value {
+        NodeKind::Call(Callee::Intrinsic(asked @ (Intrinsic::LocX | Intrinsic::LocY)), 0) => {
+            Some(asked)
+        }
+        _ => None,
+    }
+}
+
+/// Returns the coordinate to which some nodes between two indices set a variable, if they set it to one alone.
+fn renewed(subject: &Subject<'_>, first: usize, end: usize, var: Var) -> Option<Intrinsic> {
+    let mut only = None;
+    for at in first..end {
+        let node = subject.tree.get(at)?;
+        if set_by(node) == Some(var) {
+            let place = place_asked(subject.tree.get(at.checked_sub(1)?)?.kind)?;
+            if node.kind != NodeKind::Store(var, StoreOp::Set) || only.is_some() {
+                return None;
+            }
+            only = Some(place);
+        }
+    }
+    only
 }
 
 /// Returns the only degree to which the robot drives in the loop of an index, or right before it if the loop calls nothing.
@@ -74,11 +145,11 @@ fn only_degree(subject: &Subject<'_>, index: usize, node: &Node) -> Option<i32> 
             _ => {}
         }
     }
-    match (only, driven(subject, node.first.checked_sub(1)?)) {
-        (None, Some((degree, speed))) if speed > 0 => Some(degree),
-        (None, _) => None,
-        (found, _) => found,
+    if only.is_some() {
+        return only;
     }
+    let (degree, speed) = driven(subject, statement_before(subject, index)?)?;
+    (speed > 0).then_some(degree)
 }
 
 /// Returns whether a robot with a degree goes east (1), west (-1), or neither (0).
@@ -102,17 +173,24 @@ pub fn on_haste(subject: &Subject<'_>, op: Op, asked: usize, kept: usize) -> Opt
         question,
         NodeKind::Call(Callee::Intrinsic(Intrinsic::LocX | Intrinsic::LocY), 0)
     );
-    if !is_place || !matches!(op, Op::Equal | Op::NotEqual) {
+    let is_damage = question == NodeKind::Call(Callee::Intrinsic(Intrinsic::Damage), 0);
+    let mut has_shot = false;
+    if !(is_place && matches!(op, Op::Equal | Op::NotEqual) || is_damage) {
         return None;
     }
     for step in 1..MOST_SOON {
         let at = asked.checked_sub(step)?;
         let node = tree.get(at)?;
+        has_shot = has_shot || node.kind == NodeKind::Call(Callee::Intrinsic(Intrinsic::Cannon), 2);
         let is_set = node.kind == NodeKind::Store(var, StoreOp::Set);
         if is_set && tree.get(at.checked_sub(1)?)?.kind == question {
-            return Some(
-                "the field moves every 15 cycles, and this is asked too soon after it was kept: wait in a loop between",
-            );
+            return if is_damage {
+                has_shot.then_some(
+                    "`damage()` is the robot's own: whether a shot hits another one, nothing tells",
+                )
+            } else {
+                Some(SOON)
+            };
         }
         let is_other = is_set
             || node.kind == NodeKind::While
@@ -123,3 +201,7 @@ pub fn on_haste(subject: &Subject<'_>, op: Op, asked: usize, kept: usize) -> Opt
     }
     None
 }
+
+/// What is said of a place that is asked for twice without a wait.
+const SOON: &str =
+    "the field moves every 15 cycles, and this is asked too soon after it was kept: wait in a loop between";
