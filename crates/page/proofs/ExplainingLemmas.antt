@@ -28,10 +28,12 @@ pub explained : (order : Order) (robots : List RobotFile) (first : RobotFile) (e
     → IsAccepted order robots → slice_get robots 0 ≡ Some first
     → Explains (profile_numbered order.profile) (source_bytes first) ending sheet
     → (IsFull sheet → ⊥) → ExplainsRobots order robots ending sheet
-explained order robots first Done sheet accepted here is room = of_first order robots first Done sheet accepted here is (inr room)
+explained order robots first Done sheet accepted here is room =
+    of_first order robots first Done sheet accepted here is (inr room)
 explained order robots first Faulty sheet accepted here is room =
     of_first order robots first Faulty sheet accepted here is (inr room)
-explained order robots first Full sheet accepted here is room = of_first order robots first Full sheet accepted here is (inl refl)
+explained order robots first Full sheet accepted here is room =
+    of_first order robots first Full sheet accepted here is (inl refl)
 explained order robots first Refused sheet accepted here is room = absurd is
 explained order robots first GoesOn sheet accepted here is room = absurd is
 

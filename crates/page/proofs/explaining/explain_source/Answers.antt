@@ -16,5 +16,6 @@ pub returns-after-eq : goal.returns-after-eq
 returns-after-eq c = record {
   diagnostic = c.in-Err-Source.diagnostic;
   is = rw c.in-Err-Source.field-0-is at (c.in-Err-Source.ensures.fault c.args.source.now (search rules));
-  told = ends_on c.in-Err-Source.diagnostic _ _ c.as_str.result.now (rw c.as_str.ensures c.explain-note.ensures) c.tell.ensures;
+  told = ends_on c.in-Err-Source.diagnostic _ _ c.as_str.result.now (rw c.as_str.ensures c.explain-note.ensures)
+      c.tell.ensures;
 }
