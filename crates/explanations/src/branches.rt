@@ -16,16 +16,22 @@ use crate::steps::{asks_for, only_step};
 use crate::values::{holds, is_turned};
 use crate::variables::set_by;
 use crate::warnings::{Said, Subject, Warnings};
-use crate::ways::{warn_of_led, warn_of_way};
+use crate::ways::{warn_of_across, warn_of_led, warn_of_way};
 use derivations::{Located, Node, NodeKind, SourceTree};
 use grammar::{Callee, Intrinsic, Op, StoreOp, Var};
 use tokens::{Keyword, Punctuator, Token};
+
+/// The most `if`s with an `else` between them that are looked at.
+const MOST_JOINED: usize = 100;
 
 /// Warns of the `if` or `while` of a node's index.
 pub fn warn_of_branch(out: &mut Warnings, subject: &Subject<'_>, index: usize, node: &Node) {
     let tokens = subject.tokens;
     if let Some(body) = behind_brackets(tokens, node.token) {
         warn_of_body(out, tokens, node, body);
+        if node.kind != NodeKind::While {
+            warn_of_else(out, tokens, node.token, body);
+        }
     }
     let last = node.second.saturating_sub(1);
     let Some((condition, value)) = subject.valued(last) else {
@@ -77,6 +83,7 @@ fn warn_of_question(
     warn_of_early(out, subject, index, node);
     warn_of_nobody(out, subject, index, node);
     warn_of_led(out, subject, index, node);
+    warn_of_across(out, subject, index, node);
     if is_exact(subject, node.second.saturating_sub(1), condition) {
         out.tell(
             condition.token,
@@ -254,6 +261,65 @@ fn warn_of_body(out: &mut Warnings, tokens: &[Located], node: &Node, body: usize
             "the `if` ends with this `;`, and what follows is always done: leave the `;` out",
         );
     }
+}
+
+/// Warns of the `else` of an `if` that is the branch of another one, if it stands in a line below that one's word.
+fn warn_of_else(out: &mut Warnings, tokens: &[Located], outer: usize, body: usize) {
+    let mut inner = body;
+    for _ in 0..MOST_JOINED {
+        if token_at(tokens, inner) != Token::Keyword(Keyword::If) {
+            return;
+        }
+        let begin = behind_brackets(tokens, inner);
+        let Some(at) = begin.and_then(|begin| behind_part(tokens, begin)) else {
+            return;
+        };
+        if token_at(tokens, at) != Token::Keyword(Keyword::Else) {
+            return;
+        }
+        if looks_outer(tokens, outer, body, at) {
+            return out.tell(
+                at,
+                "an `else` belongs to the nearest `if` above it, and not to the one below which it stands: set braces { } round the branch of that one",
+            );
+        }
+        inner = at.saturating_add(1);
+    }
+}
+
+/// Returns the index after the statement that begins at an index, if it is an expression or a block.
+fn behind_part(tokens: &[Located], begin: usize) -> Option<usize> {
+    if token_at(tokens, begin) != Token::Punctuator(Punctuator::OpenCurly) {
+        return behind_simple(tokens, begin);
+    }
+    let mut depth = 0usize;
+    for (number, located) in tokens.get(begin..)?.iter().enumerate() {
+        match located.token {
+            Token::Punctuator(Punctuator::OpenCurly) => depth = depth.saturating_add(1),
+            Token::Punctuator(Punctuator::CloseCurly) => depth = depth.saturating_sub(1),
+            _ => {}
+        }
+        if depth == 0 {
+            return Some(begin.saturating_add(number).saturating_add(1));
+        }
+    }
+    None
+}
+
+/// Reports whether an `else` begins a line at the column of an `if`, and not at that of the `if` that is its branch, on a line between.
+fn looks_outer(tokens: &[Located], outer: usize, inner: usize, at: usize) -> bool {
+    let (Some(outer), Some(inner), Some(last), Some(other)) = (
+        tokens.get(outer),
+        tokens.get(inner),
+        tokens.get(at.saturating_sub(1)),
+        tokens.get(at),
+    ) else {
+        return false;
+    };
+    outer.line < inner.line
+        && last.line < other.line
+        && outer.column == other.column
+        && inner.column != other.column
 }
 
 /// Warns of the statement after a body without braces that begins below the body's beginning.

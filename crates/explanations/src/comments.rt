@@ -73,6 +73,36 @@ pub fn nested(source: &[u8], at: usize) -> Option<u32> {
     None
 }
 
+/// Returns the line on which a comment begins that would end by the `*/` of a position, if comments nested.
+pub fn nested_end(source: &[u8], at: usize) -> Option<u32> {
+    if source.get(at) != Some(&b'*') {
+        return None;
+    }
+    let (mut depth, mut line, mut begin, mut last) = (0u32, 1u32, 0u32, b' ');
+    let mut ended = None;
+    for byte in source.get(..at.saturating_add(2))? {
+        ended = None;
+        match (last, *byte) {
+            (b'/', b'*') => {
+                begin = if depth == 0 { line } else { begin };
+                depth = depth.saturating_add(1);
+                last = b' ';
+            }
+            (b'*', b'/') if depth > 0 => {
+                depth = depth.saturating_sub(1);
+                ended = (depth == 0).then_some(begin);
+                last = b' ';
+            }
+            (_, b'\n') => {
+                line = line.saturating_add(1);
+                last = b' ';
+            }
+            _ => last = *byte,
+        }
+    }
+    ended
+}
+
 /// Reports whether a position is in a comment whose `/*` is missing: a `*/` follows, and from the beginning of the line up to
 /// it there is no `/*`, and no code if it is on a later line.
 pub fn is_unbegun(source: &[u8], at: usize) -> bool {

@@ -2,11 +2,16 @@
 
 use crate::heads::{behind_brackets, is_no_parameter};
 use crate::hints::{Hint, by_layout};
+use crate::indices::token_at;
+use crate::notes::Note;
 use crate::scenes::Scene;
-use crate::told::spelling_of;
-use derivations::{Item, Role};
+use crate::told::{spelling_of, text_of};
+use derivations::{Item, Located, Role};
 use grammar::intrinsic_named;
 use tokens::{Keyword, Name, Punctuator, Token};
+
+/// The most tokens of a list of names that is quoted.
+const MOST_LISTED: usize = 30;
 
 /// Returns the hint on a declaration of a function, which has no block.
 pub fn on_prototypes(scene: &Scene<'_>) -> Option<Hint> {
@@ -21,7 +26,7 @@ pub fn on_prototypes(scene: &Scene<'_>) -> Option<Hint> {
     let behind = behind_brackets(scene.tokens, name)?;
     let is_ended = scene.token(behind) == Token::Punctuator(Punctuator::Semicolon);
     is_ended.then_some(Hint::Text(
-        "a function that is defined further down needs no declaration: leave the line out",
+        "a function that is defined further down needs no declaration, no prototype: leave out the line",
     ))
 }
 
@@ -95,7 +100,49 @@ pub fn on_declarations(scene: &Scene<'_>) -> Option<Hint> {
         return Some(by_layout(scene.so_far(), true, "", Hint::Text(words)));
     }
     if scene.follows_mark(Punctuator::Comma) && !scene.kinds.expression {
-        return Some(Hint::Text("one `int` is enough: write `int a, b;`"));
+        return Some(Hint::Types(scene.index));
+    }
+    None
+}
+
+/// Adds that the type of the token of an index stands once in a declaration, and how that is written.
+pub fn add_types(note: &mut Note, tokens: &[Located], index: usize) {
+    note.add("one `int` is enough: write the type once, before all names: `int ");
+    let mut first = index;
+    for back in 1..MOST_LISTED {
+        let at = index.saturating_sub(back);
+        if !is_listed(tokens, at) {
+            break;
+        }
+        first = at;
+    }
+    let mut own = Note::new();
+    let is_made = add_names(&mut own, tokens, first).is_some();
+    note.add(if is_made { own.as_str() } else { "a, b" });
+    note.add(";`");
+}
+
+/// Reports whether a token is one of a list of names: a type, a name or a `,`.
+fn is_listed(tokens: &[Located], at: usize) -> bool {
+    matches!(
+        token_at(tokens, at),
+        Token::Keyword(Keyword::Type) | Token::Name(_) | Token::Punctuator(Punctuator::Comma)
+    )
+}
+
+/// Adds the names of a list up to its `;`, with a `,` between two.
+fn add_names(note: &mut Note, tokens: &[Located], first: usize) -> Option<()> {
+    for (number, located) in tokens.get(first..)?.iter().enumerate() {
+        match located.token {
+            Token::Keyword(Keyword::Type) => {}
+            Token::Name(name) => note.add(text_of(&name)),
+            Token::Punctuator(Punctuator::Comma) => note.add(", "),
+            Token::Punctuator(Punctuator::Semicolon) => return Some(()),
+            _ => return None,
+        }
+        if number > MOST_LISTED {
+            return None;
+        }
     }
     None
 }

@@ -7,7 +7,7 @@ ghost use Rattle.explanations.specs.Faults.{IsOn, first_line};
 use crate::arrows::on_arrows;
 use crate::carets::{add_marked, add_shown};
 use crate::chosen::on_chosen_values;
-use crate::comments::{is_unbegun, nested, swallowing};
+use crate::comments::{is_unbegun, nested, nested_end, swallowing};
 use crate::conditions::on_ended_conditions;
 use crate::declaring::{on_parameters, on_prototypes, on_reserved_names};
 use crate::foreign::foreign_at;
@@ -179,7 +179,8 @@ fn name_of(found: &Found<'_>) -> Option<(usize, usize)> {
 /// Returns the hint on what was met: words and characters that aren't known have their own, but for a comment that was
 /// meant to go on.
 fn hint_for(found: &Found<'_>, scene: &Scene<'_>) -> Option<Hint> {
-    if let Some(line) = nested(found.source, found.met.start()) {
+    let at = found.met.start();
+    if let Some(line) = nested(found.source, at).or(nested_end(found.source, at)) {
         return Some(Hint::Nested(line));
     }
     if let Some(line) = swallowing(found.source, found.met.start()) {

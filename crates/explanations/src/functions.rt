@@ -66,7 +66,7 @@ pub fn on_heads(scene: &Scene<'_>) -> Option<Hint> {
     }
     if scene.is_mark(Punctuator::Semicolon) && scene.is_behind_head() {
         return Some(Hint::Text(
-            "no `;` stands behind the head of a function; one that is defined further down needs no declaration",
+            "no `;` stands behind the head of a function; one that is defined further down needs no declaration, no prototype: leave out the line",
         ));
     }
     let is_named = scene.is_outside()

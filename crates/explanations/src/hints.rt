@@ -2,6 +2,7 @@
 
 use crate::assigning::{add_assignments, add_declaration};
 use crate::comments::add_swallowing;
+use crate::declaring::add_types;
 use crate::foreign::Foreign;
 use crate::heads::{add_arrow, add_head};
 use crate::indices::name_at;
@@ -57,6 +58,8 @@ pub enum Hint {
     Declaration(&'static str, usize),
     /// The head of the function that an arrow gives to the variable of the token of an index.
     Arrow(usize),
+    /// The type of the token of an index, which stands again in a list of names.
+    Types(usize),
     /// The assignments that are meant where several variables are set at once, from the token of an index on.
     Assignments(usize),
 }
@@ -97,12 +100,12 @@ impl Hint {
             }
             Hint::Arrow(index) => add_arrow(note, source, tokens, index),
             Hint::Assignments(index) => add_assignments(note, source, tokens, index),
-            _ => self.add_place(note),
+            _ => self.add_place(note, tokens),
         }
     }
 
-    /// Adds a hint on where a block or a comment ends, or should.
-    fn add_place(self, note: &mut Note) {
+    /// Adds a hint on where a block or a comment ends, or should, and on a list of names.
+    fn add_place(self, note: &mut Note, tokens: &[Located]) {
         match self {
             Hint::Unclosed(words, line) => {
                 note.add(words);
@@ -128,6 +131,7 @@ impl Hint {
                 " ends at its first `*/`",
             ),
             Hint::Swallowing(line) => add_swallowing(note, line),
+            Hint::Types(index) => add_types(note, tokens, index),
             // `add` has the words of all others
             _ => {}
         }

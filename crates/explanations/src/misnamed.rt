@@ -30,9 +30,9 @@ getspeed velocity getvelocity\tthe call is `speed()`
 random rnd randint randrange getrandom\tthe call is `rand(limit)`
 print printf println echo log debug say write writeln display draw cout cin endl puts\ta robot writes nothing, and has no text
 wait sleep delay pause yield donothing\tnothing waits by itself: a loop does, such as `while (speed() > 0) ;`
-abs fabs absolute\t`abs` isn't there: write `if (a < 0) a = -a;`, or a function of the file
-min minimum\t`min` isn't there: write `if (b < a) a = b;`, or a function of the file
-max maximum\t`max` isn't there: write `if (b > a) a = b;`, or a function of the file
+abs fabs absolute\t`abs` isn't there (there are thirteen functions): write `if (a < 0) a = -a;`, or define it as a function of the file
+min minimum\t`min` isn't there (there are thirteen functions): write `if (b < a) a = b;`, or define it as a function of the file
+max maximum\t`max` isn't there (there are thirteen functions): write `if (b > a) a = b;`, or define it as a function of the file
 pow power\tthere are no powers: multiply, as `a * a`, or write a function of the file
 round floor ceil trunc parseint toint\tall values are whole numbers: leave it out, as a quotient is one
 atan2 hypot asin acos arctan arcsin arccos\tit isn't there: write it as a function of the file, by `atan(100000 * y / x)` or `sqrt(x * x + y * y)`

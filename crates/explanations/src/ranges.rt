@@ -53,7 +53,7 @@ pub fn warn_of_nobody(out: &mut Warnings, subject: &Subject<'_>, index: usize, n
     if shoots && less.most <= HURTING.saturating_add(1) || reads_before(subject, node, less) {
         return;
     }
-    if looks_for_wall(subject, index, node, less) {
+    if looks_for_wall(subject, index, node, less) || feels_for_wall(subject, index, node, less) {
         out.tell(less.token, WALL);
     } else if shoots || less.most > HURTING && drives_only(subject, index, node) {
         let begin = node.token.saturating_add(2);
@@ -203,6 +203,36 @@ fn looks_for_wall(subject: &Subject<'_>, index: usize, node: &Node, less: Less) 
             && is_course(tree, index, var)
             && is_looked_to(subject, node, less, var)
             && is_great(subject, at)
+        {
+            return true;
+        }
+    }
+    false
+}
+
+/// Reports whether the `if` of an index only sets a course to a number, by a look to one degree whose answer isn't kept.
+fn feels_for_wall(subject: &Subject<'_>, index: usize, node: &Node, less: Less) -> bool {
+    let tree = subject.tree;
+    let Some(look) = tree
+        .get(less.index)
+        .and_then(|asked| asked.second.checked_sub(1))
+    else {
+        return false;
+    };
+    let degree = tree.outermost(tree.first_of(look), look);
+    let branch = tree.within(node.second, node.third);
+    let wanted = [Intrinsic::Cannon, Intrinsic::Scan];
+    if less.var.is_some()
+        || subject.constants.get(degree).is_none()
+        || asks(subject, branch, &wanted)
+    {
+        return false;
+    }
+    for at in node.second..node.third {
+        if let Some(below) = tree.get(at)
+            && let Some(var) = set_by(below)
+            && is_course(tree, index, var)
+            && subject.constants.get(at).is_some()
         {
             return true;
         }

@@ -118,7 +118,7 @@ fn warn_of_lower(out: &mut Warnings, subject: &Subject<'_>, body: &Body, own: &U
         out.warn(
             token,
             Said::Named(
-                " is a variable of this function alone, and 0 at its beginning: that of the file is declared further down only, so move that above",
+                " is a variable of this function alone, and 0 at its beginning: that of the file is declared further down only, so move that above the function",
             ),
         );
     }

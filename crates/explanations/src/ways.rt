@@ -4,9 +4,10 @@
 use crate::chances::compared;
 use crate::courses::{is_course, statement_before};
 use crate::rows::driven;
+use crate::steps::{asks_for, body_at, degree_of};
 use crate::variables::set_by;
 use crate::warnings::{Subject, Warnings};
-use derivations::{Node, NodeKind};
+use derivations::{Body, Node, NodeKind};
 use grammar::{Callee, Intrinsic, Op, StoreOp, Var};
 
 /// The most nodes between two questions that are asked too soon after each other: each takes a cycle at least, and the field
@@ -69,6 +70,84 @@ pub fn warn_of_led(out: &mut Warnings, subject: &Subject<'_>, index: usize, node
             node.token,
             "this leads on to the wall that is near: x grows to the east and y to the north, and 0 is east, 90 north, 180 west and 270 south",
         );
+    }
+}
+
+/// Warns of the `if` of an index that sets a course by a coordinate, if no degree of the robot changes that one.
+pub fn warn_of_across(out: &mut Warnings, subject: &Subject<'_>, index: usize, node: &Node) {
+    let asked = compared(subject, node.second.saturating_sub(1));
+    let turn = match asked.and_then(|asked| place_asked(asked.value)) {
+        Some(Intrinsic::LocX) => 0,
+        Some(_) => 90,
+        None => return,
+    };
+    let mut sets_course = false;
+    for at in node.second..node.third {
+        if let Some(below) = subject.tree.get(at)
+            && let Some(var) = set_by(below)
+        {
+            sets_course = sets_course || is_course(subject.tree, index, var);
+        }
+    }
+    if sets_course && drives_across(subject, index, turn) {
+        out.tell(
+            node.token,
+            "no degree of this robot changes that coordinate: 0 is east and 180 west, along x; 90 is north and 270 south, along y",
+        );
+    }
+}
+
+/// Reports whether all that drives is in the function of an index, by variables that are set to numbers across a degree alone.
+fn drives_across(subject: &Subject<'_>, index: usize, turn: i32) -> bool {
+    let Some(body) = body_at(subject.tree, index) else {
+        return false;
+    };
+    let mut only = None;
+    for (at, node) in subject.tree.all().iter().enumerate() {
+        if asks_for(node, Intrinsic::Drive) {
+            let is_here = body.first <= at && at < body.end;
+            let Some(var @ Var::Local(number)) = degree_of(subject.tree, at, node) else {
+                return false;
+            };
+            let is_own = usize::from(number) >= body.parameters;
+            if !is_here || !is_own || only.is_some() && only != Some(var) {
+                return false;
+            }
+            only = Some(var);
+        }
+    }
+    match only {
+        Some(var) => is_across(subject, body, var, turn),
+        None => false,
+    }
+}
+
+/// Reports whether a function sets a variable to numbers across a degree alone, and at its beginning, if 0 isn't across it.
+fn is_across(subject: &Subject<'_>, body: &Body, var: Var, turn: i32) -> bool {
+    let mut is_begun = turn != 0;
+    for at in body.first..body.end {
+        if let Some(node) = subject.tree.get(at)
+            && set_by(node) == Some(var)
+        {
+            let is_set = matches!(node.kind, NodeKind::Store(_, StoreOp::Set));
+            let is_across = match subject.constants.get(at) {
+                Some(degree) => way_east(degree.saturating_sub(turn)) == 0,
+                None => false,
+            };
+            if !is_set || !is_across {
+                return false;
+            }
+            is_begun = is_begun || is_first(subject, at);
+        }
+    }
+    is_begun
+}
+
+/// Reports whether the assignment of an index is a statement that stands in no branch or loop.
+fn is_first(subject: &Subject<'_>, index: usize) -> bool {
+    match subject.tree.get(index.saturating_add(1)) {
+        Some(statement) => statement.kind == NodeKind::Evaluate && statement.above.is_none(),
+        None => false,
     }
 }
 
