@@ -10,9 +10,14 @@ function textOf(...words) {
     return JSON.stringify(words, (_, it) => plain(it));
 }
 
-/** What calls the engine in its worker, which has this address and takes this module, as the page carries it. */
+/** What calls the engine in its worker, which takes this module, as the page carries it. */
 export class Caller {
-    constructor(address, module) {
+    /**
+     * The worker has this address, or was started already.
+     * @param {{address: string, worker: Worker | null}} engine
+     * @param {string} module
+     */
+    constructor({address, worker}, module) {
         this.address = address;
         this.module = module;
         this.number = 0;
@@ -22,22 +27,31 @@ export class Caller {
          * @type {{asked: string, answer: Promise<any>} | null}
          */
         this.early = null;
-        this.start();
+        if (worker) {
+            this.take(worker);
+        } else {
+            this.start();
+        }
     }
 
     /** Starts a worker. One that ends by itself is started anew by the next call. */
     start() {
-        this.worker = new Worker(this.address);
-        this.worker.onmessage = ({data}) => this.take(data);
+        this.take(new Worker(this.address));
+        this.worker.postMessage({module: this.module});
+    }
+
+    /** Takes a worker, and what it answers. */
+    take(worker) {
+        this.worker = worker;
+        this.worker.onmessage = ({data}) => this.hear(data);
         this.worker.onerror = event => {
             event.preventDefault();
             this.end(event.message ? `${DIED} (${event.message})` : DIED);
         };
         this.worker.onmessageerror = () => this.end(DIED);
-        this.worker.postMessage({module: this.module});
     }
 
-    take({number, fault, result}) {
+    hear({number, fault, result}) {
         const {done, fail} = this.waiting.get(number);
         this.waiting.delete(number);
         if (fault === undefined) {

@@ -27,8 +27,12 @@ class Half extends Screen {
         return Math.max(LEAST_HEIGHT, left / (STACKED.matches ? 2 : 1));
     }
 
+    measure() {
+        this.inside.documentElement.classList.add("led");
+        super.measure();
+    }
+
     fit() {
-        this.inside?.documentElement.classList.add("led");
         super.fit();
         const over = this.frame.offsetHeight - this.room;
         if (this.player && over > 0) {

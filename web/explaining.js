@@ -2,19 +2,27 @@
 import {buttonOf} from "./asking.js";
 import {Ending} from "./limits.js";
 
-const WARNING = /^(\d+):\d+: warning: (.*)$/;
 const MOST_SHOWN = 20;
+
+// a row LINE:COLUMN: warning: TEXT; those that explain a fault begin with blanks
+const isWarning = row => !row.startsWith(" ") && row.split(": ")[1] === "warning";
+
+/** Returns the fault that the diagnostic of a robot names: {line, text}. */
+export function faultOf(diagnostic) {
+    const [, line, ...words] = diagnostic.trimEnd().split(":");
+    return {line: Number(line), text: words.join(":").trim()};
+}
 
 /** Returns the warnings of an explanation, each {line, text}. Those of a source with a fault stand before that. */
 export function warningsOf({ending, text}) {
-    const found = [Ending.DONE, Ending.FAULTY].includes(ending) ? text.split("\n").map(row => WARNING.exec(row)) : [];
-    return found.filter(Boolean).map(([, line, words]) => ({line: Number(line), text: words}));
+    const rows = [Ending.DONE, Ending.FAULTY].includes(ending) ? text.split("\n").filter(isWarning) : [];
+    return rows.map(row => row.split(": ")).map(([place, , ...words]) => ({line: parseInt(place, 10), text: words.join(": ")}));
 }
 
 /** Returns what explains a fault: the source's line with a mark, and what was met, what fits there, and a hint. */
 export function reasonOf({ending, text}) {
     const rows = ending === Ending.FAULTY ? text.trimEnd().split("\n") : [];
-    const lines = rows.filter(row => !WARNING.test(row)).slice(1);
+    const lines = rows.filter(row => !isWarning(row)).slice(1);
     const isMarked = line => line.startsWith("    ");
     return {marked: lines.filter(isMarked).map(line => line.slice(4)), said: lines.filter(line => !isMarked(line)).map(line => line.trim())};
 }

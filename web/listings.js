@@ -1,12 +1,30 @@
 // The listing of a robot's code beside its source: each instruction with its address and its line, and what turns of loops take.
 import {Ending} from "./limits.js";
 
-const INSTRUCTION = /^([ \d]{5}) (.*)$/;
+/**
+ * Reads what a robot's source has where, as the module lists it: the names of its externals and of its functions' variables, where
+ * functions begin, and of each instruction its line, its column, whether the line is entered at it, the number of its function, and
+ * the name in it.
+ */
+export function partsOf(places) {
+    const parts = {externals: [], functions: [], code: []};
+    const kinds = {
+        external: ([name]) => parts.externals.push(name),
+        function: ([begin, name]) => parts.functions.push({name, begin: Number(begin), variables: []}),
+        variable: ([of, name]) => parts.functions[of].variables.push(name),
+        code: ([line, column, entry, of, name]) =>
+            parts.code.push({line: Number(line), column: Number(column), isEntry: entry === "1", of: Number(of), name}),
+    };
+    for (const row of places.split("\n").slice(1, -1)) {
+        const [, , kind, ...values] = row.split("\t");
+        kinds[kind](values);
+    }
+    return parts;
+}
 
-/** Returns the lines of instructions by their addresses, of the places that the module lists. */
-export function linesOf(places) {
-    const [, ...rows] = places.trimEnd().split("\n");
-    return rows.map(row => Number(row.split("\t")[3]));
+/** Returns the instructions of a listing as it has them, by their addresses: its last rows, so many. */
+export function instructionsOf(listing, count) {
+    return count ? listing.trimEnd().split("\n").slice(-count).map((row, address) => row.trim().slice(`${address} `.length)) : [];
 }
 
 /** Returns what is known of the turns of loops, as the module reports it: {line, text} of each. */
@@ -31,11 +49,14 @@ export class Listing {
         box.addEventListener("keydown", event => this.press(event));
     }
 
-    /** Shows a listing, whose instructions come from these lines, and what turns of loops take, each before its loop. */
-    show(text, lines, turns) {
-        this.rows = text.trimEnd().split("\n").slice(1).map((row, at) => this.row(row, at, lines));
+    /** Shows a listing, whose instructions come from these places, and what turns of loops take, each before its loop. */
+    show(text, code, turns) {
+        const rows = text.trimEnd().split("\n").slice(1);
+        const headings = rows.slice(0, rows.length - code.length);
+        const instructions = instructionsOf(text, code.length).map((instruction, address) => ({address, instruction, line: code[address].line}));
+        this.rows = [...headings.map(row => ({instruction: row.trim()})), ...instructions].map((parts, at) => this.row(parts, at));
         turns.forEach((turn, at) => {
-            const row = this.row(turn.text, `turn-${at}`, lines);
+            const row = this.row({instruction: turn.text}, `turn-${at}`);
             row.dataset.line = turn.line;
             const begin = this.rows.findIndex(it => !it.matches(".heading") && it.dataset.line === turn.line);
             this.rows.splice(begin < 0 ? this.rows.length : begin, 0, row);
@@ -45,17 +66,17 @@ export class Listing {
         this.box.removeAttribute("aria-activedescendant");
     }
 
-    row(text, at, lines) {
+    /** Makes a row: of an instruction with its line and its address, or of a heading. */
+    row({line, address, instruction}, at) {
         const row = Object.assign(document.createElement("div"), {id: `row-${at}`, role: "option", ariaSelected: "false"});
-        const [, address, instruction] = INSTRUCTION.exec(text) ?? [null, "", text.trim()];
-        const line = lines[Number(address)] ?? "";
-        const parts = address ? {line, address, instruction} : {instruction};
+        const isHeading = address === undefined;
+        const parts = isHeading ? {instruction} : {line, address, instruction};
         row.append(...Object.entries(parts).map(([name, value]) =>
             Object.assign(document.createElement("span"), {className: name, textContent: value})));
-        row.classList.toggle("heading", !address);
-        if (address && line) {
+        row.classList.toggle("heading", isHeading);
+        if (!isHeading) {
             row.dataset.line = line;
-            row.ariaLabel = `line ${line}, address ${address.trim()}: ${instruction}`;
+            row.ariaLabel = `line ${line}, address ${address}: ${instruction}`;
         }
         return row;
     }

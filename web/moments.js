@@ -1,63 +1,31 @@
 // Moments: where a robot is after a cycle of a match, by the names and the lines of its source.
-import {linesOf} from "./listings.js";
-
-const FUNCTION = /^Function (\d+) (\S+) vars \d+ at (\d+)$/;
-const NAME = /^ {2}(\d+) (\S+)$/;
+import {instructionsOf, partsOf} from "./listings.js";
 
 /** A robot's code: its instructions with their lines, and the names of its externals and of its functions' variables. */
 export class Code {
-    /** `listing` is the code's, `places` the places of its instructions, both as the module writes them. */
+    /** `listing` is the code's, `places` what its source has where, both as the module writes them. */
     constructor(listing, places) {
-        this.lines = linesOf(places);
-        this.externals = [];
-        this.functions = [];
-        this.take(listing.trimEnd().split("\n").slice(1));
+        const {externals, functions, code} = partsOf(places);
+        this.externals = externals;
+        this.functions = functions;
+        this.code = code;
+        this.lines = code.map(({line}) => line);
+        this.instructions = instructionsOf(listing, code.length);
     }
 
-    take(rows) {
-        let names = this.externals;
-        const count = rows.findIndex(row => row.startsWith("Code "));
-        for (const row of rows.slice(0, count)) {
-            const heading = FUNCTION.exec(row), named = NAME.exec(row);
-            if (heading) {
-                names = [];
-                this.functions.push({name: heading[2], begin: Number(heading[3]), variables: names});
-            } else if (named) {
-                names.push(named[2]);
-            }
-        }
-        // behind its address, which has five columns
-        this.instructions = rows.slice(count + 1).map(row => row.slice(6));
-    }
-
-    /** The function of an address: of those that begin there or before, the last. */
+    /** The function of an address. */
     functionOf(address) {
-        return this.functions.filter(({begin}) => begin <= address).reduce((one, other) => other.begin > one.begin ? other : one);
+        return this.functions[this.code[address].of];
     }
 
     /** Returns the name in the instruction of an address, "" if it has none. */
     nameIn(address) {
-        const [, word, kind, number] = /^(FETCH|STORE|FCALL) ([EL]?)(\d+)/.exec(this.instructions[address]) ?? [];
-        if (word === "FCALL") {
-            return this.functions[number].name;
-        }
-        return word ? (kind === "E" ? this.externals : this.functionOf(address).variables)[number] : "";
+        return this.code[address].name;
     }
 
-    /**
-     * Returns the addresses at which one of some lines, or of all, begins to run: the first instruction of a line, and where a call
-     * or a jump leads into it from another line, or back within it.
-     */
+    /** Returns the addresses at which one of some lines, or of all, is entered. */
     entriesOf(lines = new Set(this.lines)) {
-        const {lines: lineOf} = this;
-        const jumps = this.instructions.map(it => /^BRANCH (\d+)$/.exec(it)?.[1]);
-        const begins = new Set(this.functions.map(({begin}) => begin));
-        jumps.forEach((to, from) => {
-            if (to !== undefined && (from >= to || lineOf[from] !== lineOf[to])) {
-                begins.add(Number(to));
-            }
-        });
-        return lineOf.flatMap((line, at) => lines.has(line) && (begins.has(at) || lineOf[at - 1] !== line) ? [at] : []);
+        return this.code.flatMap(({line, isEntry}, at) => isEntry && lines.has(line) ? [at] : []);
     }
 }
 

@@ -11,9 +11,10 @@ import {helpWriting} from "./helping.js";
 import {Histories} from "./histories.js";
 import {Keeping} from "./keeping.js";
 import {battleOf, isBattle, linkedMoment} from "./links.js";
+import {granted} from "./opening.js";
 import {Places} from "./places.js";
 import {Playing, tell} from "./playing.js";
-import {Screen, later} from "./replays.js";
+import {Screen, later, pictures} from "./replays.js";
 import {DatabaseShelf, Keeper, LocalShelf} from "./shelves.js";
 import {NEW_SOURCE, Store} from "./store.js";
 import {callOf, wishOf} from "./watching.js";
@@ -25,8 +26,9 @@ const MOST_BYTES = 24 * 1024 * 1024;
 const MOST_LOCAL_BYTES = 6 * 1024 * 1024;
 // what does nothing before the editor is there
 const FURNISHED = ["add", "name", "find", "new", "wanted-battle", "export"];
-// for so long the editor waits for the match that is shown
+// for so long the editor waits for the match that is shown, and for so many of its pictures
 const MILLISECONDS_FIRST = 1500;
+const FIRST_PICTURES = 4;
 
 let count = 0;
 
@@ -36,23 +38,10 @@ function newKey() {
     return `${Date.now().toString(36)}-${count}-${Math.random().toString(36).slice(2, 10)}`;
 }
 
-/**
- * Returns something of the browser, or null if it refuses it to this page.
- * @returns {any}
- */
-function granted(name) {
-    try {
-        return window[name] ?? null;
-    } catch {
-        return null;
-    }
-}
-
 /** What keeps versions and drafts in this browser. */
 async function keeperOf() {
-    const databases = granted("indexedDB");
-    const database = databases && await DatabaseShelf.open(databases);
-    return new Keeper({local: new LocalShelf(granted("localStorage")), database, tab: newKey()});
+    const opened = await globalThis.CROBOTS_DATABASE;
+    return new Keeper({local: new LocalShelf(granted("localStorage")), database: opened && new DatabaseShelf(opened), tab: newKey()});
 }
 
 /** Whether who comes is likely to see the first match: no link is followed, and nothing is kept that is found at once. */
@@ -189,27 +178,25 @@ class Page {
     }
 }
 
-/** The address of the worker's script. */
-const workerOf = ({worker}) => URL.createObjectURL(new Blob([worker], {type: "text/javascript"}));
-
 /** Shows the field alone, in a page that has no more. */
 export async function embed() {
     const data = globalThis.CROBOTS;
     byId("main").hidden = false;
-    await new Alone(new Caller(workerOf(data), data.module), data.robots).show();
+    await new Alone(new Caller(globalThis.CROBOTS_ENGINE, data.module), data.robots).show();
 }
 
 /** Makes the page of what it is built with: from a file nothing can be fetched, so all of it is a script. */
 export async function make() {
     const data = globalThis.CROBOTS;
-    const address = workerOf(data);
-    // the module is unpacked and compiled in its worker meanwhile
-    const newCaller = () => new Caller(address, data.module);
-    const runner = newCaller();
+    const engine = globalThis.CROBOTS_ENGINE;
+    const newCaller = () => new Caller({...engine, worker: null}, data.module);
+    const runner = new Caller(engine, data.module);
     const places = new Places({write: () => page.focusEditor(), watch: () => page.playing.focus()});
     const screen = new Screen(byId("film"), places);
     if (isLikelyFirst()) {
         runner.askAhead(...callOf(wishOf(firstBattle(data.robots, null), {number: FIRST_MATCH, cycle: 0})));
+        // what the browser does for the worker comes first
+        await later(0);
         screen.prepare();
     }
     const [battle, keeper] = await Promise.all([battleOf(location.hash), keeperOf()]);
@@ -221,8 +208,11 @@ export async function make() {
     const isFirst = page.keeping.begin(battle, data.robots);
     const shown = page.playing.begin(battle && (linkedMoment(location.hash, battle) ?? {number: battle.settings.first, cycle: 0}), isFirst);
     byId("source").value = page.store.robot.source;
-    // what is seen first comes first
-    await Promise.race([shown, later(MILLISECONDS_FIRST)]);
+    // what is seen first comes first: a match that moves
+    if (battle || isFirst) {
+        await Promise.race([shown.then(() => pictures(FIRST_PICTURES)), later(MILLISECONDS_FIRST)]);
+    }
+    places.reveal();
     page.furnish(await makeEditor(byId("source"), data.editor), newCaller);
     await shown;
 }

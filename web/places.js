@@ -16,7 +16,7 @@ export class Places {
             });
         }
         // what stays in sight while one steps stands below the bar
-        new ResizeObserver(() => document.documentElement.style.setProperty("--bar", `${byId("bar").offsetHeight}px`)).observe(byId("bar"));
+        new ResizeObserver(([{borderBoxSize: [{blockSize}]}]) => byId("replay").style.setProperty("--bar", `${blockSize}px`)).observe(byId("bar"));
         WIDE.addEventListener("change", () => this.go(this.shown));
         this.go("write");
     }
@@ -26,8 +26,16 @@ export class Places {
         return WIDE.matches;
     }
 
+    /** Shows what the first match had to come before. */
+    reveal() {
+        byId("main").classList.remove("early");
+    }
+
     /** Shows a place. */
     go(name) {
+        if (name !== "watch" && this.shown) {
+            this.reveal();
+        }
         this.shown = name;
         byId("main").dataset.place = name;
         NAMES.forEach(it => byId(`to-${it}`).setAttribute("aria-pressed", String(it === name)));

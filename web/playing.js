@@ -6,7 +6,8 @@ import {Ending, Limits} from "./limits.js";
 import {Filming} from "./filming.js";
 import {Inside} from "./insides.js";
 import {Screen} from "./replays.js";
-import {Report, totalsOf} from "./reports.js";
+import {Report} from "./reports.js";
+import {totalsOf} from "./results.js";
 import {Series, ended} from "./series.js";
 import {Watcher, Wish, wishOf} from "./watching.js";
 

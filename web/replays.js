@@ -10,10 +10,7 @@ const BELOW_ALONE = 44;
 // with less height the controls stand beside the field, if there is so much width
 const LOW = 380;
 const LEAST_WIDTH_OF_LOW = 520;
-// a frame that doesn't load in so many milliseconds is made anew, with more time for the next one, and at last given up
-const PATIENCE = [4000, 8000, 16000];
-const LOOK_EVERY = 20;
-const LOST = "The film's page doesn't load in this browser. Press Watch once more, or load the page anew.";
+const REFUSED = "The film's page doesn't run in this browser.";
 
 /** Returns the names of robots as in a sentence. */
 function listed(names) {
@@ -23,9 +20,19 @@ function listed(names) {
 /** Waits so long. */
 export const later = milliseconds => new Promise(done => setTimeout(done, milliseconds));
 
+/** Waits until the browser draws a picture of this number from now on. */
+export async function pictures(count) {
+    for (let left = count; left > 0; left -= 1) {
+        await new Promise(requestAnimationFrame);
+    }
+}
+
 /** The frame in which a film is shown, as high as what it shows; that fits into the window, beside what stands above it. */
 export class Screen {
-    /** `places` says whether the window is wide. The field is alone if nothing else of the match is to be shown. */
+    /**
+     * The first film's frame takes the place of an element, since frames that show nothing yet take time as the page begins. `places` says
+     * whether the window is wide. The field is alone if nothing else of the match is to be shown.
+     */
     constructor(frame, places, isAlone = false) {
         this.frame = frame;
         this.places = places;
@@ -36,13 +43,8 @@ export class Screen {
          * @type {(() => void) | null}
          */
         this.onShow = null;
-        // the frame in which the page that plays is loaded or was loaded last
-        this.loading = null;
-        /**
-         * The page that plays, where it was loaded before there was a film.
-         * @type {Promise<void> | null}
-         */
-        this.prepared = null;
+        // whether the page that plays is there, and waits for a film
+        this.isPrepared = false;
         window.addEventListener("resize", () => this.fit());
     }
 
@@ -55,54 +57,42 @@ export class Screen {
         return this.frame.hidden ? undefined : this.frame.contentWindow?.player;
     }
 
-    /** Loads the page that plays, into a frame of its own: one that is in use may be about to load something else. */
-    async load() {
-        for (const most of PATIENCE) {
-            const frame = /** @type {HTMLIFrameElement} */ (this.frame.cloneNode());
-            frame.srcdoc = globalThis.CROBOTS.player;
-            frame.hidden = false;
-            this.frame.replaceWith(frame);
-            this.frame = this.loading = frame;
-            for (const begun = performance.now(); performance.now() - begun < most;) {
-                if (this.loading !== frame) {
-                    return;
-                }
-                if (frame.contentWindow?.showFilm && frame.contentDocument.readyState === "complete") {
-                    return;
-                }
-                await later(LOOK_EVERY);
-            }
-        }
-        throw new Error(LOST);
-    }
-
-    /** Loads the page that plays, for the next film, if it isn't loaded for that already. */
+    /** Makes the page that plays, in a frame of its own, for the next film. It is written and not loaded, so that it is there at once. */
     prepare() {
-        this.prepared ??= this.load();
-        this.prepared.catch(() => {
-            // who shows a film is told
-        });
+        if (this.isPrepared) {
+            return;
+        }
+        const {id, title, inert} = this.frame;
+        const frame = Object.assign(document.createElement("iframe"), {id, title, inert, allow: "fullscreen"});
+        this.frame.replaceWith(frame);
+        this.frame = frame;
+        const {contentDocument} = frame;
+        contentDocument.open();
+        contentDocument.write(globalThis.CROBOTS.player);
+        contentDocument.close();
+        this.isPrepared = true;
     }
 
-    /** There is no film for the page that was loaded. */
+    /** There is no film for the page that was made. */
     leave() {
-        this.prepared = this.loading = null;
+        this.isPrepared = false;
         this.frame.hidden = !this.frame.contentWindow?.player;
     }
 
     /** Shows a film of the match with this number, from a place on. */
     async show(film, number, place) {
-        const {prepared} = this;
-        this.prepared = null;
-        await (prepared ?? this.load());
-        if (!this.frame.contentWindow?.showFilm) {
-            // another film has come before this one
-            return;
+        this.prepare();
+        this.isPrepared = false;
+        const {contentWindow} = this.frame;
+        if (!contentWindow.showFilm) {
+            throw new Error(REFUSED);
         }
-        this.frame.contentWindow.showFilm(film, `Match ${number}: ${listed(film.robots.map(({name}) => name))}`, place);
+        // its first picture has the size that it keeps
+        this.measure();
+        contentWindow.showFilm(film, `Match ${number}: ${listed(film.robots.map(({name}) => name))}`, place);
         this.onShow?.();
         this.fit();
-        new this.frame.contentWindow.ResizeObserver(() => this.resize()).observe(this.inside.body);
+        new contentWindow.ResizeObserver(() => this.resize()).observe(this.inside.body);
     }
 
     /** What the film's height may be: it fits into the window with what stands above it. */
@@ -115,9 +105,17 @@ export class Screen {
         return Math.max(LEAST_HEIGHT, innerHeight * LEAST_PART, innerHeight - above);
     }
 
-    /** Hands the window's height in: the frame's own is that of what it shows. */
+    /** Follows the size of the window. */
     fit() {
-        if (this.player && this.frame.offsetWidth) {
+        if (this.player) {
+            this.measure();
+            this.resize();
+        }
+    }
+
+    /** Hands the window's height in: the frame's own is that of what it shows. */
+    measure() {
+        if (this.frame.offsetWidth) {
             const {style, classList} = this.inside.documentElement;
             const {room} = this;
             // no scroll bar comes and goes, which would change the width and so the height
@@ -126,12 +124,11 @@ export class Screen {
             classList.toggle("low", room < LOW && this.frame.offsetWidth >= LEAST_WIDTH_OF_LOW);
             classList.toggle("mini", this.isBeside);
             classList.toggle("alone", this.isAlone);
-            this.resize();
         }
     }
 
     resize() {
-        if (this.inside) {
+        if (this.player && this.frame.offsetWidth) {
             this.frame.style.height = `${this.inside.documentElement.offsetHeight + 2}px`;
         }
     }

@@ -1,16 +1,10 @@
 // The report of a battle: its text, in which the head of each match is a button that leads to its film.
 
 import {Limits} from "./limits.js";
+import {matchesOf} from "./results.js";
 
-const HEAD = /^Match (\d+): cycles = \d+$/gm;
 // of a very long report the first matches are buttons
 const MOST_BUTTONS = 5000;
-
-/** Returns the totals at the end of a report, "" if it has none. */
-export function totalsOf(text) {
-    const at = text.lastIndexOf("\nTotals: ");
-    return at < 0 ? "" : text.slice(at + 1);
-}
 
 /** Says how many matches can be pressed, and how the others are watched. */
 function leftOut(count, left) {
@@ -34,26 +28,20 @@ export class Report {
     }
 
     show(text) {
-        const parts = [];
-        let end = 0;
-        for (const found of text.matchAll(HEAD)) {
-            if (parts.length >= 2 * MOST_BUTTONS || Number(found[1]) > Limits.first) {
-                break;
-            }
-            parts.push(text.slice(end, found.index), this.head(found[0], found[1]));
-            end = found.index + found[0].length;
-        }
-        this.box.replaceChildren(...parts.filter(it => it !== ""), text.slice(end));
+        const all = matchesOf(text);
+        const matches = all.slice(0, MOST_BUTTONS).filter(({number}) => number <= Limits.first);
+        const parts = matches.flatMap(({begin, end, number}, at) =>
+            [text.slice(matches[at - 1]?.end ?? 0, begin), this.head(text.slice(begin, end), number)]);
+        this.box.replaceChildren(...parts.filter(it => it !== ""), text.slice(matches.at(-1)?.end ?? 0));
         this.heads = parts.filter(it => typeof it !== "string");
-        this.tellLeft(text.slice(end));
+        this.tellLeft(all.length - matches.length);
         if (this.heads.length) {
             this.heads[0].tabIndex = 0;
         }
     }
 
-    /** Says how many matches of the text's rest are no buttons. */
-    tellLeft(rest) {
-        const left = rest.match(HEAD)?.length ?? 0;
+    /** Says how many matches are no buttons. */
+    tellLeft(left) {
         const line = document.getElementById("report-left");
         line.hidden = left === 0;
         line.textContent = left ? leftOut(this.heads.length, left) : "";

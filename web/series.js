@@ -5,12 +5,12 @@
 // are the end of a piece that begins there, whose other matches were played before.
 import {Ending, Limits} from "./limits.js";
 import {STOPPED} from "./calling.js";
+import {countsOf} from "./results.js";
 
 // a series of at most this number of matches is one piece, and its report is the engine's as it stands
 const ONE_PIECE = 10;
 const MOST_OF_A_PIECE = 500;
 const MILLISECONDS_OF_A_PIECE = 250;
-const TOTAL = /^ {2}(\d+)\) won (\d+) tied (\d+) lost (\d+) (.*)$/;
 // how much of the matches' reports is kept
 const MOST_LETTERS = 4000000;
 
@@ -24,15 +24,14 @@ class Totals {
     /** Adds those of a piece with this number of matches; or takes them away, as those of matches that count already. */
     add(matches, text, sign = 1) {
         this.matches += sign * matches;
-        text.trimEnd().split("\n").slice(1).forEach((line, at) => {
-            const [, number, won, tied, lost, name] = TOTAL.exec(line);
-            const row = this.rows[at] ??= {number, counts: [0, 0, 0], name};
-            [won, tied, lost].forEach((count, kind) => { row.counts[kind] += sign * Number(count); });
+        countsOf(text).forEach(({counts, name}, at) => {
+            const row = this.rows[at] ??= {counts: [0, 0, 0], name};
+            counts.forEach((count, kind) => { row.counts[kind] += sign * count; });
         });
     }
 
     toString() {
-        const rows = this.rows.map(({number, counts: [won, tied, lost], name}) => `  ${number}) won ${won} tied ${tied} lost ${lost} ${name}\n`);
+        const rows = this.rows.map(({counts: [won, tied, lost], name}, at) => `  ${at + 1}) won ${won} tied ${tied} lost ${lost} ${name}\n`);
         return this.matches ? `Totals: ${this.matches} matches\n${rows.join("")}` : "";
     }
 }

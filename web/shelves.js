@@ -1,5 +1,6 @@
 // Where the browser keeps versions and drafts: IndexedDB has room for the versions, and localStorage keeps a draft at once. Each takes
 // what the other one refuses.
+import {TABLE} from "./opening.js";
 import {bytesOf, versionOf} from "./versions.js";
 
 /**
@@ -15,9 +16,6 @@ const DRAFT = "crobots-draft-";
 const FORMER_BATTLE = "crobots-battle-";
 const FORMER = "crobots";
 const PROBE = "crobots-probe";
-// a browser that doesn't open its database in this time has none
-const MILLISECONDS_TO_OPEN = 1500;
-const TABLE = "records";
 
 /** A storage of texts: what is put there is kept when the call returns, and it throws what it doesn't take. */
 export class LocalShelf {
@@ -67,18 +65,6 @@ function recordOf(key, text) {
 
 /** A database of the browser: it answers when something is kept, or fails. */
 export class DatabaseShelf {
-    /** Opens the database; answers null if the browser has none for this page. */
-    static open(databases, name = "crobots") {
-        const opened = new Promise((done, fail) => {
-            const asked = databases.open(name, 1);
-            asked.onupgradeneeded = () => asked.result.createObjectStore(TABLE);
-            asked.onsuccess = () => done(new DatabaseShelf(asked.result));
-            asked.onerror = asked.onblocked = () => fail(asked.error);
-        });
-        const late = new Promise(done => setTimeout(done, MILLISECONDS_TO_OPEN, null));
-        return Promise.race([opened, late]).catch(() => null);
-    }
-
     constructor(database) {
         this.database = database;
     }
@@ -157,24 +143,25 @@ export class Keeper {
     /** Reads all that is kept: versions, and drafts with their places. */
     async load() {
         const found = new Map();
-        let taking = 0;
-        for (const name of ["local", "database"]) {
-            taking += await this.probe(name) ? 1 : 0;
-            for (const [key, record] of await this.readAll(name)) {
+        const names = ["local", "database"];
+        // all is asked for at once
+        const taking = Promise.all(names.map(name => this.probe(name)));
+        for (const records of await Promise.all(names.map(name => this.readAll(name)))) {
+            for (const [key, record] of records) {
                 if (!(found.get(key)?.time > record.time)) {
                     found.set(key, record);
                 }
             }
         }
-        this.isRefused = taking === 0;
+        this.isRefused = !(await taking).includes(true);
         return sorted(found);
     }
 
     /** Whether a shelf takes something. */
     async probe(name) {
         try {
-            await this[name].put(PROBE, {});
-            await this[name].remove(PROBE);
+            const shelf = this[name];
+            await Promise.all([shelf.put(PROBE, {}), shelf.remove(PROBE)]);
             return true;
         } catch {
             return false;

@@ -1,5 +1,6 @@
 // Starts the page, if the browser has what it needs and the files are those that were built: it knows their SHA-256.
 import {hashOf} from "./hashes.js";
+import {openedDatabase} from "./opening.js";
 
 // put in when the page is built; the data have the module, as it is packed, and what unpacks it
 const HASHES = {data: "$data", page: "$page"};
@@ -37,35 +38,78 @@ function lacking() {
     return Object.keys(has).filter(name => !has[name]);
 }
 
+/** What a script left here. */
+const left = {data: () => globalThis.CROBOTS, page: () => globalThis.CROBOTS_PAGE};
 /** The text of what a script left here, with the ends of lines as they were built. */
-const textOf = {
-    data: () => JSON.stringify(globalThis.CROBOTS),
-    page: () => String(globalThis.CROBOTS_PAGE).replaceAll("\r\n", "\n"),
-};
+const textOf = {data: data => JSON.stringify(data), page: page => String(page).replaceAll("\r\n", "\n")};
 
-/** Throws if a file isn't what was built. */
-async function checkFile(name, isThere) {
-    if (!isThere) {
+/** Waits until something happens to one of these. */
+const happened = (kinds, ...targets) => new Promise(done => targets.forEach(it => kinds.forEach(kind => it.addEventListener(kind, done))));
+
+/** Waits until a script has run, or can't: each runs as soon as it is there. That one was refused before is known once all are. */
+async function scriptOf(name) {
+    if (!left[name]() && document.readyState !== "complete") {
+        await happened(["load", "error"], window, document.querySelector(`script[src="${name}.js"]`));
+    }
+    return left[name]();
+}
+
+/** Waits until all of the page's text is there. */
+async function parsed() {
+    if (document.readyState === "loading") {
+        await happened(["DOMContentLoaded"], document);
+    }
+}
+
+/** Waits for a file; throws if it isn't what was built. */
+async function checkFile(name) {
+    const found = await scriptOf(name);
+    if (!found) {
         throw new Error(`The page is not whole: its file ${name}.js is missing, cut off or damaged. ${AGAIN}`);
     }
-    if (await hashOf(new TextEncoder().encode(textOf[name]())) !== HASHES[name]) {
+    if (await hashOf(new TextEncoder().encode(textOf[name](found))) !== HASHES[name]) {
         throw new Error(`The page is damaged: its file ${name}.js isn't the one that was built. ${AGAIN}`);
     }
 }
 
+/**
+ * Starts the engine in its worker, which unpacks and compiles the module while the page is made. One that fails now is started by the page
+ * once more.
+ */
+function startEngine() {
+    const address = URL.createObjectURL(new Blob([globalThis.CROBOTS.worker], {type: "text/javascript"}));
+    const worker = typeof Worker === "function" ? new Worker(address) : null;
+    const engine = globalThis.CROBOTS_ENGINE = {address, worker};
+    if (worker) {
+        worker.onerror = () => { engine.worker = null; };
+        worker.postMessage({module: globalThis.CROBOTS.module});
+    }
+}
+
 async function start() {
+    // the field alone keeps nothing
+    const isAlone = document.documentElement.classList.contains("alone");
+    if (!isAlone) {
+        globalThis.CROBOTS_DATABASE = openedDatabase();
+    }
+    await checkFile("data");
+    startEngine();
     const lacks = lacking();
+    await Promise.all([parsed(), checkFile("page")]);
     if (lacks.length) {
         const [needs] = document.getElementById("lacking").textContent.split(" If your browser");
         lack(`${needs} This browser lacks ${lacks.join(", ")}.`);
         return;
     }
-    await Promise.all([checkFile("data", globalThis.CROBOTS), checkFile("page", globalThis.CROBOTS_PAGE)]);
     // the page needs it too
     globalThis.CROBOTS_HASH = hashOf;
     document.getElementById("lacking").hidden = true;
     const {embed, make} = globalThis.CROBOTS_PAGE();
-    await (document.body.classList.contains("alone") ? embed : make)();
+    await (isAlone ? embed : make)();
 }
 
-start().catch(fault => lack(fault.message));
+start().catch(async fault => {
+    globalThis.CROBOTS_ENGINE?.worker?.terminate();
+    await parsed();
+    lack(fault.message);
+});

@@ -1,5 +1,6 @@
 // Matches of pairs that are played for their results alone: in slices, so that one sees how far they are and can end them.
 import {DEADLY, Ending} from "./limits.js";
+import {matchesOf} from "./results.js";
 import {CHALLENGER, keyOf, seatingsOf} from "./seatings.js";
 
 /** What a match is worth. */
@@ -8,7 +9,6 @@ export const MOST_MATCHES = 10000;
 const MILLISECONDS_OF_A_SLICE = 80;
 const FIRST_SLICE = 5;
 const MOST_OF_A_SLICE = 500;
-const MATCH = /^Match (\d+): cycles = (\d+)\n {2}1\) \w+ +damage +(\d+)% 1\n {2}2\) \w+ +damage +(\d+)% 2$/gm;
 
 /** @typedef {{number: number, cycles: number, did: "won" | "tied" | "lost"}} Played */
 
@@ -25,10 +25,8 @@ function didOf(mine, other) {
  * @returns {Played[]}
  */
 export function playedOf(report, isFirst) {
-    return [...report.matchAll(MATCH)].map(([, number, cycles, ...damages]) => {
-        const [first, second] = damages.map(Number);
-        return {number: Number(number), cycles: Number(cycles), did: isFirst ? didOf(first, second) : didOf(second, first)};
-    });
+    return matchesOf(report).map(({number, cycles, damages: [first, second]}) =>
+        ({number, cycles, did: isFirst ? didOf(first, second) : didOf(second, first)}));
 }
 
 /** Returns robots without those whose source is among some others, or comes twice. */

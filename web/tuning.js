@@ -3,6 +3,8 @@
 // The proved module says where constants stand: its listing has them, and of each instruction the place in the source. Between a
 // constant and the next token are blanks and comments alone. Places count bytes, so a source is looked at as its bytes.
 
+import {instructionsOf, partsOf} from "./listings.js";
+
 /**
  * @typedef {{line: number, column: number}} Place
  * @typedef {{low: number, high: number, step: number | null, name: string}} Range
@@ -71,9 +73,10 @@ class Bytes {
  */
 export function constantsOf(source, listing, places) {
     const bytes = new Bytes(source);
-    const pushed = new Set([...listing.matchAll(/^ *(\d+) CONST /gm)].map(([, address]) => address));
-    const rows = places.trimEnd().split("\n").slice(1).map(row => row.split("\t")).filter(([address]) => pushed.has(address));
-    return rows.map(([, , , line, column]) => ({line: Number(line), column: Number(column)})).filter(place => Number.isFinite(bytes.endOf(place)));
+    const {code} = partsOf(places);
+    const instructions = instructionsOf(listing, code.length);
+    const pushed = code.filter((_, address) => instructions[address].startsWith("CONST "));
+    return pushed.map(({line, column}) => ({line, column})).filter(place => Number.isFinite(bytes.endOf(place)));
 }
 
 /** Whether a comment is meant as a mark: it begins with 'tune' and a number, before which there may be a sign or dots. */

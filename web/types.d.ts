@@ -9,6 +9,8 @@ declare var CROBOTS: {
 };
 type Start = () => Promise<void>;
 declare var CROBOTS_PAGE: () => {make: Start, embed: Start};
+declare var CROBOTS_ENGINE: {address: string, worker: Worker | null};
+declare var CROBOTS_DATABASE: Promise<IDBDatabase | null>;
 declare var CROBOTS_HASH: (bytes: Uint8Array) => Promise<string>;
 declare var player: any;
 declare var showFilm: (film: any, heading: string, options: any) => void;

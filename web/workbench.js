@@ -2,13 +2,12 @@
 import {adviceOf} from "./advice.js";
 import {byId} from "./dom.js";
 import {Ending} from "./limits.js";
-import {showExplanation, warningsOf} from "./explaining.js";
-import {Listing, linesOf, turnsOf} from "./listings.js";
+import {faultOf, showExplanation, warningsOf} from "./explaining.js";
+import {Listing, partsOf, turnsOf} from "./listings.js";
 import {freeName, nameInWork} from "./names.js";
 import {NEW_SOURCE} from "./store.js";
 
 const COMPILE_AFTER = 250;
-const DIAGNOSTIC = /^robot:(\d+): (.*)\n$/;
 
 /** Waits for an answer of the engine; what a call failed by stands in place of the faults. */
 async function answered(call) {
@@ -157,7 +156,7 @@ export class Workbench {
             const fault = this.take(key, listed);
             this.editor.mark(fault?.line ?? null, fault ? `${fault.text}. ${adviceOf(fault.text)}` : "");
             this.editor.warn(warningsOf(explained).filter(({line}) => line !== fault?.line));
-            this.listing.show(listed.text, linesOf(places.text), turnsOf(turns));
+            this.listing.show(listed.text, partsOf(places.text).code, turnsOf(turns));
             this.listing.mark(this.editor.line);
             this.onCompile?.(source, listed.ending === Ending.DONE ? {listing: listed.text, places: places.text} : null);
             this.showDiagnostic(fault, listed);
@@ -185,8 +184,7 @@ export class Workbench {
 
     /** Takes note of a robot's fault, in its tab too. Returns it, or null if there is none. */
     take(key, {ending, faults}) {
-        const found = ending === Ending.FAULTY ? DIAGNOSTIC.exec(faults) : null;
-        const fault = found && {line: Number(found[1]), text: found[2]};
+        const fault = ending === Ending.FAULTY ? faultOf(faults) : null;
         this.faults.set(key, fault);
         const at = this.store.robots.findIndex(it => it.key === key);
         byId(`tab-${at}`)?.classList.toggle("faulty", fault !== null);

@@ -75,8 +75,8 @@ SCRIPTS = (
     Script("crobots-league", "league", ("tools", "leagues", "ladder", "tournaments", "results", "sites", "replays"), "crobots"),
     Script("crobots-replay", "replay", ("tools", "replays"), "crobots-trace"),
     Script("crobots-step", "step", ("tools", "stepping"), "crobots-debug"),
-    Script("crobots-lsp", "lsp", ("tools", "editing", "stepping"), "crobots-know"),
-    Script("crobots-dap", "dap", ("tools", "editing", "stepping"), "crobots-debug"),
+    Script("crobots-lsp", "lsp", ("tools", "editing", "stepping", "tournaments", "results"), "crobots-know"),
+    Script("crobots-dap", "dap", ("tools", "editing", "stepping", "tournaments", "results"), "crobots-debug"),
     Script("crobots-tune", "tune", ("tools", "tuning", "tournaments", "leagues", "results", "sites", "replays"), "crobots"),
 )
 COMMANDS: tuple[Command, ...] = (*PROGRAMS, *SCRIPTS)

@@ -4,7 +4,7 @@ import argparse
 from typing import NoReturn
 
 from tools.faults import Fault
-from tools.rules import MOST_MATCHES, MOST_ROBOTS
+from tools.rules import FIRST_DEFAULT, MOST_FIRST, MOST_ROBOTS, SEED_DEFAULT
 from tournaments.words import Parser, of_match, settle, within
 
 
@@ -23,8 +23,8 @@ def parser(name: str) -> Parser:
     parser.add_argument("--old", metavar="OLD", required=True, help="the older version")
     parser.add_argument("--json", action="store_true", help="print the answer as JSON")
     parser.add_argument("--robot", metavar="N", type=within(1, MOST_ROBOTS), default=1, help="number of the newer version among the files (default 1)")
-    parser.add_argument("-k", "-f", dest="match", metavar="MATCH", type=within(1, MOST_MATCHES), default=1, help="number of the match (default 1)")
-    of_match(parser, "most cycles of the match", "seed of the random numbers (default 1)")
+    parser.add_argument("-k", "-f", dest="match", metavar="MATCH", type=within(1, MOST_FIRST), default=FIRST_DEFAULT, help=f"number of the match (default {FIRST_DEFAULT})")
+    of_match(parser, "most cycles of the match", f"seed of the random numbers (default {SEED_DEFAULT})")
     parser.add_argument("files", metavar="FILE", nargs="+", help="the robots of the match, the newer version among them")
     return parser
 

@@ -48,7 +48,6 @@ class Launch:
     files: list[str] = field(default_factory=list)
     options: list[str] = field(default_factory=list)
     watched: int = 1
-    profile: int = 1
     from_cycle: int = 0
     stops_on_entry: bool = True
 
@@ -455,7 +454,7 @@ def read_launch(given: Fields) -> Launch:
         real(file)
     options = [f"{letter}{given.number(name)}" for name, letter in {"match": "-k", "cycles": "-l", "seed": "-s", "profile": "-p"}.items()
                if given.has(name)]
-    return Launch(files, options, given.number_or("watch", 1), given.number_or("profile", 1), given.number_or("from", 0),
+    return Launch(files, options, given.number_or("watch", 1), given.number_or("from", 0),
                   given.truth("stopOnEntry", True))
 
 

@@ -2,15 +2,17 @@
 
 import os
 import pathlib
-import re
 import subprocess
 import tempfile
+from collections import Counter
 from dataclasses import dataclass, field
 from typing import Callable
 
+from results.battles import DID, match
 from tools.faults import Fault
 from tools.programs import found
 from tools.samples import ladder
+from tournaments.reports import results
 
 from .documents import name_of
 from .loops import Loop
@@ -21,8 +23,6 @@ GAME, REPLAYER = "crobots", "crobots-replay"
 MATCHES = 10
 # The most bytes of a file's name.
 MOST_NAME = 255
-MATCH = re.compile(r"^Match (\d+): cycles = (\d+)\n  1\) (alive|dead)  ?damage +(\d+)%", re.MULTILINE)
-TOTALS = re.compile(r"^  1\) won (\d+) tied (\d+) lost (\d+)", re.MULTILINE)
 Show = Callable[[str, str | None], None]
 
 
@@ -72,17 +72,18 @@ class Play:
         return []
 
     def take(self) -> None:
-        """Takes what a program wrote."""
+        """Takes what a program wrote: the reports and totals of all matches, and of the page nothing."""
         if not self.left:
             return
-        opponent = self.left.pop(0)
-        text = self.output.decode(errors="replace")
-        for number, cycles, state, damage in MATCH.findall(text):
-            is_alive = state == "alive"
-            self.matches.append(Match(is_alive, -int(damage) if is_alive else int(cycles), opponent, int(number)))
-        if totals := TOTALS.search(text):
-            won, tied, lost = totals.groups()
-            self.rows.append(f"{os.path.basename(opponent):12} won {won:>2} tied {tied:>2} lost {lost:>2}")
+        opponent, did = self.left.pop(0), Counter[str]()
+        said = results(self.output, 2, 1, MATCHES)
+        if said is None:
+            raise Fault(f"{GAME} wrote no reports and totals")
+        for number, ended in enumerate(map(match, said.split(",")), 1):
+            how, damage = ended.results[0], ended.damage[0]
+            did[how] += 1
+            self.matches.append(Match(how != "l", ended.cycles if how == "l" else -damage, opponent, number))
+        self.rows.append(f"{os.path.basename(opponent):12} {' '.join(f'{word} {did[how]:>2}' for how, word in DID.items())}")
 
 
 def file_name(name: str) -> str:
@@ -138,7 +139,12 @@ class Plays:
             self._plays.remove(play)
             self._show(play.output.decode(errors="replace").replace(play.file, os.path.basename(play.file)).strip(), None)
             return
-        play.take()
+        try:
+            play.take()
+        except Fault as why:
+            self._plays.remove(play)
+            self._show(str(why), None)
+            return
         try:
             self._next(play)
         except (Fault, OSError) as why:
@@ -155,7 +161,7 @@ class Plays:
         self._plays.remove(play)
         self._kept.append(play)
         if play.command == PLAY or not play.matches:
-            self._show("\n".join(play.rows) or f"{GAME} wrote no match", None)
+            self._show("\n".join(play.rows) or "there is no sample", None)
             return
         worst = min(play.matches)
         told = f"match {worst.number} against {os.path.basename(worst.opponent)}"

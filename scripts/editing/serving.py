@@ -5,6 +5,7 @@ from typing import Any, Callable
 
 from tools.faults import Fault
 from tools.programs import found, number
+from tools.rules import MOST_PROFILE, PROFILE_DEFAULT
 
 from . import colours, completing, mending, telling
 from .documents import UTF_8, UTF_16, Text, name_of
@@ -49,7 +50,7 @@ class Document:
     uri: str
     text: Text
     version: int | None
-    profile: int = 1
+    profile: int = PROFILE_DEFAULT
     known: Known | None = None
     knower: Knower | None = None
     asked: list[Asked] = field(default_factory=list)
@@ -63,7 +64,7 @@ class Document:
 class Settings:
     """What the client has set, and can do."""
 
-    profile: int = 1
+    profile: int = PROFILE_DEFAULT
     has_hints: bool = False
     encoding: str = UTF_16
     has_snippets: bool = False
@@ -74,7 +75,8 @@ class Settings:
         if isinstance(given, dict):
             ours = given.get("crobots", given)
             fields = Fields(ours if isinstance(ours, dict) else {}, "settings")
-            self.profile = 2 if fields.number_or("profile", self.profile) == 2 else 1
+            profile = fields.number_or("profile", self.profile)
+            self.profile = profile if 1 <= profile <= MOST_PROFILE else PROFILE_DEFAULT
             self.has_hints = fields.truth("inlayHints", self.has_hints)
 
 

@@ -4,6 +4,8 @@ from dataclasses import dataclass
 from random import Random
 from typing import Callable
 
+from tools.rules import MOST_NAMES
+
 from .programs import Programs
 
 STILL = "main(){ while (1); }\n"
@@ -56,7 +58,7 @@ def life(random: Random) -> Task:
 
 def names(random: Random) -> Task:
     """How many names a robot may have."""
-    outside, inside = random.randrange(1, 65), random.randrange(61, 69)
+    outside, inside = random.randrange(1, MOST_NAMES + 1), random.randrange(MOST_NAMES - 3, MOST_NAMES + 5)
     outer, inner = ", ".join(f"e{n}" for n in range(outside)), "".join(f"v{n};\n" for n in range(inside))
     robot = f"int {outer};\nmain() {{\n{inner}}}\n"
     return Task("Write down what `crobots -c robot.r` prints of this robot: only the lines that begin with Externals and with Function,\n"

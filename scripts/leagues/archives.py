@@ -12,9 +12,10 @@ from typing import Iterable, Iterator, NamedTuple, Sequence
 
 from results.standings import Standing
 from tools.faults import FAULTY, FILE, Fault, reading, writing
+from tools.rules import MOST_SOURCE_BYTES
 
 from . import older, tables
-from .entries import SOURCE_MAX, hashed
+from .entries import hashed
 from .schema import LATER, SCHEMA
 from .store import Store, filled, told
 
@@ -154,7 +155,7 @@ def load(store: Store, archive: zipfile.ZipFile, tables: Iterable[str]) -> None:
     """Reads all members of an archive."""
     for member in archive.infolist():
         if member.filename.startswith(SOURCES):
-            source = archive.read(member) if member.file_size <= SOURCE_MAX else b""
+            source = archive.read(member) if member.file_size <= MOST_SOURCE_BYTES else b""
             if member.filename != f"{SOURCES}{hashed(source)}.r":
                 raise Fault(f"{shown(member.filename)} has other bytes than its name says", FAULTY)
             store.run("INSERT INTO source VALUES (?, ?)", hashed(source), source)

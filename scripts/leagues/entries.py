@@ -7,13 +7,13 @@ import stat
 from dataclasses import dataclass
 
 from tools.faults import FILE, Fault, reading
+from tools.rules import MOST_SOURCE_BYTES
 from tournaments import seats
 
 from .store import Store
 
 ID = re.compile(r"[A-Za-z0-9][A-Za-z0-9_.-]{0,39}")
 AUTHOR_MAX = 80
-SOURCE_MAX = 1 << 20
 ADD, CHANGE, WITHDRAW = "add", "change", "withdraw"
 # What may be corrected: an entry, and the days on which a season began and ended.
 ENTRY, BEGIN, END = "entry", "begin", "end"
@@ -96,9 +96,9 @@ def bytes_of(path: str, more: int = 0) -> bytes:
     with open(os.open(path, os.O_RDONLY | os.O_NONBLOCK | os.O_CLOEXEC | more), "rb") as file:
         if not stat.S_ISREG(os.fstat(file.fileno()).st_mode):
             raise Fault("is no file", FILE)
-        found = file.read(SOURCE_MAX + 1)
-    if len(found) > SOURCE_MAX:
-        raise Fault(f"has more than {SOURCE_MAX} bytes")
+        found = file.read(MOST_SOURCE_BYTES + 1)
+    if len(found) > MOST_SOURCE_BYTES:
+        raise Fault(f"has more than {MOST_SOURCE_BYTES} bytes")
     return found
 
 

@@ -8,7 +8,7 @@ from urllib.parse import urlsplit
 
 from sites.addresses import page as address
 from tools.faults import Fault
-from tools.rules import MOST_MATCHES
+from tools.rules import MOST_MATCHES, SEED_DEFAULT
 from tournaments.words import Parser, decimals, fitting, of_match, within
 
 from .days import day
@@ -59,7 +59,7 @@ def of_rules(parser: argparse._ActionsContainer) -> None:
     one("--mode", metavar="MODE", type=mode, help=f"who plays whom: {MODES} (default pairs)")
     one("-m", dest="matches", metavar="MATCHES", type=within(1, MOST_MATCHES),
         help="matches of each group (default 100)")
-    of_match(rules, seed="seed (default 1; each season has the next one)")
+    of_match(rules, seed=f"seed (default {SEED_DEFAULT}; each season has the next one)")
     one("--points", metavar="WIN,TIE", type=points, help="what a win and a tie count (default 3,1)")
     one("--sample", metavar="N", type=within(0, 10_000_000),
         help="play only N groups, drawn by their robots; 0 for all (default 0)")

@@ -7,6 +7,7 @@ from typing import Sequence
 
 from results.scores import Score
 from results.standings import Rating
+from tools.rules import DEADLY
 
 from .facts import Stay
 from .markup import Markup, joined, tag
@@ -80,9 +81,9 @@ def parts(score: Score, width: int = 120, height: int = 12, label: str | None = 
 
 @functools.cache
 def damage(percent: int) -> Markup:
-    """A damage as a bar."""
-    track = tag("rect", x=0, y=0, width=100, height=8, rx=4, class_="track")
-    return svg(100, 8, track, tag("rect", x=0, y=0, width=min(percent, 100), height=8, rx=4, class_="damage"))
+    """A damage as a bar, which is full if the robot is dead."""
+    track = tag("rect", x=0, y=0, width=DEADLY, height=8, rx=4, class_="track")
+    return svg(DEADLY, 8, track, tag("rect", x=0, y=0, width=min(percent, DEADLY), height=8, rx=4, class_="damage"))
 
 
 def moments(days: Sequence[str]) -> list[float]:

@@ -104,7 +104,7 @@ const site = (() => {
 
     function damageBar(percents) {
         const bar = (width, kind) => drawn("rect", {x: 0, y: 0, width, height: 8, rx: 4, class: kind});
-        return chart(100, 8, "", "", bar(100, "track"), bar(Math.min(percents, 100), "damage"));
+        return chart(DEAD, 8, "", "", bar(DEAD, "track"), bar(Math.min(percents, DEAD), "damage"));
     }
 
     function table(caption, columns, rows, kind = "") {

@@ -3,12 +3,14 @@
 import re
 from dataclasses import dataclass
 
+from tools.rules import MOST_CONSTANT
+
 from .moments import Moment
 from .pipes import Refused
 
 # What may happen to a robot, by the words of `crobots-debug`.
 HAPPENINGS = ("hurt", "hit", "restart")
-LEAST, MOST = -(2**31), 2**31 - 1
+LEAST, MOST = -MOST_CONSTANT - 1, MOST_CONSTANT
 Range = tuple[int, int]
 CONDITION = re.compile(r"reply *(==|!=|<=|>=|<|>) *(-?\w+)")
 FORM = "the form is FUNCTION if reply > 0, with ==, !=, <, <=, > or >=, and && between two"

@@ -178,7 +178,7 @@ class Parser(argparse.ArgumentParser):
         show([self.format_help()])
 
 
-def of_match(parser: argparse._ActionsContainer, cycles: str = "cycles of a match", seed: str = "seed (default 1)") -> None:
+def of_match(parser: argparse._ActionsContainer, cycles: str = "cycles of a match", seed: str = f"seed (default {SEED_DEFAULT})") -> None:
     """The words on which a match depends beside its robots, with what is said of two of them."""
     for name, word, limits, said in (("cycles", "CYCLES", (1, MOST_CYCLES), f"{cycles} (default {DEFAULTS['cycles']})"), ("seed", "SEED", (0, MOST_SEED), seed),
                                      ("profile", "PROFILE", (1, MOST_PROFILE), PROFILE_HELP)):

@@ -52,7 +52,7 @@ def prepared(given: argparse.Namespace, folder: str, kept: Journal, program: pro
     robots.compiled(program, given.profile, [robot, *(opponent.robot for opponent in others)], folder)
     place = os.path.join(folder, robot.sha256)
     source = Path(place).read_bytes()
-    seen = tokens(place, given.robot, source, given.profile, given.stages)
+    seen = tokens(place, given.robot, source, given.profile, given.know)
     found = numbers(source, seen, given.robot, given.number)
     itself = Itself(robot.sha256, but_numbers(source, found))
     others = met(given, others, itself, folder)

@@ -5,21 +5,23 @@ a mark is looked for: `/* tune 100..900 */`, which may go on with `step 50` and 
 nearly a mark is refused, since it was hardly meant as anything else."""
 
 import itertools
+import json
 import re
+from bisect import bisect_right
 from dataclasses import dataclass
-from typing import Iterator, NamedTuple, Sequence
+from typing import Any, Iterator, NamedTuple, Sequence
 
 from tools import programs
 from tools.faults import FAULTY, FILE, Fault, plain
+from tools.rules import MOST_CONSTANT, MOST_NAME_BYTES
 
-STAGES = "crobots-stages"
-# What a constant of the language can be.
-MOST = 2**31 - 1
+KNOW = "crobots-know"
 # So many values a sweep has at most if no step is given.
 VALUES = 20
 # How many constants are listed where none is meant.
 TOLD = 8
-NAME = re.compile(r"[A-Za-z_][A-Za-z0-9_]{0,30}")
+# A number is called as a variable could be.
+NAME = re.compile(rf"[A-Za-z_][A-Za-z0-9_]{{0,{MOST_NAME_BYTES - 1}}}")
 BOUNDS = re.compile(r"([0-9]{1,10})\.\.([0-9]{1,10})")
 # What a mark begins with, and how a comment begins that may be meant as one: a word, and numbers that are perhaps a range.
 WORD, EXAMPLE = "tune", "/* tune 100..900 */"
@@ -93,25 +95,36 @@ def coarse(width: int, many: int) -> int:
 
 def tokens(path: str, shown: str, source: bytes, profile: int, program: str | None = None) -> list[Token]:
     """The tokens of a source that compiles, as the proved lexer finds them in a copy of it."""
-    begins = [0]
-    for part in source.split(b"\n"):
-        begins.append(begins[-1] + len(part) + 1)
-    found: list[Token] = []
 
     def judge(status: int, said: list[str]) -> None:
         if status:
-            why = said[-1].strip() if said else f"it ended with status {status}"
-            raise Fault(f"{STAGES} shows no tokens of {shown}: {why}", FAULTY if status == 1 else FILE)
+            why = said[-1].strip().removeprefix(f"{path}: ") if said else f"it ended with status {status}"
+            raise Fault(f"{KNOW} tells no tokens of {shown}: {why}", FAULTY if status == 1 else FILE)
 
-    with programs.lines(programs.found(STAGES, program), ["--tokens", f"-p{profile}", "--", path], judge) as lines:
-        for text in lines:
-            line, column, kind, *rest = text.split()
-            begin = begins[int(line) - 1] + int(column) - 1
-            word = " ".join(rest).encode("ascii")
-            if source[begin:begin + len(word)] != word:
-                raise Fault(f"{STAGES} shows other tokens than {shown} has", FILE)
-            found.append(Token(Place(int(line), int(column)), kind, begin, begin + len(word)))
+    with programs.lines(programs.found(KNOW, program), [f"-p{profile}", "--", path], judge) as lines:
+        told = [*lines]
+    return placed(source, told_tokens(told, shown), shown)
+
+
+def told_tokens(told: Sequence[str], shown: str) -> list[list[Any]]:
+    """The tokens of the rows of `crobots-know`: of each its kind, its start and its end."""
+    try:
+        rows = [*map(json.loads, told)]
+        if fault := next((row for row in rows if row["row"] == "fault"), None):
+            raise Fault(f"{plain(shown)}:{fault['line']}: {fault['message']}", FAULTY)
+        found: list[list[Any]] = next(row["tokens"] for row in rows if row["row"] == "tokens")
+    except (ValueError, TypeError, KeyError, StopIteration) as why:
+        raise Fault(f"{KNOW} tells no tokens of {shown}", FILE) from why
     return found
+
+
+def placed(source: bytes, found: Sequence[Sequence[Any]], shown: str) -> list[Token]:
+    """Tokens with their lines and columns. Constants have to be where the source has digits."""
+    begins = [0, *(at.end() for at in re.finditer(b"\n", source))]
+    if not all(source[begin:end].isdigit() for kind, begin, end in found if kind == "constant"):
+        raise Fault(f"{KNOW} tells other tokens than {shown} has", FILE)
+    lines = [bisect_right(begins, begin) for _, begin, _ in found]
+    return [Token(Place(line, begin - begins[line - 1] + 1), kind, begin, end) for line, (kind, begin, end) in zip(lines, found)]
 
 
 def numbers(source: bytes, found: Sequence[Token], shown: str, given: Sequence[tuple[Place, Range]] = ()) -> list[Number]:
@@ -146,9 +159,9 @@ def constants(source: bytes, found: Sequence[Token], line: int | None = None) ->
 
 def marked(source: bytes, found: Sequence[Token], shown: str) -> Iterator[tuple[Token, str, str]]:
     """Each constant with a mark behind it, the mark's text, and where that stands."""
-    begins = [*found, None]
+    begins, end = [*found, None], len(source.partition(END)[0])
     for token, after in zip([None, *found], begins):
-        for number, (at, text) in enumerate(comments(source, token.end if token else 0, after.begin if after else len(source))):
+        for number, (at, text) in enumerate(comments(source, token.end if token else 0, after.begin if after else end)):
             where = f"{plain(shown)}:{place_of(source, at)}"
             is_behind = token is not None and token.kind == "constant" and number == 0
             if is_behind and is_nearly_mark(text):
@@ -161,8 +174,7 @@ def marked(source: bytes, found: Sequence[Token], shown: str) -> Iterator[tuple[
 
 def comments(source: bytes, begin: int, end: int) -> Iterator[tuple[int, str]]:
     """The comments between two tokens: where each begins, and its words with a blank between them."""
-    while (at := source.find(b"/*", begin, end)) >= 0:
-        close = source.find(b"*/", at + 2, end)
+    while (at := source.find(b"/*", begin, end)) >= 0 and (close := source.find(b"*/", at + 2, end)) >= 0:
         yield at, " ".join(source[at + 2:close].decode("ascii", "replace").split())
         begin = close + 2
 
@@ -210,8 +222,8 @@ def ranged(bounds: str, step: str | None, where: str, name: str | None = None) -
     if not found:
         raise Fault(f"{where}: '{bounds}' is no range as 100..900")
     low, high = map(int, found.groups())
-    if not low < high <= MOST:
-        raise Fault(f"{where}: {bounds} has to rise, up to {MOST} at most")
+    if not low < high <= MOST_CONSTANT:
+        raise Fault(f"{where}: {bounds} has to rise, up to {MOST_CONSTANT} at most")
     if step is None:
         return Range(low, high, None, name or "")
     if not step.isascii() or not step.isdigit() or not 1 <= int(step[:11]) <= high - low:

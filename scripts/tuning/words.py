@@ -8,7 +8,7 @@ from tools.faults import Fault
 from tournaments.words import Parser, common, fitting, settle, within
 
 from . import outputs
-from .marks import STAGES, Place, Range, ranged
+from .marks import KNOW, Place, Range, ranged
 from .opponents import BEST, NOBODY, League, Level
 
 BUDGET, ROUND = 100_000, 160
@@ -70,7 +70,7 @@ def parser(name: str) -> Parser:
     parser.add_argument("--plan", metavar="FOLDER", help="with --sweep: put the variants into this folder, print the command lines, and play nothing")
     parser.add_forms(csv="comma-separated values", json="JSON")
     parser.add_argument("-o", dest="output", metavar="FILE", help="write the tuned robot into this file; with --sweep a picture, as SVG")
-    parser.add_argument("--stages", metavar="PROGRAM", help=f"the program that finds numbers (default: {STAGES} on the path, or the one installed or built with this script)")
+    parser.add_argument("--know", metavar="PROGRAM", help=f"the program that finds numbers (default: {KNOW} on the path, or the one installed or built with this script)")
     parser.add_argument("robot", metavar="ROBOT", help="the robot; a comment as /* tune 100..900 */ behind a number marks it")
     parser.add_argument("field", metavar="OPPONENT", nargs="*", help="robots to play against, and folders with robots")
     return parser

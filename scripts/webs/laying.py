@@ -63,8 +63,9 @@ def index(manual: Page) -> str:
 
 
 def scripts() -> dict[str, str]:
-    """The page's scripts, as they are written: what waits until it is called, what starts it, the player's and the worker's."""
-    return {"page": f"globalThis.CROBOTS_PAGE={waiting_script(os.path.join(WEB, 'page.js'))};\n", "start": script_of(os.path.join(WEB, "start.js")),
+    """The page's scripts, as they are written: what waits until it is called, what starts it, the player's and the worker's. A function in
+    brackets is compiled by browsers before it is called, beside the page's thread."""
+    return {"page": f"globalThis.CROBOTS_PAGE=({waiting_script(os.path.join(WEB, 'page.js'))});\n", "start": script_of(os.path.join(WEB, "start.js")),
             "player": framed_script(), "worker": script_of(os.path.join(WEB, "worker.js"))}
 
 
@@ -81,7 +82,7 @@ def data_of(module: bytes, manual: Page) -> dict[str, object]:
 
 def start_script(data: dict[str, object], page: str) -> str:
     """The script that starts the page, with the SHA-256 of what it looks at: the data as JSON, and the function's text."""
-    function = page.strip().removeprefix("globalThis.CROBOTS_PAGE=").removesuffix(";")
+    function = page.strip().removeprefix("globalThis.CROBOTS_PAGE=(").removesuffix(");")
     parts = {"data": json.dumps(data, ensure_ascii=False, separators=(",", ":")).encode(), "page": function.encode()}
     text = scripts()["start"]
     for name, part in parts.items():

@@ -3,12 +3,14 @@
 from __future__ import annotations
 
 import argparse
+import json
 import random
 import re
-from itertools import product
+from itertools import islice, product
 
 from tools.faults import Fault
-from tuning.marks import Number, Place, Range, Token, bare, but_numbers, changed, coarse, constants, numbers, place_of
+from tuning.marks import (Number, Place, Range, Token, bare, but_numbers, changed, coarse, comments, constants, numbers, place_of, placed,
+                          told_tokens)
 from tuning.words import numbered
 
 # A source, and what its numbers are: place, value, low, high, step, name.
@@ -87,6 +89,38 @@ class Marks:
                 wrong.append(f"{text!r}: {numbers(text.encode(), read(text.encode()), 'r')}")
             except Fault as why:
                 wrong += [] if (str(why), why.status) == (said, 2) else [f"{text!r}: {why}"]
+        return wrong
+
+    def nothing_is_behind_the_end(self) -> list[str]:
+        """A source ends at a byte; what stands behind that has no marks, and a comment that isn't closed there is none."""
+        source = b"main(){1 /* tune 0..9 */;}"
+        wrong = []
+        for rest in (b"", b" /* tune 0..8 */", b" 2 /* tune 0..8 name a */", b" /* tune 0..8"):
+            try:
+                got = f"{[*map(listed, numbers(source + chr(26).encode() + rest, read(source)[:-1], 'r'))]}"
+            except Fault as why:
+                got = str(why)
+            wrong += [] if got == f"{[('1:8', 1, 0, 9, None, '1:8')]}" else [f"{rest!r}: {got}"]
+        several = [*islice(comments(b"/* a */ b /* c", 0, 14), 5)]
+        return wrong + ([] if several == [(0, "a")] else [f"{several}"])
+
+    def what_is_told_of_a_source(self) -> list[str]:
+        """Rows with tokens, by hand: lines and columns are those of bytes, and end in a line feed alone."""
+        source = b"main(){\n/* \xc3\xa4 */ f(40);\r\n\r 7;}"
+        told = [["name", 0, 4], ["constant", 19, 21], ["constant", 27, 28], ["punctuator", 29, 30]]
+        rows = [json.dumps({"row": "word", "name": "if", "is": "keyword"}), json.dumps({"row": "tokens", "tokens": told}), '{"row": "complete"}']
+        got = placed(source, told_tokens(rows, "r"), "r")
+        wanted = [Token(Place(1, 1), "name", 0, 4), Token(Place(2, 12), "constant", 19, 21), Token(Place(3, 3), "constant", 27, 28),
+                  Token(Place(3, 5), "punctuator", 29, 30)]
+        wrong = [] if got == wanted else [f"{got}"]
+        fault = json.dumps({"row": "fault", "line": 3, "message": "syntax error"})
+        for told_, said, status in (([*rows, fault], "r:3: syntax error", 1), (rows[:1], "crobots-know tells no tokens of r", 3),
+                                    (["no row"], "crobots-know tells no tokens of r", 3), (["7"], "crobots-know tells no tokens of r", 3),
+                                    ([json.dumps({"row": "tokens", "tokens": [["constant", 0, 4]]})], "crobots-know tells other tokens than r has", 3)):
+            try:
+                wrong.append(f"{told_}: {placed(source, told_tokens(told_, 'r'), 'r')}")
+            except Fault as why:
+                wrong += [] if (str(why), why.status) == (said, status) else [f"{told_}: {why}"]
         return wrong
 
     def ends_of_a_range(self) -> list[str]:

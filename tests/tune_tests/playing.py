@@ -92,8 +92,8 @@ def named(robot: str, *files: str) -> str:
 class Playing:
     """Each method whose name does not begin with _ is a test: it answers what is wrong."""
 
-    def __init__(self, stages: str, crobots: str) -> None:
-        self._programs = ["--stages", stages, "--crobots", crobots]
+    def __init__(self, know: str, crobots: str) -> None:
+        self._programs = ["--know", know, "--crobots", crobots]
         self._crobots = crobots
         self._kept = tempfile.TemporaryDirectory()
         self._folder = Path(self._kept.name)
@@ -131,6 +131,12 @@ class Playing:
         wrong += [] if held >= 7 else [f"{held} of 11 intervals hold"]
         verdicts = [row["verdict"] for row in rows]
         return wrong if verdicts == ["better"] * 4 + ["today's"] + ["worse"] * 6 else [*wrong, f"{verdicts}"]
+
+    def a_source_of_60000_bytes(self) -> list[str]:
+        """Tokens are asked for of as long a source as an editor shows."""
+        (self._folder / "long.r").write_text(DRAWS.replace("main", "/* long */\n" * 5_454 + "main"), encoding="ascii")
+        rows = self._rows("-m2", "long.r", "still.r")
+        return [] if [row["lost"] for row in rows] == [f"{value}" for value in range(0, 1001, 100)] else [f"{rows}"]
 
     def a_row_is_what_challenge_says(self) -> list[str]:
         """With the same words: another program of this repository works the change out."""

@@ -445,7 +445,7 @@ def tests(crobots: str, stages: str, folder: str) -> Tests:
     yield from seeing.tests(crobots)
     yield from inside.tests()
     yield from helping.tests(crobots, folder)
-    yield from worths.tests(crobots, stages, folder)
+    yield from worths.tests(crobots, folder)
     yield from robust.tests(folder)
     yield from everyone.tests()
     yield from paths.tests("Chromium", folder)
@@ -459,7 +459,7 @@ def others(name: str, crobots: str, stages: str, folder: str) -> Tests:
     yield from embeds.tests(folder)
     yield from reels.tests()
     yield from inside.tests()
-    yield from worths.few(crobots, stages, folder)
+    yield from worths.few(crobots, folder)
     yield from paths.tests(name, folder)
 
 

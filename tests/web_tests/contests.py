@@ -287,14 +287,14 @@ SWEEPS = (
 )
 
 
-def sweeps(crobots: str, stages: str, folder: str) -> list[str]:
+def sweeps(crobots: str, folder: str) -> list[str]:
     """The points, changes, intervals and verdicts of a sweep are those of crobots-tune."""
     wrong, jobs, wanted = [], [], []
     for name, (before, after), against, numbers in SWEEPS:
         words, settings, each = rules_of(numbers)
         opponents = [{"name": it, "source": robot(it)} for it in against]
         files = {"marked.r": robot(name).replace(before, after, 1), **{it["name"]: it["source"] for it in opponents}}
-        wanted.append(answered("tune", ["--sweep", "--crobots", crobots, "--stages", stages, *words, "marked.r", *against], files))
+        wanted.append(answered("tune", ["--sweep", "--crobots", crobots, *words, "marked.r", *against], files))
         jobs.append(("sweep", (settings, files["marked.r"], opponents, each)))
     for got, right in zip(answers(jobs, f"{folder}.wasm"), wanted):
         facts = [[(it["value"], it["matches"], it["verdict"]) for it in got["rows"]], [(it["values"][0], it["matches"], it["verdict"]) for it in right["sweep"]]]
@@ -338,5 +338,5 @@ def results(crobots: str, stages: str, folder: str) -> Iterator[tuple[str, list[
     yield "values", values()
     yield "where films part", partings()
     yield "a change as crobots-challenge has it", contests(crobots, folder)
-    yield "a sweep as crobots-tune has it", sweeps(crobots, stages, folder)
+    yield "a sweep as crobots-tune has it", sweeps(crobots, folder)
     yield "constants as crobots-stages has them", placed(stages, folder)

@@ -36,9 +36,24 @@ LISTENING = """if (top === window) { const add = EventTarget.prototype.addEventL
         .map(it => it.id || (it.labels?.[0] ?? it).textContent.trim());
     document.addEventListener('DOMContentLoaded', () => new MutationObserver(() => { window.firstIdle ??= window.idle(); })
         .observe(document.getElementById('main'), {attributeFilter: ['hidden']})); }"""
+# notes what happens in which order until the editor comes: that the engine's worker is started, the database opened, the page made, the film's
+# frame made, the match drawn at two cycles, the editor asked for, the rest of the page shown; and how many frames there are then
+ORDER = """if (top === window) { const order = window.order = [], note = it => order.includes(it) || order.push(it);
+    const Plain = Worker; window.Worker = class extends Plain { constructor(...words) { super(...words); note('worker'); } };
+    const {open} = IDBFactory.prototype; IDBFactory.prototype.open = function (...words) { note('database'); return open.apply(this, words); };
+    let hash; Object.defineProperty(window, 'CROBOTS_HASH', {get: () => hash, set(it) { hash = it; note('page'); }});
+    const make = Document.prototype.createElement;
+    Document.prototype.createElement = function (tag) { if (tag === 'iframe') note('frame'); return make.call(this, tag); };
+    const append = Element.prototype.append;
+    Element.prototype.append = function (...parts) { if (parts[0]?.src?.endsWith('/codemirror.js')) note('editor'); append.apply(this, parts); };
+    const look = () => { const player = document.getElementById('film')?.contentWindow?.player;
+        if (player?.isPlaying && player.cycle > player.match.first) { note('moves'); window.frameCount = frames.length; } else requestAnimationFrame(look); };
+    document.addEventListener('DOMContentLoaded', () => { look(); new MutationObserver(() => document.getElementById('left').offsetWidth && note('rest'))
+        .observe(document.getElementById('main'), {attributeFilter: ['class']}); }); }"""
+IN_ORDER = ["database", "worker", "page", "frame", "moves", "editor", "rest"]
 # the most milliseconds until then, by hand, on a processor that is slowed down four times; and the most that the page's thread
 # takes of one that isn't. Of some openings the fastest counts
-MOST, SLOWDOWN, MOST_BUSY, OPENINGS = 1000, 4, 400, 5
+MOST, SLOWDOWN, MOST_BUSY, OPENINGS = 1000, 4, 250, 5
 # what is read when a button is pressed: how many matches 'Play both' plays, as tests/web_tests/worths.py has it
 READ_LATER = ["Matches against each"]
 MOVER = ("mover.r", b"main() { while (1) drive(90, 50); }")
@@ -196,6 +211,26 @@ def soon(page: Page) -> list[str]:
     return [] if right else [f"the first match moves after {shown} ms, and the thread is busy for {busy:.0f} ms"]
 
 
+def in_order(page: Page) -> list[str]:
+    """What takes longest begins first, and what isn't seen at first comes after the match moves: the page isn't laid out beside it, there is
+    no frame but the film's, and in that neither the legend nor the chart out of sight is drawn."""
+    page.size(1366, 768)
+    page.forget()
+    page.driver.get("about:blank")
+    with page.before(ORDER):
+        page.driver.get(page.address)
+        page.wait("return window.order?.includes('editor')")
+    order, frames = page.js("return [order, frameCount]")
+    drawn = page.inside("return [...it.querySelectorAll('canvas')].map(one => one.width !== 300 || one.height !== 150)")
+    page.inside("it.getElementById('more').open = true")
+    page.inside("it.getElementById('damage').scrollIntoView()")
+    page.settle()
+    then = page.inside("return [...it.querySelectorAll('canvas')].map(one => one.width !== 300 || one.height !== 150)")
+    page.whole_window()
+    right = order == IN_ORDER and frames == 1 and drawn == [True] + [False] * 7 and then == [True] * 8
+    return [] if right else [f"{order}, {frames} frames, drawn {drawn}, then {then}"]
+
+
 def moved(page: Page) -> tuple[float, float]:
     """After how many milliseconds a match moves in a browser that kept nothing, and for how many the page's thread was busy until then."""
     page.forget()
@@ -243,7 +278,7 @@ SHOWN: dict[str, Callable[[Page], list[str]]] = {
     "in sight": in_sight, "drawers": drawers, "places": places, "a robot that beats it": beat, "at once": at_once, "by a link": by_link, "a link that is faulty": faulty_link,
     "coming back": back, "its robots": samples_are_there,
 }
-DRIVEN: dict[str, Callable[[Page], list[str]]] = {"no motion": calm, "before the editor": before_the_editor, "no press is lost": heard, "soon": soon}
+DRIVEN: dict[str, Callable[[Page], list[str]]] = {"no motion": calm, "in order": in_order, "before the editor": before_the_editor, "no press is lost": heard, "soon": soon}
 
 
 def tests(is_chromium: bool = False) -> Tests:

@@ -24,7 +24,7 @@ HERE = os.path.dirname(os.path.abspath(__file__))
 WEB = os.path.join(HERE, "..", "..", "web")
 STILL = ("still.r", b"main(){}")
 MOST_SEED = 2**64 - 1
-MOST_BYTES = 400_000
+MOST_BYTES = 430_000
 CALLS = 1000
 # Of a larger source crobots-stages shows nothing.
 MOST_SHOWN = 40_960
@@ -231,11 +231,17 @@ def lines_of_restarts(folder: str) -> list[str]:
     return [] if rows == wanted else [f"{rows}"]
 
 
+def parts_of(answer: Answer, kind: str) -> list[list[str]]:
+    """The rows of a kind of an answer to `places`, each from its number on, without the robot's."""
+    rows = [line.split("\t") for line in answer[1].decode().splitlines()[1:]]
+    return [[number, *values] for number, _, found, *values in rows if found == kind]
+
+
 def placed(answer: Answer) -> list[tuple[int, int]]:
     """The lines and columns of an answer to `places`, by the addresses."""
-    rows = [line.split("\t") for line in answer[1].decode().splitlines()[1:]]
+    rows = parts_of(answer, "code")
     assert [int(row[0]) for row in rows] == [*range(len(rows))]
-    return [(int(row[3]), int(row[4])) for row in rows]
+    return [(int(row[1]), int(row[2])) for row in rows]
 
 
 def token_at(source: bytes, line: int, column: int) -> str:
@@ -264,24 +270,40 @@ def comes_from(instruction: str, token: str) -> bool:
     return token in {"RETSUB": ("return", "}"), "CHOP": (";", *STEPS), "TRUTH": ("&&", "||"), "NOP": ("",)}[word]
 
 
-def lines_of_code(stages: str, name: str, source: bytes, profile: int) -> list[int]:
-    """The line of each instruction as the program stages has it."""
+def code_of(stages: str, name: str, source: bytes, profile: int) -> dict[str, Any]:
+    """The code of a source as the program stages has it."""
     with tempfile.TemporaryDirectory() as folder:
         path = os.path.join(folder, name)
         with open(path, "wb") as file:
             file.write(source)
-        code = subprocess.run([stages, "--code", f"-p{profile}", path], capture_output=True, check=True, timeout=PATIENCE).stdout
-    line, lines = 0, {}
-    for row in code.decode().splitlines():
-        if begin := re.match(r" *(\d+) \|", row):
-            line = int(begin[1])
-        elif made := re.match(r" {8} *(\d+) [A-Z]", row):
-            lines[int(made[1])] = line
-    return [lines[address] for address in range(len(lines))]
+        told = subprocess.run([stages, "--code", "--json", f"-p{profile}", path], capture_output=True, check=True, timeout=PATIENCE).stdout
+    found: dict[str, Any] = json.loads(told)
+    return found
+
+
+def wrong_parts(answer: Answer, wanted: dict[str, Any]) -> list[str]:
+    """Whether an answer to `places` has the names, functions and lines that stages has, and where lines are entered."""
+    functions, code = wanted["functions"], wanted["code"]
+    begins = {function["begin"] for function in functions}
+    entered = {row["address"] for row in code if row["address"] in begins or row["address"] == 0 or
+               code[row["address"] - 1]["line"] != row["line"]}
+    for row in code:
+        word, _, to = row["instruction"].partition(" ")
+        if word == "BRANCH" and (int(to) <= row["address"] or code[int(to)]["line"] != row["line"]):
+            entered.add(int(to))
+    kinds = {
+        "external": [[str(number), name] for number, name in enumerate(wanted["externals"])],
+        "function": [[str(number), str(function["begin"]), function["name"]] for number, function in enumerate(functions)],
+        "variable": [[str(number), str(of), name] for of, function in enumerate(functions) for number, name in enumerate(function["variables"])],
+        "code": [[str(row["address"]), str(row["line"]), str(int(row["address"] in entered)), str(row["function"]), row["name"] or ""]
+                 for row in code],
+    }
+    got = {kind: [row[:2] + row[3:] if kind == "code" else row for row in parts_of(answer, kind)] for kind in kinds}
+    return [f"{kind}: {got[kind]}, not {rows}" for kind, rows in kinds.items() if got[kind] != rows]
 
 
 def places(crobots: str, stages: str, folder: str) -> list[str]:
-    """Each instruction comes from a token that makes it, and from the line that stages names."""
+    """Each instruction comes from a token that makes it, and from the line that stages names; names and functions are those of stages."""
     robots = samples() + [it for battle in random_battles(60, 11) for it in battle.robots]
     sources = [(robot, profile) for robot in robots for profile in (1, 2)] + [(("deep.r", deepest()), 2)]
     sources += [(it.robots[0], it.settings.profile) for it in hostile_battles() if it.told(crobots)[0] == 0]
@@ -295,8 +317,8 @@ def places(crobots: str, stages: str, folder: str) -> list[str]:
         for (line, column), instruction in zip(where, code):
             token = token_at(source, line, column)
             wrong += [] if comes_from(instruction, token) else [f"{name}:{line}:{column}: {instruction} from {token}"]
-        if len(source) <= MOST_SHOWN and [line for line, _ in where] != lines_of_code(stages, name, source, profile):
-            wrong.append(f"{name}, profile {profile}: lines other than those of stages")
+        if len(source) <= MOST_SHOWN:
+            wrong += [f"{name}, profile {profile}: {it}" for it in wrong_parts(answered[at], code_of(stages, name, source, profile))]
     return wrong
 
 

@@ -19,12 +19,11 @@ BOXES = """scrollTo(0, 0); const film = document.getElementById('film'), top = f
     const inside = id => { const it = film.contentDocument.getElementById(id).getBoundingClientRect(); return [top + it.top, top + it.bottom]; };
     const run = document.getElementById('run').getBoundingClientRect();
     return {field: inside('field'), play: inside('play-pause'), run: [run.top, run.bottom], height: [0, innerHeight]}"""
-# the first frame that is filled isn't
-LAZY = """const known = Object.getOwnPropertyDescriptor(HTMLIFrameElement.prototype, 'srcdoc'); let times = 0;
-    Object.defineProperty(HTMLIFrameElement.prototype, 'srcdoc', {get: known.get, set(text) { times += 1; if (times > 1) known.set.call(this, text); }})"""
-# a frame is never filled, and the page's time passes so quickly that it soon gives up
-NEVER = """Object.defineProperty(HTMLIFrameElement.prototype, 'srcdoc', {set() {}});
-    const plain = performance.now.bind(performance); performance.now = () => 20 * plain()"""
+# no frame loads anything
+UNLOADED = "['src', 'srcdoc'].forEach(it => Object.defineProperty(HTMLIFrameElement.prototype, it, {set() {}}))"
+# the browser refuses the script of what is written into a frame, as far as the page sees
+UNSHOWN = """const {write} = Document.prototype;
+    Document.prototype.write = function (text) { write.call(this, text.replace(/<script>[^]*<\\/script>/, '')); }"""
 COLOURS = """const it = document.getElementById('film').contentDocument.getElementById('damage'), scale = devicePixelRatio;
     const wide = it.width - 60 * scale, from = 60 * scale;
     const data = it.getContext('2d').getImageData(from, 0, wide - from, it.height).data;
@@ -253,6 +252,8 @@ def graph(page: Page, folder: str) -> list[str]:
     """The graph of damage doesn't tell what comes: it grows with the film; a switch shows all of it."""
     page.show(Battle(samples()[:2], Settings(limit=60_000)))
     page.watch(1)
+    page.inside("it.getElementById('damage').scrollIntoView()")
+    page.settle()
     counts = [page.js(COLOURS)]
     page.inside("it.getElementById('whole').click()")
     counts.append(page.js(COLOURS))
@@ -284,15 +285,16 @@ def try_it(page: Page, folder: str) -> list[str]:
 
 
 def lazy_frame(page: Page, folder: str) -> list[str]:
-    """If the film's frame doesn't load, it is made anew; Run and Watch can be pressed again."""
-    with page.before(LAZY):
+    """A film is shown also if the browser loads no frame, which some do late or never. If it doesn't run, the page says so, and Run and Watch
+    can be pressed again."""
+    with page.before(UNLOADED):
         page.fresh()
         page.watch(1)
     page.driver.get("about:blank")
-    with page.before(NEVER):
+    with page.before(UNSHOWN):
         page.fresh()
         page.click("watch")
-        page.wait("return document.getElementById('told').textContent.startsWith(\"The film's page doesn't load\")")
+        page.wait("return document.getElementById('told').textContent.startsWith(\"The film's page doesn't run\")")
         free = page.js("return ['run', 'watch'].map(id => document.getElementById(id).disabled)")
     return [] if free == [False, False] else [f"{free}"]
 

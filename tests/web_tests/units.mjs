@@ -21,8 +21,10 @@ const {turnsOf} = await load("listings");
 const {reasonOf, warningsOf} = await load("explaining");
 const {filmOf} = await load("player/films");
 const {DamageDrawing, FieldDrawing} = await load("player/drawing");
+const {shown: withCommas} = await load("player/elements");
 const {Match} = await load("player/matches");
 const {SvgContext, picturesOf, svgOf} = await load("player/reels");
+const {countsOf, matchesOf, totalsOf} = await load("results");
 const {Code, callsOf, foundIn, momentOf, valuesOf} = await load("moments");
 
 function check(name, got, wanted) {
@@ -54,6 +56,8 @@ const HASHES = {"": "e3b0c44298fc1c149afbf4c8996fb92427ae41e4649b934ca495991b785
 check("hashes", Object.keys(HASHES).map(it => workedOut(new TextEncoder().encode(it))), Object.values(HASHES));
 const lengths = [1, 55, 56, 63, 64, 65, 119, 120, 1000].map(length => Uint8Array.from({length}, (_, at) => at * 7 & 255));
 check("hashes of lengths", lengths.map(workedOut), await Promise.all(lengths.map(hashOf)));
+const numbers = [0, 7, 99, 100, 999, 1000, 12345, 999999, 1000000, 123456789, 2 ** 31 - 1, -999, -1000];
+check("numbers with commas, as the browser writes them", numbers.map(withCommas), numbers.map(it => it.toLocaleString("en")));
 const same = text => ({kind: " ", text});
 // all patterns of ten rows that differ or don't: what differs is shown with three rows around it, and dots for each run of the rest
 for (let pattern = 0; pattern < 1 << 10; pattern += 1) {
@@ -255,7 +259,14 @@ Code 18
    16 RETSUB
    17 NOP
 `;
-const PLACES = `address\trobot\tkind\tline\tcolumn\n${[3, 3, 3, 3, 3, 3, 3, 3, 3, 3, 4, 4, 4, 4, 4, 4, 4, 4].map((line, at) => `${at}\t1\tcode\t${line}\t1\n`).join("")}`;
+// main is entered at its first instruction, f at its own: by hand
+const NAMED = {4: "f", 10: "n", 11: "seen", 13: "n"};
+const PLACES = `number\trobot\tkind\ta\tb\tc\td\te
+0\t1\texternal\tseen
+0\t1\tfunction\t0\tmain
+1\t1\tfunction\t10\tf
+0\t1\tvariable\t1\tn
+${Array.from({length: 18}, (_, at) => `${at}\t1\tcode\t${at < 10 ? 3 : 4}\t1\t${[0, 10].includes(at) ? 1 : 0}\t${at < 10 ? 0 : 1}\t${NAMED[at] ?? ""}\n`).join("")}`;
 const code = new Code(LISTING, PLACES);
 check("names in instructions", [0, 4, 10, 11].map(at => code.nameIn(at)), ["", "f", "n", "seen"]);
 check("where lines begin", [[3], [4], [3, 4], [2]].map(lines => code.entriesOf(new Set(lines))), [[0], [10], [0, 10], []]);
@@ -282,5 +293,20 @@ check("a fault behind a warning", [warningsOf(FAULTY), reasonOf(FAULTY)],
 check("warnings without a fault", [warningsOf({ending: 0, text: "3:3: warning: x\n"}), reasonOf({ending: 0, text: "3:3: warning: x\n"})],
     [[{line: 3, text: "x"}], {marked: [], said: []}]);
 check("nothing explained", [warningsOf({ending: 4, text: "3:3: warning: x\n"}), reasonOf({ending: 4, text: ""})], [[], {marked: [], said: []}]);
+// names may have any words and blanks
+const REPORT = `Match 7: cycles = 15
+  1) alive  damage   2% a  damage 50%
+  2) dead   damage 100% Match 9
+Match 8: cycles = 300
+  1) alive  damage   0% a  damage 50%
+  2) alive  damage  12% Match 9
+Totals: 2 matches
+  1) won 1 tied 1 lost 0 a  damage 50%
+  2) won 0 tied 1 lost 1 Match 9
+`;
+check("matches of a report", matchesOf(REPORT).map(({begin, end, ...it}) => [REPORT.slice(begin, end), ...Object.values(it).flat()]),
+    [["Match 7: cycles = 15", 7, 15, 2, 100], ["Match 8: cycles = 300", 8, 300, 0, 12]]);
+check("totals of a report", countsOf(totalsOf(REPORT)), [{counts: [1, 1, 0], name: "a  damage 50%"}, {counts: [0, 1, 1], name: "Match 9"}]);
+check("no report", [matchesOf(""), matchesOf("File a\n  0 n\n"), totalsOf("x"), countsOf("")], [[], [], "", []]);
 check("advice", adviceOf("no main function"), "A robot begins in its function main, so write main() { .. }.");
 console.log(JSON.stringify(wrong));

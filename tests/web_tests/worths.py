@@ -180,7 +180,7 @@ def nobody(page: Page) -> list[str]:
     return [] if told == ["samples of level 1", ""] else [f"{told}"]
 
 
-def swept(page: Page, crobots: str, stages: str) -> list[str]:
+def swept(page: Page, crobots: str) -> list[str]:
     """A number with a mark is swept, by its button in the editor and by that below it; the rows are those of crobots-tune."""
     source = contests.robot("sweeper.r").replace(*MARK)
     begin(page, source)
@@ -190,7 +190,7 @@ def swept(page: Page, crobots: str, stages: str) -> list[str]:
     wrong = [] if named == [["Sweep near: line 30, 40 in 0..400"], 1, "samples of level 1"] else [f"{named}"]
     page.set_matches("sweep-choice", 20)
     page.js("const it = document.querySelector('#sweep-choice select'); it.value = 'the others of this battle';")
-    words = ["--sweep", "--crobots", crobots, "--stages", stages, "-m20", f"-l{LIMIT}", f"-s{SEED}", "mine.r", OPPONENT]
+    words = ["--sweep", "--crobots", crobots, "-m20", f"-l{LIMIT}", f"-s{SEED}", "mine.r", OPPONENT]
     right = contests.answered("tune", words, {"mine.r": source, OPPONENT: contests.robot(OPPONENT)})["sweep"]
     three = [[contests.difference(it[name]) for name in ("change", "low", "high")] for it in right]
     wanted = [[str(it["values"][0]), f"{it['points']:.3f}", *told, str(it["matches"]), it["verdict"]] for it, told in zip(right, three)]
@@ -234,16 +234,16 @@ def refused(page: Page) -> list[str]:
     return [] if said == wanted else [f"{said}, not {wanted}"]
 
 
-def few(crobots: str, stages: str, folder: str) -> Tests:
+def few(crobots: str, folder: str) -> Tests:
     """The tests of each browser by their names."""
     yield "what a change is worth, and two films in step", lambda page: weighed(page, crobots) + together(page, folder)
-    yield "a sweep", lambda page: swept(page, crobots, stages)
+    yield "a sweep", lambda page: swept(page, crobots)
     yield "a sweep that is typed into", cancelled
 
 
-def tests(crobots: str, stages: str, folder: str) -> Tests:
+def tests(crobots: str, folder: str) -> Tests:
     """The tests by their names."""
-    yield from few(crobots, stages, folder)
+    yield from few(crobots, folder)
     yield "a contest that is stopped", stopped
     yield "nobody to play against", nobody
     yield "marks that are refused", refused

@@ -6,8 +6,9 @@ import {summed, unpacked} from "./packing.js";
 import {Player} from "./player.js";
 import {Sources} from "./sources.js";
 
-/** Shows the film that the page carries, and robots from inside if it has these. */
+/** Shows the film that the page carries, and robots from inside if it has these; also what its marks and keys are. */
 async function show() {
+    element("more").open = true;
     const bytes = await unpacked(element("film").textContent);
     const match = new Match(filmOf(summed(new TextDecoder().decode(bytes))));
     const sources = match.robots.some(({source}) => source) ? new Sources(document.querySelector("main"), match) : null;

@@ -2,6 +2,7 @@
 //
 // A moment is {cycle, robots, missiles, bursts}, as `Match.moment` makes it; any page that can say so much can draw it.
 // Sides and places on a canvas are in its pixels. Colours are those of the page's style, those of robots with six digits.
+import {shown} from "./elements.js";
 import {countAtMost} from "./sorted.js";
 
 const FIELD_SIDE = 10000;
@@ -24,11 +25,16 @@ export function coloursOf(element) {
     };
 }
 
-/** Makes a canvas as sharp as the screen; answers its context, cleared, and its size in pixels of the page. */
-function prepared(canvas) {
+/** How sharp the screen is, and a canvas' size there and in pixels of the page. */
+function sizesOf(canvas) {
     const scale = window.devicePixelRatio || 1;
     const width = canvas.clientWidth, height = canvas.clientHeight;
-    const wide = Math.round(width * scale), high = Math.round(height * scale);
+    return {scale, width, height, wide: Math.round(width * scale), high: Math.round(height * scale)};
+}
+
+/** Makes a canvas as sharp as the screen; answers its context, cleared, and its size in pixels of the page. */
+function prepared(canvas) {
+    const {scale, width, height, wide, high} = sizesOf(canvas);
     if (canvas.width !== wide || canvas.height !== high) {
         canvas.width = wide;
         canvas.height = high;
@@ -49,6 +55,12 @@ export class FieldDrawing {
     constructor(canvas, colours) {
         this.canvas = canvas;
         this.colours = colours;
+    }
+
+    /** Whether what was drawn has the size that the canvas has now. */
+    get isFitting() {
+        const {wide, high} = sizesOf(this.canvas);
+        return this.canvas.width === wide && this.canvas.height === high;
     }
 
     /** Draws a moment. */
@@ -385,7 +397,7 @@ export class DamageDrawing {
         context.textBaseline = "top";
         const step = roundStep(match.cycles - this.first, Math.max(2, (this.right - this.left) / 75));
         for (let cycle = Math.ceil(this.first / step) * step; cycle <= match.cycles; cycle += step) {
-            context.fillText(cycle.toLocaleString("en"), this.#x(cycle), this.bottom + 7);
+            context.fillText(shown(cycle), this.#x(cycle), this.bottom + 7);
         }
     }
 

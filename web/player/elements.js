@@ -5,8 +5,8 @@
  * @type {(id: string) => any}
  */
 export const element = id => document.getElementById(id);
-/** A number with commas. */
-export const shown = number => number.toLocaleString("en");
+/** A whole number with commas. The browser's own way takes long the first time. */
+export const shown = number => `${number}`.replace(/\B(?=(\d{3})+$)/g, ",");
 
 /** Makes an element with a class and a text. */
 export function made(tag, name = "", text = "") {

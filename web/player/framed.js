@@ -4,11 +4,14 @@ import {Match} from "./matches.js";
 import {Player} from "./player.js";
 import {canRecord, svgOf, webmOf} from "./reels.js";
 
+// nothing is laid out before there is a film
+document.body.hidden = true;
+
 /** Shows a film, as `filmOf` reads it, with this heading; the options are those of the player. */
 globalThis.showFilm = (film, heading, options) => {
-    element("more").open = false;
+    document.body.hidden = false;
     document.title = element("heading").textContent = heading;
-    globalThis.player = new Player(new Match(film), options);
+    globalThis.player = new Player(new Match(film), {...options, isFramed: true});
 };
 
 /** What is filmed: the match from the cycle that is shown on, or from its start if that is the last one, as fast as it plays. */

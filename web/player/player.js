@@ -23,12 +23,15 @@ const MILLISECONDS_OF_AN_ADDRESS = 500;
 export class Player {
     /**
      * Shows a match from a cycle on, and plays it if it is to; a robot may be chosen. `sources` shows the robot that is chosen from
-     * inside, if it is there.
+     * inside, if it is there. A page that is framed by another one has no address of its own, which would follow the cycle, and draws its
+     * chart while that is in sight.
      */
-    constructor(match, {from = match.first, isPlaying = false, chosen = 0, sources = null} = {}) {
+    constructor(match, {from = match.first, isPlaying = false, chosen = 0, sources = null, isFramed = false} = {}) {
         this.match = match;
         this.sources = sources;
         this.cycle = this.#within(from);
+        this.isFramed = isFramed;
+        this.isChartSeen = !isFramed;
         this.#follow(location.hash);
         this.chosen = 0;
         this.isPlaying = false;
@@ -76,8 +79,6 @@ export class Player {
         const whole = Math.floor(cycle);
         this.shownAt = performance.now();
         const moment = match.moment(cycle, this.#glow());
-        this.field.draw(moment);
-        this.damage.draw(match, cycle, element("whole").checked);
         this.cards.show(moment);
         this.events.show(whole);
         this.sources?.show(whole, this.chosen || 1);
@@ -85,6 +86,13 @@ export class Player {
         if (whole !== this.addressed) this.#address();
         if (whole !== this.describedAt) element("described").textContent = "";
         if (!this.isPlaying) element("field").setAttribute("aria-label", this.#described(moment));
+        // what is drawn is as large as the texts leave it
+        this.field.draw(moment);
+        this.#drawChart();
+    }
+
+    #drawChart() {
+        if (this.isChartSeen) this.damage.draw(this.match, this.cycle, element("whole").checked);
     }
 
     /** For how many cycles a burst is seen: while the match plays, long enough for an eye. */
@@ -172,7 +180,7 @@ export class Player {
 
     /** Has the address follow the cycle. A page within another one may have no address of its own. */
     #address() {
-        if (this.addressing) return;
+        if (this.isFramed || this.addressing) return;
         this.addressing = setTimeout(() => {
             this.addressing = 0;
             this.addressed = Math.floor(this.cycle);
@@ -186,7 +194,7 @@ export class Player {
 
     /** Goes to the cycle of an address that ends with one, such as #4035. */
     #follow(hash) {
-        if (/^#\d+$/.test(hash)) this.cycle = this.#within(Number(hash.slice(1)));
+        if (!this.isFramed && /^#\d+$/.test(hash)) this.cycle = this.#within(Number(hash.slice(1)));
     }
 
     /** The nearest cycle that the page has. */
@@ -269,7 +277,8 @@ export class Player {
         element("speed").addEventListener("change", event => this.#faster(Number(event.target.value) - this.speed));
         element("whole").addEventListener("change", () => this.show());
         this.#listenToChart(element("damage"));
-        new ResizeObserver(() => this.show()).observe(element("field"));
+        element("more").addEventListener("toggle", () => this.#marks());
+        new ResizeObserver(() => { if (!this.field.isFitting) this.show(); }).observe(element("field"));
         document.addEventListener("fullscreenchange", () =>
             document.documentElement.classList.toggle("full", Boolean(document.fullscreenElement)));
         window.addEventListener("hashchange", () => { this.#follow(location.hash); this.show(); });
@@ -278,6 +287,7 @@ export class Player {
 
     /** The chart leads to the cycle that is pressed. */
     #listenToChart(chart) {
+        if (this.isFramed) new IntersectionObserver(seen => { this.isChartSeen = seen.at(-1).isIntersecting; this.#drawChart(); }).observe(chart);
         const seek = event => this.seek(this.damage.cycleAt(event.clientX - chart.getBoundingClientRect().left));
         chart.addEventListener("pointerdown", event => { chart.setPointerCapture(event.pointerId); seek(event); });
         chart.addEventListener("pointermove", event => { if (event.buttons) seek(event); });
@@ -289,7 +299,9 @@ export class Player {
         this.show();
     }
 
+    /** Draws the legend's marks, if they are seen. */
     #marks() {
+        if (!element("more").open) return;
         for (const canvas of /** @type {NodeListOf<HTMLCanvasElement>} */ (document.querySelectorAll("[data-mark]"))) {
             new FieldDrawing(canvas, this.field.colours).mark(canvas.dataset.mark);
         }

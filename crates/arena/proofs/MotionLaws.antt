@@ -11,7 +11,8 @@ use Rattle.arena.specs.Sums.{sum_from, sum_east, sum_north, step_east, step_nort
 use Rattle.arena.specs.Start.{robot_at_rest}
 use Rattle.arena.specs.Arena.{Motion, motion_of, is_steady}
 use Rattle.arena.specs.Still.{IsAtRest, OnlyTurns}
-use Rattle.arena.proofs.Sums.{Leads, leads, beyond_is, near_is, place_is, field_is_free, free_is_field, grown_bits}
+use Rattle.arena.proofs.Sums.{Leads, leads, beyond_is, near_is, place_is, field_is_free, free_is_field, grown_back, grown_bits}
+use Rattle.arena.specs.Motions.{IsMotion}
 
 -- a way of nothing leads nowhere
 along-none : (o : ℕ) → along o (pos 0) ≡ pos o
@@ -207,15 +208,21 @@ pub record Forward (t : Motion) (east north : ℤ) (out : Bool) : Type 0 where
   pub is_out : out ≡ (is_beyond east || is_beyond north)
 
 -- the same from what the calls ensure
-pub forward_from : (t : Motion) (out : Bool) →
-    out ≡ (is_beyond (grown_bits t.east t.step_east) || is_beyond (grown_bits t.north t.step_north)) →
-    grown_bits t.east t.step_east ≡ t.east +ℤ t.step_east → grown_bits t.north t.step_north ≡ t.north +ℤ t.step_north →
-    Forward t (t.east +ℤ t.step_east) (t.north +ℤ t.step_north) out
-forward_from t out e east north = record {
-  goes_east = refl;
-  goes_north = refl;
-  is_out = e ∙ rw (east, north) refl;
-}
+pub record IsDriven (t : Motion) (out : Bool) : Type 0 where
+  pub east : grown_bits t.east t.step_east ≡ t.east +ℤ t.step_east
+  pub north : grown_bits t.north t.step_north ≡ t.north +ℤ t.step_north
+  pub forward : Forward t (t.east +ℤ t.step_east) (t.north +ℤ t.step_north) out
+
+pub driven : (t : Motion) (out : Bool) → IsMotion t →
+    out ≡ (is_beyond (grown_bits t.east t.step_east) || is_beyond (grown_bits t.north t.step_north)) → IsDriven t out
+driven t out i e =
+    let east = grown_back t.east t.step_east i.east i.step_east in
+    let north = grown_back t.north t.step_north i.north i.step_north in
+    record {
+      east = east;
+      north = north;
+      forward = record { goes_east = refl; goes_north = refl; is_out = e ∙ rw (east, north) refl };
+    }
 
 -- all of it is what the grown leg says
 record Grown (leg : Leg) (east north : ℤ) (out : Bool) : Type 0 where

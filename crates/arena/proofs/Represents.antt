@@ -15,6 +15,9 @@ use Rattle.arena.specs.Representing.{HoldsShots, RepresentsField}
 pub refill_is : {X : Type 0} (xs ws : List X) → length ws ≡ length xs → refill (length xs) xs ws ≡ ws
 refill_is xs ws e = take_at ws (drop (length ws) xs) (length xs) e
 
+pub refill_same : {X : Type 0} {xs ys ws : List X} → length ws ≡ length ys → ys ≡ xs → refill (length xs) xs ws ≡ ws
+refill_same {X} {xs} {ys} {ws} size is = refill_is xs ws (size ∙ ap length is)
+
 -- the robot of a number is that of the field's robot, past the last one too
 pub bodies_at : (rs : List FieldRobot) (i : ℕ) →
     get_or (map robot_of rs) i (robot_of no_robot) ≡ robot_of (get_or rs i no_robot)
@@ -78,15 +81,18 @@ pub living : (rs : List FieldRobot) →
 unfolding robot_of is_alive
 living rs = fold_map robot_of (λ (b : Robot). cond (nat_lt b.damage 100) 1 0) 0 rs
 
+-- the missile that a robot fires
+abbrev missile_to : Arena → Field → ℕ → ℕ → ℕ → Missile
+missile_to g f i degree range = record {
+  burst = g.updates + flight range;
+  at = record {
+    x = aimed_x (place_x (robot_at f i).leg) degree range;
+    y = aimed_y (place_y (robot_at f i).leg) degree range;
+  };
+}
+
 shot_is : (g : Arena) (f : Field) (i degree range : ℕ) (missile : Missile) → g.updates ≡ f.updates →
-    missile ≡
-    record {
-      burst = g.updates + flight range;
-      at = record {
-        x = aimed_x (place_x (robot_at f i).leg) degree range;
-        y = aimed_y (place_y (robot_at f i).leg) degree range;
-      };
-    } →
+    missile ≡ missile_to g f i degree range →
     shot_of i missile ≡ shot f.updates i (robot_at f i).leg degree range
 unfolding shot shot_of
 shot_is g f i degree range missile u m = rw (m, u) refl
@@ -99,14 +105,7 @@ bursts_later g f range missile u b = omega arith
 -- a robot that fires
 pub fires : (g : Arena) (f : Field) (i degree range : ℕ) (slots : List (List Missile)) (missile : Missile) →
     RepresentsField g f → nat_lt (length (in_air f.updates i f.shots)) 2 ≡ true →
-    missile ≡
-    record {
-      burst = g.updates + flight range;
-      at = record {
-        x = aimed_x (place_x (robot_at f i).leg) degree range;
-        y = aimed_y (place_y (robot_at f i).leg) degree range;
-      };
-    } →
+    missile ≡ missile_to g f i degree range →
     ((updates : ℕ) (shots : List Shot) → updates < missile.burst → HoldsShots updates g.slots shots →
     HoldsShots updates slots (shots ++ shot_of i missile ∷ [])) →
     RepresentsField (record g { slots = slots }) (fired f i degree range).1

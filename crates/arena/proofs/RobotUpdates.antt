@@ -1,5 +1,5 @@
 -- What an update makes of one robot.
-use Rattle.std.proofs.Common.{◌≡◌, ℕ, ◌+◌, ◌*◌, ◌≤◌, ◌++◌, [], ◌∷◌, List, replicate, min, Bool, true, false, cond, ◌&&◌, refl, sym, ap, ◌∙◌, arith}
+use Rattle.std.proofs.Common.{◌≡◌, ℕ, ◌+◌, ◌*◌, ◌≤◌, ◌++◌, [], ◌∷◌, List, replicate, min, Bool, true, false, cond, ◌&&◌, refl, sym, ap, ◌∙◌, arith, nat_lt}
 use Rattle.std.specs.List.{sum}
 use Rattle.std.proofs.lemmas.Bool.Decides.{nat_tests}
 use Rattle.std.proofs.lemmas.List.Sums.{sum_by-append}
@@ -97,6 +97,23 @@ pub drove : (robot : FieldRobot) (motion : Motion) (walled : Bool) (damage : ℕ
     record { motion = motion; damage = damage } ≡ robot_ahead robot
 unfolding robot_ahead leg_alone
 drove robot motion walled damage live t w d = rw (live, sym w, t, d) refl
+
+-- whether a robot that is kept lives
+pub life_is : {b : Robot} {r t : Bool} (robot : FieldRobot) → r ≡ nat_lt b.damage 100 → b ≡ robot_of robot → r ≡ t →
+    is_alive robot ≡ t
+unfolding robot_of is_alive
+life_is robot is e was = sym (is ∙ ap (λ (b : Robot). nat_lt b.damage 100) e) ∙ was
+
+pub goes_ahead : {kept : Robot} {motion : Motion} {hits walled : Bool} {damage : ℕ} (robot : FieldRobot) →
+    kept ≡ robot_of robot → is_alive robot ≡ true →
+    ((leg : Leg) → kept.motion ≡ motion_of leg → motion ≡ motion_of (stopped_by_walls leg)) →
+    ((leg : Leg) → kept.motion ≡ motion_of leg → hits ≡ hits_wall (tried leg)) → hits ≡ walled →
+    damage ≡ min (kept.damage + cond walled 2 0) 100 → record { motion = motion; damage = damage } ≡ robot_ahead robot
+unfolding robot_of damage_of
+goes_ahead {kept} {motion} {hits} {walled} {damage} robot e live moves strikes is hurt =
+    let from = ap (λ (b : Robot). b.motion) e in
+    drove robot motion walled damage live (moves robot.leg from) (sym is ∙ strikes robot.leg from)
+    (hurt ∙ ap (λ (b : Robot). min (b.damage + cond walled 2 0) 100) e)
 
 -- a robot that has moved on, touches none, and is hurt by bursts
 live_hurt : (robot : FieldRobot) (update : ℕ) (shots : List Shot) (burst : ℕ) → is_alive robot ≡ true →

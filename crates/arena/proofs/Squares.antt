@@ -1,5 +1,5 @@
 -- Squares of signed numbers, which are cast to their bits and back.
-use Rattle.std.proofs.Common.{◌≡◌, ℕ, ℤ, unsigned_abs, ◌+◌, ◌*◌, ◌<◌, ◌≤◌, ◌⊎◌, inl, inr, pos, negsuc, ◌+ℤ◌, ◌-ℤ◌, ◌*ℤ◌, FitsSigned, to_z, of_z, w32, refl, ◌∙◌, arith}
+use Rattle.std.proofs.Common.{◌≡◌, ℕ, ℤ, unsigned_abs, ◌+◌, ◌*◌, ◌<◌, ◌≤◌, ◌⊎◌, inl, inr, pos, negsuc, ◌+ℤ◌, ◌-ℤ◌, ◌*ℤ◌, FitsSigned, to_z, of_z, w32, refl, ◌∙◌, arith, ap}
 use Rattle.std.specs.Int.{abs_diff}
 use Rattle.std.proofs.lemmas.Int.{ints, to_z-of_z, fits_signed_from_abs}
 use Rattle.std.proofs.lemmas.Nat.{mul-le}
@@ -58,6 +58,11 @@ pub between_back : (a b : ℕ) (x y : ℤ) → x ≡ pos a → y ≡ pos b → a
     to_z w32 (of_z w32 (between_bits x y)) ≡ pos a -ℤ pos b
 between_back a b x y p q most_a most_b =
     to_z-of_z w32 (between_bits x y) (between_fits a b x y p q most_a most_b) ∙ between_is a b x y p q most_a most_b
+
+pub way_between : {a b : ℕ} {x y : ℤ} (n m : ℕ) → x ≡ pos a → y ≡ pos b → a ≤ 9999 → b ≤ 9999 → a ≡ n → b ≡ m →
+    to_z w32 (of_z w32 (between_bits x y)) ≡ pos n -ℤ pos m
+way_between {a} {b} {x} {y} n m p q most_a most_b is at =
+    between_back a b x y p q most_a most_b ∙ ap (λ k. pos k -ℤ pos b) is ∙ ap (λ k. pos n -ℤ pos k) at
 
 -- the sum of two squares of numbers of metres
 abbrev pub both_bits : ℤ → ℤ → ℤ

@@ -112,67 +112,59 @@ second_fails : (a b : Bool) → b ≡ false → (a && b) ≡ false
 second_fails true b q = q
 second_fails false b q = refl
 
+-- a degree that is the bearing, or some way from it, leads its neighbour on the far side
+leads_outwards : (dx dy : ℤ) (b t at other : ℕ) → IsBearing dx dy b → other < 360 →
+    (0 < t → projection_of dx dy other <ℤ projection_of dx dy at) → (t ≤ 0 → (b ≡ at) × (b ≢ other)) →
+    leads dx dy at other ≡ true
+leads_outwards dx dy b t at other is round some none = by_distance (cases_lt 0 t)
+  where
+    by_distance : ((0 < t) ⊎ (t ≤ 0)) → leads dx dy at other ≡ true
+    by_distance (inl far) = leads_farther dx dy at other (some far)
+    by_distance (inr near) =
+        subst (λ d. leads dx dy d other ≡ true) (none near).0 (bearing_leads dx dy b other is round (none near).1)
+
+-- a degree beside the bearing, or some way from it, trails its neighbour on the near side
+trails_inwards : (dx dy : ℤ) (b t at other : ℕ) → IsBearing dx dy b → at < 360 →
+    (1 < t → projection_of dx dy at <ℤ projection_of dx dy other) → (t ≤ 1 → (b ≡ other) × (b ≢ at)) →
+    leads dx dy at other ≡ false
+trails_inwards dx dy b t at other is round some none = by_distance (cases_lt 1 t)
+  where
+    by_distance : ((1 < t) ⊎ (t ≤ 1)) → leads dx dy at other ≡ false
+    by_distance (inl far) = trails_nearer dx dy at other (some far)
+    by_distance (inr near) =
+        subst (λ d. leads dx dy at d ≡ false) (none near).0 (bearing_trails_none dx dy b at is round (none near).1)
+
 -- an arc from a degree on that the bearing is t degrees into, and of this width
 starts : (dx dy : ℤ) (b t first before : ℕ) → (dx ≡ pos 0 → dy ≡ pos 0 → ⊥) → IsBearing dx dy b → t ≤ 178 →
     first ≡ (b + 360 - t) % 360 → before ≡ (b + 359 - t) % 360 → leads dx dy first before ≡ true
-starts dx dy b t first before some is near p q = by_distance (cases_lt 0 t)
-  where
-    round : b < 360
-    round = is.on_the_round
-
-    by_distance : ((0 < t) ⊎ (t ≤ 0)) → leads dx dy first before ≡ true
-    by_distance (inl some_way) =
-        leads_farther dx dy first before (before_trails dx dy b t before first some is some_way near q p)
-    by_distance (inr none) =
-        let here : b ≡ first = omega arith in
-        subst (λ d. leads dx dy d before ≡ true) here (bearing_leads dx dy b before is (omega arith) (λ e. omega arith))
+starts dx dy b t first before some is near p q =
+    let round = is.on_the_round in
+    leads_outwards dx dy b t first before is (omega arith)
+    (λ far. before_trails dx dy b t before first some is far near q p) (λ none. (omega arith, λ e. omega arith))
 
 ends : (dx dy : ℤ) (b s last after : ℕ) → (dx ≡ pos 0 → dy ≡ pos 0 → ⊥) → IsBearing dx dy b → s ≤ 178 →
     last ≡ (b + s) % 360 → after ≡ (b + s + 1) % 360 → leads dx dy last after ≡ true
-ends dx dy b s last after some is near p q = by_distance (cases_lt 0 s)
-  where
-    round : b < 360
-    round = is.on_the_round
-
-    by_distance : ((0 < s) ⊎ (s ≤ 0)) → leads dx dy last after ≡ true
-    by_distance (inl some_way) =
-        leads_farther dx dy last after (after_trails dx dy b s last after some is some_way near p q)
-    by_distance (inr none) =
-        let here : b ≡ last = omega arith in
-        subst (λ d. leads dx dy d after ≡ true) here (bearing_leads dx dy b after is (omega arith) (λ e. omega arith))
+ends dx dy b s last after some is near p q =
+    let round = is.on_the_round in
+    leads_outwards dx dy b s last after is (omega arith)
+    (λ far. after_trails dx dy b s last after some is far near p q) (λ none. (omega arith, λ e. omega arith))
 
 -- an arc that ends u degrees before the bearing, or begins v degrees after it
 ends_early : (dx dy : ℤ) (b u last after : ℕ) → (dx ≡ pos 0 → dy ≡ pos 0 → ⊥) → IsBearing dx dy b → 1 ≤ u → u ≤ 179 →
     last ≡ (b + 360 - u) % 360 → after ≡ (b + 361 - u) % 360 → leads dx dy last after ≡ false
-ends_early dx dy b u last after some is low high p q = by_distance (cases_lt 1 u)
-  where
-    round : b < 360
-    round = is.on_the_round
-
-    by_distance : ((1 < u) ⊎ (u ≤ 1)) → leads dx dy last after ≡ false
-    by_distance (inl far) =
-        trails_nearer dx dy last after
-        (before_trails dx dy b (u - 1) last after some is (omega arith) (omega arith) (omega arith) (omega arith))
-    by_distance (inr near) =
-        let here : b ≡ after = omega arith in
-        subst (λ d. leads dx dy last d ≡ false) here
-        (bearing_trails_none dx dy b last is (omega arith) (λ e. omega arith))
+ends_early dx dy b u last after some is low high p q =
+    let round = is.on_the_round in
+    trails_inwards dx dy b u last after is (omega arith)
+    (λ far. before_trails dx dy b (u - 1) last after some is (omega arith) (omega arith) (omega arith) (omega arith))
+    (λ near. (omega arith, λ e. omega arith))
 
 starts_late : (dx dy : ℤ) (b v first before : ℕ) → (dx ≡ pos 0 → dy ≡ pos 0 → ⊥) → IsBearing dx dy b → 1 ≤ v → v ≤ 179 →
     first ≡ (b + v) % 360 → before ≡ (b + v - 1) % 360 → leads dx dy first before ≡ false
-starts_late dx dy b v first before some is low high p q = by_distance (cases_lt 1 v)
-  where
-    round : b < 360
-    round = is.on_the_round
-
-    by_distance : ((1 < v) ⊎ (v ≤ 1)) → leads dx dy first before ≡ false
-    by_distance (inl far) =
-        trails_nearer dx dy first before
-        (after_trails dx dy b (v - 1) before first some is (omega arith) (omega arith) (omega arith) (omega arith))
-    by_distance (inr near) =
-        let here : b ≡ before = omega arith in
-        subst (λ d. leads dx dy first d ≡ false) here
-        (bearing_trails_none dx dy b first is (omega arith) (λ e. omega arith))
+starts_late dx dy b v first before some is low high p q =
+    let round = is.on_the_round in
+    trails_inwards dx dy b v first before is (omega arith)
+    (λ far. after_trails dx dy b (v - 1) before first some is (omega arith) (omega arith) (omega arith) (omega arith))
+    (λ near. (omega arith, λ e. omega arith))
 
 -- the degree just opposite doesn't lead both of those beside it
 opposite_trails : (dx dy : ℤ) (b there before after : ℕ) → (dx ≡ pos 0 → dy ≡ pos 0 → ⊥) → IsBearing dx dy b →

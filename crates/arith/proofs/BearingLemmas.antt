@@ -153,30 +153,19 @@ bearing_of-IsBearing dx dy =
     subst (λ d. IsBearing dx dy d) (bearing_of_is_first dx dy b.0 b.1) (bearing_is_first dx dy b.0 b.1)
 
 -- the reaches along the axes
-reach_east : (dx dy : ℤ) → projection_of dx dy 0 ≡ dx *ℤ pos 100000
+reaches : (dx dy : ℤ) → (projection_of dx dy 0 ≡ dx *ℤ pos 100000) × (projection_of dx dy 90 ≡ dy *ℤ pos 100000)
+    × (projection_of dx dy 180 ≡ dx *ℤ negsuc 99999) × (projection_of dx dy 270 ≡ dy *ℤ negsuc 99999)
 unfolding projection_of cosine_at sine_at sines
-reach_east dx dy = omega (arith, ints)
-
-reach_north : (dx dy : ℤ) → projection_of dx dy 90 ≡ dy *ℤ pos 100000
-unfolding projection_of cosine_at sine_at sines
-reach_north dx dy = omega (arith, ints)
-
-reach_west : (dx dy : ℤ) → projection_of dx dy 180 ≡ dx *ℤ negsuc 99999
-unfolding projection_of cosine_at sine_at sines
-reach_west dx dy = omega (arith, ints)
-
-reach_south : (dx dy : ℤ) → projection_of dx dy 270 ≡ dy *ℤ negsuc 99999
-unfolding projection_of cosine_at sine_at sines
-reach_south dx dy = omega (arith, ints)
+reaches dx dy = (omega (arith, ints), omega (arith, ints), omega (arith, ints), omega (arith, ints))
 
 -- one of the four is positive, and the bearing's is no less
 pub bearing_reach : (dx dy : ℤ) → (dx ≡ pos 0 → dy ≡ pos 0 → ⊥) → pos 0 <ℤ projection_of dx dy (bearing_of dx dy)
 bearing_reach dx dy apart =
     let top = (bearing_of-IsBearing dx dy).greatest in
-    let east = rw reach_east at (top 0 (omega arith)) in
-    let north = rw reach_north at (top 90 (omega arith)) in
-    let west = rw reach_west at (top 180 (omega arith)) in
-    let south = rw reach_south at (top 270 (omega arith)) in
+    let east = rw (reaches dx dy).0 at (top 0 (omega arith)) in
+    let north = rw (reaches dx dy).1 at (top 90 (omega arith)) in
+    let west = rw (reaches dx dy).2 at (top 180 (omega arith)) in
+    let south = rw (reaches dx dy).3 at (top 270 (omega arith)) in
     by_lt_z (pos 0) dx (λ h. omega (arith, ints)) (λ not_east.
     by_lt_z dx (pos 0) (λ h. omega (arith, ints)) (λ not_west.
     by_lt_z (pos 0) dy (λ h. omega (arith, ints)) (λ not_north.

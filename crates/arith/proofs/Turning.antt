@@ -65,30 +65,39 @@ none_from_product k z h e =
     by_lt_z (pos 0) z (λ l. absurd (omega (arith, ints, both_above k z h l)))
     (λ l. by_lt_z z (pos 0) (λ m. absurd (omega (arith, ints, above_below k z h m))) (λ m. omega (arith, ints)))
 
+spread_out : (p q r s k : ℤ) → (p *ℤ q -ℤ r *ℤ s) *ℤ k ≡ k *ℤ (p *ℤ q) -ℤ k *ℤ (r *ℤ s)
+spread_out p q r s k = commutes (p *ℤ q -ℤ r *ℤ s) k ∙ distributes_less k (p *ℤ q) (r *ℤ s)
+
+reversed : (x y z : ℤ) → x *ℤ (y *ℤ z) ≡ z *ℤ (y *ℤ x)
+reversed x y z = swap x y z ∙ ap (λ t. y *ℤ t) (commutes x z) ∙ swap y z x
+
+rolled : (x y z : ℤ) → x *ℤ (y *ℤ z) ≡ z *ℤ (x *ℤ y)
+rolled x y z = ap (λ t. x *ℤ t) (commutes y z) ∙ swap x z y
+
 -- a way v by two others, a and c
 combined_x : (ax ay cx cy vx vy : ℤ) →
     (ax *ℤ cy -ℤ ay *ℤ cx) *ℤ vx ≡ (vx *ℤ cy -ℤ vy *ℤ cx) *ℤ ax +ℤ (ax *ℤ vy -ℤ ay *ℤ vx) *ℤ cx
 combined_x ax ay cx cy vx vy =
-    let d = commutes (ax *ℤ cy -ℤ ay *ℤ cx) vx ∙ distributes_less vx (ax *ℤ cy) (ay *ℤ cx) in
-    let a = commutes (vx *ℤ cy -ℤ vy *ℤ cx) ax ∙ distributes_less ax (vx *ℤ cy) (vy *ℤ cx) in
-    let b = commutes (ax *ℤ vy -ℤ ay *ℤ vx) cx ∙ distributes_less cx (ax *ℤ vy) (ay *ℤ vx) in
-    let one = swap vx ax cy in
-    let two : vx *ℤ (ay *ℤ cx) ≡ cx *ℤ (ay *ℤ vx) =
-    swap vx ay cx ∙ ap (λ z. ay *ℤ z) (commutes vx cx) ∙ swap ay cx vx in
-    let three : ax *ℤ (vy *ℤ cx) ≡ cx *ℤ (ax *ℤ vy) = ap (λ z. ax *ℤ z) (commutes vy cx) ∙ swap ax cx vy in
-    rw (d, a, b, one, two, three) (omega (arith, ints))
+    rw (
+      spread_out ax cy ay cx vx,
+      spread_out vx cy vy cx ax,
+      spread_out ax vy ay vx cx,
+      swap vx ax cy,
+      reversed vx ay cx,
+      rolled ax vy cx,
+    ) (omega (arith, ints))
 
 combined_y : (ax ay cx cy vx vy : ℤ) →
     (ax *ℤ cy -ℤ ay *ℤ cx) *ℤ vy ≡ (vx *ℤ cy -ℤ vy *ℤ cx) *ℤ ay +ℤ (ax *ℤ vy -ℤ ay *ℤ vx) *ℤ cy
 combined_y ax ay cx cy vx vy =
-    let d = commutes (ax *ℤ cy -ℤ ay *ℤ cx) vy ∙ distributes_less vy (ax *ℤ cy) (ay *ℤ cx) in
-    let a = commutes (vx *ℤ cy -ℤ vy *ℤ cx) ay ∙ distributes_less ay (vx *ℤ cy) (vy *ℤ cx) in
-    let b = commutes (ax *ℤ vy -ℤ ay *ℤ vx) cy ∙ distributes_less cy (ax *ℤ vy) (ay *ℤ vx) in
-    let one = swap vy ay cx in
-    let two : vy *ℤ (ax *ℤ cy) ≡ cy *ℤ (ax *ℤ vy) =
-    swap vy ax cy ∙ ap (λ z. ax *ℤ z) (commutes vy cy) ∙ swap ax cy vy in
-    let three : ay *ℤ (vx *ℤ cy) ≡ cy *ℤ (ay *ℤ vx) = ap (λ z. ay *ℤ z) (commutes vx cy) ∙ swap ay cy vx in
-    rw (d, a, b, one, two, three) (omega (arith, ints))
+    rw (
+      spread_out ax cy ay cx vy,
+      spread_out vx cy vy cx ay,
+      spread_out ax vy ay vx cy,
+      swap vy ay cx,
+      reversed vy ax cy,
+      rolled ay vx cy,
+    ) (omega (arith, ints))
 
 -- so of the products with a point p too
 combined : (px py ax ay cx cy vx vy : ℤ) →

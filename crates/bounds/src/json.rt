@@ -1,9 +1,9 @@
 //! What is known of a robot, as an object of JSON on a line.
 
 use cycles::Span;
+use derivations::name_text;
 use facts::{Facts, Link, Part, Stretch};
 use grammar::Intrinsic;
-use std::str;
 use tools::{Array, Draft, Object, Text, add_number_or_null};
 
 /// Adds what is known of a robot as an object, and a line end.
@@ -39,7 +39,7 @@ fn add_links(text: &mut Draft, links: &[Link]) {
     let mut array = Array::begin(text);
     for link in links {
         let mut object = Object::begin(array.item());
-        object.words("name", str::from_utf8(link.name.as_bytes()).unwrap_or("?"));
+        object.words("name", name_text(&link.name));
         object.number("line", u64::from(link.line));
         object.number("variables", u64::from(link.variables));
         object.end();
@@ -63,7 +63,7 @@ fn add_parts(text: &mut Draft, parts: &[Part], are_loops: bool) {
 
 /// Adds the fields that functions and loops have.
 fn add_part(object: &mut Object<'_>, part: &Part) {
-    object.words("name", str::from_utf8(part.name.as_bytes()).unwrap_or("?"));
+    object.words("name", name_text(&part.name));
     object.number("line", u64::from(part.line));
     add_span(object.field("cycles"), part.cycles);
     for (intrinsic, questions) in Intrinsic::ALL.iter().zip(&part.questions) {

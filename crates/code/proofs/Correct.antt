@@ -35,67 +35,54 @@ module _ (program : Program) (file : File) (n : ℕ) (again : BodyMeaning) (hold
   mutual
     value_law : (x : Expr) → InExpr e l (length file.functions) x →
         Evaluates program e l n (expr_code program.profile x)
-        (λ vars depth frames trace. value program.profile file again x vars depth frames trace)
+        (value program.profile file again x)
     value_law (Constant x) r = const_law program e l n x
     value_law (Variable v) r = fetch_law program e l n v r
     value_law (Binary o a b) r =
         binary_law program e l n o (expr_code program.profile a) (expr_code program.profile b)
-        (λ vars depth frames trace. value program.profile file again a vars depth frames trace)
-        (λ vars depth frames trace. value program.profile file again b vars depth frames trace)
-        (value_law a r.0) (value_law b r.1)
+        (value program.profile file again a) (value program.profile file again b) (value_law a r.0) (value_law b r.1)
     value_law (Assign o v a) r =
         assign_law program e l n o v (expr_code program.profile a)
-        (λ vars depth frames trace. value program.profile file again a vars depth frames trace) r.0 (value_law a r.1)
+        (value program.profile file again a) r.0 (value_law a r.1)
     value_law (Postfix o v) r = postfix_law program e l n o v r
     value_law (Call f xs) r =
         call_law program file l n again holds sooner f r.0 (args_code program.profile xs)
-        (λ vars depth frames trace. values program.profile file again xs vars depth frames trace) (values_law xs r.1)
+        (values program.profile file again xs) (values_law xs r.1)
 
     values_law : (xs : Args) → InArgs e l (length file.functions) xs →
         EvaluatesAll program e l n (args_code program.profile xs)
-        (λ vars depth frames trace. values program.profile file again xs vars depth frames trace)
+        (values program.profile file again xs)
     values_law NoMore r = no_more_law program e l n
     values_law (Argument a xs) r =
         argument_law program e l n (expr_code program.profile a) (args_code program.profile xs)
-        (λ vars depth frames trace. value program.profile file again a vars depth frames trace)
-        (λ vars depth frames trace. values program.profile file again xs vars depth frames trace)
+        (value program.profile file again a) (values program.profile file again xs)
         (value_law a r.0) (values_law xs r.1)
 
   effect_law : (b : Body) → InBody e l (length file.functions) b →
       Effects program e l n (body_code program.profile b)
-      (λ vars depth frames trace. effect program.profile file again b vars depth frames trace)
+      (effect program.profile file again b)
   effect_law Done r = done_law program e l n
   effect_law (ExpressionStatement a next) r =
       alone_law program e l n (expr_code program.profile a) (body_code program.profile next)
-      (λ vars depth frames trace. value program.profile file again a vars depth frames trace)
-      (λ vars depth frames trace. effect program.profile file again next vars depth frames trace)
-      (value_law a r.0) (effect_law next r.1)
+      (value program.profile file again a) (effect program.profile file again next) (value_law a r.0)
+      (effect_law next r.1)
   effect_law (IfStatement c s next) r =
       when_law program e l n (expr_code program.profile c) (body_code program.profile s)
-      (body_code program.profile next)
-      (λ vars depth frames trace. value program.profile file again c vars depth frames trace)
-      (λ vars depth frames trace. effect program.profile file again s vars depth frames trace)
-      (λ vars depth frames trace. effect program.profile file again next vars depth frames trace)
-      (value_law c r.0) (effect_law s r.1) (effect_law next r.2)
+      (body_code program.profile next) (value program.profile file again c) (effect program.profile file again s)
+      (effect program.profile file again next) (value_law c r.0) (effect_law s r.1) (effect_law next r.2)
   effect_law (IfElseStatement c s t next) r =
       choose_law program e l n (expr_code program.profile c) (body_code program.profile s) (body_code program.profile t)
-      (body_code program.profile next)
-      (λ vars depth frames trace. value program.profile file again c vars depth frames trace)
-      (λ vars depth frames trace. effect program.profile file again s vars depth frames trace)
-      (λ vars depth frames trace. effect program.profile file again t vars depth frames trace)
-      (λ vars depth frames trace. effect program.profile file again next vars depth frames trace)
+      (body_code program.profile next) (value program.profile file again c) (effect program.profile file again s)
+      (effect program.profile file again t) (effect program.profile file again next)
       (value_law c r.0) (effect_law s r.1) (effect_law t r.2) (effect_law next r.3)
   effect_law (While c s next) r =
       while_law program e l n (expr_code program.profile c) (body_code program.profile s)
-      (body_code program.profile next)
-      (λ vars depth frames trace. value program.profile file again c vars depth frames trace)
-      (λ vars depth frames trace. effect program.profile file again s vars depth frames trace)
-      (λ vars depth frames trace. effect program.profile file again next vars depth frames trace)
-      (λ vars depth frames trace. again (While c s next) vars depth frames trace)
+      (body_code program.profile next) (value program.profile file again c) (effect program.profile file again s)
+      (effect program.profile file again next) (again (While c s next))
       (value_law c r.0) (effect_law s r.1) (effect_law next r.2) (sooner l (While c s next) r)
   effect_law (Return a next) r =
       return_law program e l n (expr_code program.profile a) (body_code program.profile next)
-      (λ vars depth frames trace. value program.profile file again a vars depth frames trace) (value_law a r.0)
+      (value program.profile file again a) (value_law a r.0)
 
 -- At each bound, along as many replies as the bound allows.
 pub bounded : (program : Program) (file : File) → Holds program file → (n : ℕ) →

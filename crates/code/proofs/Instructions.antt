@@ -291,6 +291,18 @@ back_with f below fs externals x = record {
   externals = externals;
 }
 
+-- a call's arguments lie above the other words
+deep_enough : (below locals temps arguments : List ℤ) (depth : ℕ) → depth ≡ length (words_of below locals temps) →
+    depth ≤ length (words_of below locals (temps ++ arguments))
+deep_enough below locals temps arguments depth is =
+    omega (
+      arith,
+      is,
+      length-words_of below locals temps,
+      length-words_of below locals (temps ++ arguments),
+      length-append temps arguments,
+    )
+
 module _ (program : Program) (e l n : ℕ) (below : List ℤ) (fs : List Frame) {A : Type 0} (at : ℕ)
     (k : A → Vars → List ℤ → Option Want) where
   abbrev Reaches : List ℤ → (List ℤ → EvaluationResult A) → Machine → Type 0
@@ -340,13 +352,7 @@ module _ (program : Program) (e l n : ℕ) (below : List ℤ) (fs : List Frame) 
       ticks program s (Fcall (callee.Intrinsic i)) here (if_both (nat_lt 0 (length s.frames))
       (nat_le depth (length s.words)) (lt_test 0 (length s.frames) (omega arith))
       (le_test depth (length s.words)
-      (omega (
-        arith,
-        is,
-        length-words_of below vars.locals temps,
-        length-words_of below vars.locals (temps ++ arguments),
-        length-append temps arguments,
-      )))) e l n
+      (deep_enough below vars.locals temps arguments depth is))) e l n
       (nat_le (depth + 1) program.profile.words) (Ask i (asked_words i arguments)) trace go k
       refl (ap (λ (xs : List ℤ). Ask i (asked_words i xs)) (above below vars.locals temps arguments depth is))
       (λ reply rest shorter.
@@ -396,13 +402,7 @@ module _ (program : Program) (e l n : ℕ) (below : List ℤ) (fs : List Frame) 
       (lt_test j (length program.functions) there)
       (if_both (nat_lt 0 (length s.frames)) (nat_le depth (length s.words)) (lt_test 0 (length s.frames) (omega arith))
       (le_test depth (length s.words)
-      (omega (
-        arith,
-        is,
-        length-words_of below vars.locals temps,
-        length-words_of below vars.locals (temps ++ arguments),
-        length-append temps arguments,
-      ))))) e l n
+      (deep_enough below vars.locals temps arguments depth is)))) e l n
       (nat_le (depth + variables_at program j) program.profile.words) Quiet trace (λ reply rest. go rest) k
       refl refl
       (λ reply rest shorter.

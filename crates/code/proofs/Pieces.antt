@@ -1,6 +1,6 @@
 -- Code at an address, and what it is for it to evaluate an expression or to have the effect of statements.
 use Rattle.std.specs.Prelude.{ℕ, ℤ, pos, suc, ◌+◌, ◌≡◌, ◌<◌, ◌≤◌, List, [], ◌∷◌, ◌++◌, Option, Some, length}
-use Rattle.std.proofs.Common.{ap, subst, arith, length-append}
+use Rattle.std.proofs.Common.{sym, ap, ◌∙◌, subst, arith, length-append}
 use Rattle.code.specs.declared.instr.Instr.{Instr}
 use Rattle.code.specs.declared.instr.Instr.TheVariants.{Const, Branch}
 use Rattle.code.specs.declared.want.Want.{Want}
@@ -39,6 +39,17 @@ stands program at a b s = stands_both program at (a at) (b (at + length (a at)))
 -- where a piece and the one after it end
 pub ends : (at : ℕ) (a b : CodeAt) → at + length (a at) + length (b (at + length (a at))) ≡ at + length ((a ⨾ b) at)
 ends at a b = omega (arith, length-append (a at) (b (at + length (a at))))
+
+-- the last of three pieces stands where the second ends
+pub stands_third : (program : Program) (a b c : CodeAt) (at to : ℕ) → StandsAt program at ((a ⨾ b ⨾ c) at) →
+    at + length (a at) + length (b (at + length (a at))) ≡ to →
+    StandsAt program to (c to) × (to + length (c to) ≡ at + length ((a ⨾ b ⨾ c) at))
+stands_third program a b c at to s is =
+    let second = at + length (a at) in (
+      subst (λ (x : ℕ). StandsAt program x (c x)) is
+          (stands program second b c (stands program at a (b ⨾ c) s).second).second,
+      ap (λ (x : ℕ). x + length (c x)) (sym is) ∙ ends second b c ∙ ends at a (b ⨾ c),
+    )
 
 -- a choice between two pieces
 pub record StandsEither (program : Program) (at : ℕ) (s t : CodeAt) (other end : ℕ) : Type 0 where

@@ -11,7 +11,7 @@ use Rattle.code.specs.Machine.{instr_at}
 use Rattle.code.specs.Meaning.{Vars, EvaluationResult, Gives, Completion, Through, Returns, and_then, tick, quiet_cycle, on_through, and_on, end_of_branch_or_iteration}
 use Rattle.code.proofs.Follows.{HasSizes, Follows, chain, wants}
 use Rattle.code.proofs.Instructions.{run, IsDepth, on_const, on_chop, on_branch, on_retsub, on_retsub_of_main}
-use Rattle.code.proofs.Pieces.{StandsAt, stands, ends, other_of, end_of, stands_either, ends_either, Tied, Evaluation, gone_on, flown, Evaluates, Effects}
+use Rattle.code.proofs.Pieces.{StandsAt, stands, stands_third, ends, other_of, end_of, stands_either, ends_either, Tied, Evaluation, gone_on, flown, Evaluates, Effects}
 
 module _ (program : Program) (e l n : ℕ) where
   -- where a function returns to doesn't depend on where it was
@@ -88,6 +88,20 @@ module _ (program : Program) (e l n : ℕ) where
       (B below f fs (at1 + 1) after depth frames r1 base
       (tied_on below (f ∷ fs) vars after depth frames trace r1 t sizes (omega (arith, h1, short))) sa.second.1)))
 
+  -- the statements behind others
+  goes_behind : (b : CodeAt) (ef : Evaluation Completion) → Effects program e l n b ef → (to end : ℕ) (below : List ℤ)
+      (f : Frame) (fs : List Frame) (vars : Vars) (depth frames : ℕ) (trace : List ℤ) → f.base ≡ length below →
+      Tied e l n below (f ∷ fs) vars [] depth frames trace →
+      StandsAt program to (b to) × (to + length (b to) ≡ end) → (after : Vars) (r : List ℤ) →
+      HasSizes e l after → length r ≤ n →
+      Follows e l n (ef after depth frames r) (wants program (run to below (f ∷ fs) after []) r)
+      (flown program end below f fs)
+  goes_behind b ef B to end below f fs vars depth frames trace base t there after r sizes short =
+      ends_at (to + length (b to)) end below f fs (ef after depth frames r)
+      (wants program (run to below (f ∷ fs) after []) r) there.1
+      (B below f fs to after depth frames r base (tied_on below (f ∷ fs) vars after depth frames trace r t sizes short)
+      there.0)
+
   pub when_law : (c s b : CodeAt) (ev : Evaluation ℤ) (ef_s ef_b : Evaluation Completion) →
       Evaluates program e l n c ev →
       Effects program e l n s ef_s → Effects program e l n b ef_b →
@@ -101,21 +115,11 @@ module _ (program : Program) (e l n : ℕ) where
       let at1 = at + length (c at) in
       let sp = stands program at1 (past s) b sc.second in
       let to = at1 + 1 + length (s (at1 + 1)) in
-      let to_is : at1 + length (past s at1) ≡ to = omega arith in
-      let sb : StandsAt program to (b to) = subst (λ (a : ℕ). StandsAt program a (b a)) to_is sp.second in
       let end = at + length ((c ⨾ past s ⨾ b) at) in
-      let whole : at1 + length (past s at1) + length (b (at1 + length (past s at1))) ≡ end =
-      ends at1 (past s) b ∙ ends at c (past s ⨾ b) in
-      let end_is : to + length (b to) ≡ end = ap (λ (a : ℕ). a + length (b a)) (sym to_is) ∙ whole in
       let k = flown program end below f fs in
-      let behind : (after : Vars) (r : List ℤ) → HasSizes e l after → length r ≤ n →
-      Follows e l n (ef_b after depth frames r) (wants program (run to below (f ∷ fs) after []) r) k =
-      λ after r sizes short.
-      ends_at (to + length (b to)) end below f fs (ef_b after depth frames r)
-      (wants program (run to below (f ∷ fs) after []) r) end_is
-      (B below f fs to after depth frames r base (tied_on below (f ∷ fs) vars after depth frames trace r t sizes short)
-      sb)
-      in
+      let behind =
+      goes_behind b ef_b B to end below f fs vars depth frames trace base t
+      (stands_third program c (past s) b at to st (omega arith)) in
       chain e l e l n (ev vars depth frames trace) (wants program (run at below (f ∷ fs) vars []) trace)
       (gone_on program at1 below (f ∷ fs) [])
       (λ x vars rest. quiet_cycle rest
@@ -172,21 +176,11 @@ module _ (program : Program) (e l n : ℕ) where
       let se = stands_either program at1 s t sp.first in
       let other = other_of at1 s in
       let to = end_of at1 s t in
-      let to_is : at1 + length (either s t at1) ≡ to = sym (ends_either at1 s t) in
-      let sb : StandsAt program to (b to) = subst (λ (a : ℕ). StandsAt program a (b a)) to_is sp.second in
       let end = at + length ((c ⨾ either s t ⨾ b) at) in
-      let whole : at1 + length (either s t at1) + length (b (at1 + length (either s t at1))) ≡ end =
-      ends at1 (either s t) b ∙ ends at c (either s t ⨾ b) in
-      let end_is : to + length (b to) ≡ end = ap (λ (a : ℕ). a + length (b a)) (sym to_is) ∙ whole in
       let k = flown program end below f fs in
-      let behind : (after : Vars) (r : List ℤ) → HasSizes e l after → length r ≤ n →
-      Follows e l n (ef_b after depth frames r) (wants program (run to below (f ∷ fs) after []) r) k =
-      λ after r sizes short.
-      ends_at (to + length (b to)) end below f fs (ef_b after depth frames r)
-      (wants program (run to below (f ∷ fs) after []) r) end_is
-      (B below f fs to after depth frames r base
-      (tied_on below (f ∷ fs) vars after depth frames trace r tied sizes short) sb)
-      in
+      let behind =
+      goes_behind b ef_b B to end below f fs vars depth frames trace base tied
+      (stands_third program c (either s t) b at to st (sym (ends_either at1 s t))) in
       let first =
       λ (vars : Vars) (rest : List ℤ). and_on (ef_s vars depth frames rest)
       (λ vars rest. end_of_branch_or_iteration program.profile depth rest (λ rest. ef_b vars depth frames rest)) in

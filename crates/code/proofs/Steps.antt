@@ -97,21 +97,13 @@ making_by short m a = maker_with m a
 abbrev count_by : Bool → Action → ℕ
 count_by short (ApplyBinop o) = if short then end_length o else 1
 count_by short (LogicMiddle o) = if short then middle_length o else 0
-count_by short (PushConstant value) = 1
-count_by short (FetchVariable v) = 1
-count_by short (StoreVariable v o) = 1
-count_by short BeginCall = 1
-count_by short (EndCall callee) = 1
-count_by short IfTest = 1
 count_by short ElsePart = 2
+count_by short EndWhile = 2
 count_by short EndIf = 0
 count_by short BeginWhile = 0
-count_by short WhileTest = 1
-count_by short EndWhile = 2
-count_by short GiveBack = 1
-count_by short Chop = 1
 count_by short (BeginFunction number parameters) = 0
 count_by short (EndFunction variables) = 0
+count_by short a = 1
 
 step_by : (short : Bool) (a : Action) → IsStep (λ m. making_by short m a) (count_by short a)
 step_by true (ApplyBinop o) = ended_step o
@@ -137,40 +129,12 @@ step_by short (EndFunction variables) = none_step
 made_by : (m : Maker) (a : Action) → maker_with m a ≡ making_by m.profile.short_circuit m a
 made_by m (ApplyBinop o) = refl
 made_by m (LogicMiddle o) = refl
-made_by m (PushConstant value) = refl
-made_by m (FetchVariable v) = refl
-made_by m (StoreVariable v o) = refl
-made_by m BeginCall = refl
-made_by m (EndCall callee) = refl
-made_by m IfTest = refl
-made_by m ElsePart = refl
-made_by m EndIf = refl
-made_by m BeginWhile = refl
-made_by m WhileTest = refl
-made_by m EndWhile = refl
-made_by m GiveBack = refl
-made_by m Chop = refl
-made_by m (BeginFunction number parameters) = refl
-made_by m (EndFunction variables) = refl
+made_by m a = refl
 
 counted_by : (p : Profile) (a : Action) → instructions p a ≡ count_by p.short_circuit a
 counted_by p (ApplyBinop o) = refl
 counted_by p (LogicMiddle o) = refl
-counted_by p (PushConstant value) = refl
-counted_by p (FetchVariable v) = refl
-counted_by p (StoreVariable v o) = refl
-counted_by p BeginCall = refl
-counted_by p (EndCall callee) = refl
-counted_by p IfTest = refl
-counted_by p ElsePart = refl
-counted_by p EndIf = refl
-counted_by p BeginWhile = refl
-counted_by p WhileTest = refl
-counted_by p EndWhile = refl
-counted_by p GiveBack = refl
-counted_by p Chop = refl
-counted_by p (BeginFunction number parameters) = refl
-counted_by p (EndFunction variables) = refl
+counted_by p a = refl
 
 -- each action makes as many instructions as it is said to
 pub length-maker_with : (m : Maker) (a : Action) →

@@ -1,9 +1,8 @@
 //! The instructions of a robot: where each comes from, and whether its line is entered at it.
 
-use crate::marks::is_entry;
 use code::Instr;
 use grammar::Callee;
-use notes::{NotedProgram, add_instruction, name_in};
+use notes::{NotedProgram, add_instruction};
 use std::alloc::{AllocError, Global};
 use tools::{Draft, Text};
 
@@ -12,7 +11,7 @@ pub fn add_code(text: &mut Draft, noted: &NotedProgram<'_>) -> Result<(), AllocE
     let reached = reached(text.alloc(), noted)?;
     for (address, is_reached) in reached.iter().enumerate() {
         let (line, function) = noted.position(address);
-        let column = column_of(noted, address);
+        let column = noted.note.positions.column(address);
         let how = if *is_reached {
             standing(noted, address)
         } else {
@@ -23,23 +22,15 @@ pub fn add_code(text: &mut Draft, noted: &NotedProgram<'_>) -> Result<(), AllocE
             "code\t{address}\t{line}\t{column}\t{how}\t{function}\t"
         );
         add_instruction(text, noted, address)?;
-        writeln!(text, "\t{}", name_in(noted, address));
+        writeln!(text, "\t{}", noted.named().name_in(address).unwrap_or(""));
     }
     text.add("\n");
     Ok(())
 }
 
-/// Returns the column that the instruction of an address comes from, 0 if there is none.
-pub fn column_of(noted: &NotedProgram<'_>, address: usize) -> u32 {
-    match noted.note.positions.place(address) {
-        Some(position) => position.column,
-        None => 0,
-    }
-}
-
 /// Returns the word for how an instruction stands to its line, to which a robot may come.
 fn standing(noted: &NotedProgram<'_>, address: usize) -> &'static str {
-    if !is_entry(noted, address) {
+    if !noted.named().is_entry(&noted.note.positions, address) {
         "inside"
     } else if is_jump(noted, address) {
         "jumps"
@@ -53,10 +44,10 @@ fn standing(noted: &NotedProgram<'_>, address: usize) -> &'static str {
 fn is_jump(noted: &NotedProgram<'_>, address: usize) -> bool {
     let next = address.saturating_add(1);
     let instrs = noted.program.instructions();
+    let positions = &noted.note.positions;
     match (instrs.get(address), instrs.get(next)) {
         (Some(Instr::Const(0)), Some(Instr::Branch(_))) => {
-            noted.note.line(address) == noted.note.line(next)
-                && column_of(noted, address) == column_of(noted, next)
+            positions.place(address) == positions.place(next)
         }
         _ => false,
     }
@@ -121,8 +112,10 @@ fn followers(noted: &NotedProgram<'_>, address: usize) -> [Option<usize>; 2] {
             None => [Some(usize::from(*to)), next],
         },
         Some(Instr::Fcall(Callee::Function(number))) => {
-            let begin = noted.program.addresses().get(usize::from(*number));
-            [begin.map(|begin| usize::from(*begin)), next]
+            match noted.program.addresses().get(usize::from(*number)) {
+                Some(begin) => [Some(usize::from(*begin)), next],
+                None => [None, next],
+            }
         }
         Some(_) => [next, None],
     }

@@ -8,7 +8,7 @@ use crate::sought_events::sought;
 use notes::NotedProgram;
 use settings::{MOST_CYCLES, value_number};
 use std::alloc::AllocError;
-use watching::Sought;
+use watching::{Sought, SoughtCycle};
 
 /// The most frames that are open.
 const MOST_OPEN: u32 = 1000;
@@ -20,10 +20,8 @@ pub enum Command<'a, 'm> {
     Nothing,
     /// Where the robot is after a cycle.
     At(u32),
-    /// The first cycle after one in which something happens.
-    Next(u32, Sought<'m>),
-    /// The last cycle before one in which something happens.
-    Last(u32, Sought<'m>),
+    /// The first cycle after one, or the last one before it, in which something happens.
+    Find(SoughtCycle, Sought<'m>),
     /// Cycles in which something happens and a condition holds.
     Pass(Pass<'m>),
     /// After a cycle, in the call with which this many frames are open, or in the innermost one for 0, the value of an
@@ -60,28 +58,12 @@ impl<'a, 'm> Command<'a, 'm> {
                 Ok(Command::Value(cycle_of(cycle)?, frames, words.trim()))
             }
             (["next", cycle, event, rest @ ..], _) => {
-                let after = cycle_of(cycle)?;
-                let sought = sought(event, rest, noted, marks)?;
-                match tail {
-                    None => Ok(Command::Next(after, sought)),
-                    Some(tail) => pass(noted, sought, (after, MOST_CYCLES), Which::First, tail),
-                }
+                let which = SoughtCycle::After(cycle_of(cycle)?);
+                find(noted, sought(event, rest, noted, marks)?, which, tail)
             }
             (["last", cycle, event, rest @ ..], _) => {
-                let before = cycle_of(cycle)?;
-                let sought = sought(event, rest, noted, marks)?;
-                match tail {
-                    None => Ok(Command::Last(before, sought)),
-                    Some(tail) => {
-                        pass(
-                            noted,
-                            sought,
-                            (0, before.saturating_sub(1)),
-                            Which::Last,
-                            tail,
-                        )
-                    }
-                }
+                let which = SoughtCycle::Before(cycle_of(cycle)?);
+                find(noted, sought(event, rest, noted, marks)?, which, tail)
             }
             (["all", first, last, event, rest @ ..], _) => {
                 let span = (cycle_of(first)?, cycle_of(last)?);
@@ -92,6 +74,27 @@ impl<'a, 'm> Command<'a, 'm> {
             (["code"], None) => Ok(Command::Code),
             (["quit"], None) => Ok(Command::Quit),
             (words, _) => Err(misread(words.first().copied().unwrap_or(";"))),
+        }
+    }
+}
+
+/// Reads what has to hold in the cycle that is looked for, if there is more than that something happens.
+fn find<'a, 'm>(
+    noted: &NotedProgram<'_>,
+    sought: Sought<'m>,
+    cycle: SoughtCycle,
+    tail: Option<&'a str>,
+) -> Result<Command<'a, 'm>, Refusal<'a>> {
+    let Some(tail) = tail else {
+        return Ok(Command::Find(cycle, sought));
+    };
+    match cycle {
+        SoughtCycle::After(after) => {
+            pass(noted, sought, (after, MOST_CYCLES), Which::First, tail)
+        }
+        SoughtCycle::Before(before) => {
+            let last = before.saturating_sub(1);
+            pass(noted, sought, (0, last), Which::Last, tail)
         }
     }
 }

@@ -5,7 +5,7 @@ use crate::refusals::Refusal;
 use settings::MOST_CYCLES;
 
 /// How the number of a hit compares with another one.
-#[derive(Clone, Copy, PartialEq, Eq)]
+#[derive(Clone, Copy)]
 enum Comparison {
     Is,
     IsAtLeast,
@@ -27,7 +27,7 @@ const WRITTEN: [(&str, Comparison); 6] = [
 ];
 
 /// The hits that count, of those that are numbered from 1.
-#[derive(Clone, Copy, PartialEq, Eq)]
+#[derive(Clone, Copy)]
 pub struct Count {
     comparison: Comparison,
     number: u32,

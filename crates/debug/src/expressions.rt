@@ -4,9 +4,9 @@
 use crate::refusals::Refusal;
 use arith::binop;
 use code::{Instr, Machine};
-use derivations::{Compiled, Located, compile, locate};
+use derivations::{Compiled, Located, compile, locate, name_text};
 use grammar::{Name, ParseFault, Var};
-use notes::{NotedProgram, name_text};
+use notes::NotedProgram;
 use std::alloc::{AllocError, Global};
 use tokens::{MemoryFeed, Punctuator, Token, WINDOW_BYTES};
 use tools::{Draft, Text};
@@ -146,7 +146,8 @@ fn is_called(tokens: &[Located], index: usize) -> bool {
 
 /// Reports whether a name is that of an external, or of a variable of the function of this number.
 fn is_seen(noted: &NotedProgram<'_>, function: usize, name: &Name) -> bool {
-    is_among(noted.note.names.externals(), name) || is_among(variables(noted, function), name)
+    let variables = noted.named().variables(function);
+    is_among(noted.note.names.externals(), name) || is_among(variables, name)
 }
 
 /// Reports whether a name is one of some.
@@ -159,14 +160,6 @@ fn is_among(names: &[Name], name: &Name) -> bool {
     false
 }
 
-/// Returns the names of the variables of the function of this number.
-fn variables<'a>(noted: &NotedProgram<'a>, function: usize) -> &'a [Name] {
-    match noted.note.names.functions().get(function) {
-        Some(function) => function.variables(),
-        None => &[],
-    }
-}
-
 /// Returns a source whose `main` has the variables of a function in the same order, and an expression as its result.
 fn source_of(
     alloc: Global,
@@ -177,7 +170,7 @@ fn source_of(
     let mut text = Draft::new(alloc);
     add_declarations(&mut text, noted.note.names.externals());
     text.add("main(){");
-    add_declarations(&mut text, variables(noted, function));
+    add_declarations(&mut text, noted.named().variables(function));
     text.add("return(");
     text.add(words);
     text.add("\n);}");
@@ -242,7 +235,7 @@ impl Expressions {
         noted: &NotedProgram<'_>,
         machine: &Machine,
     ) -> Result<Option<i32>, AllocError> {
-        let function = noted.function(machine.address());
+        let function = noted.named().function(machine.address());
         match self.list.get_mut(function) {
             Some(Some(expression)) => {
                 Ok(Some(expression.value(machine, usize::from(machine.home()))?))
@@ -257,8 +250,9 @@ fn is_marked(noted: &NotedProgram<'_>, function: usize, marks: Option<&[bool]>) 
     let Some(marks) = marks else {
         return true;
     };
+    let named = noted.named();
     for (address, is_marked) in marks.iter().enumerate() {
-        if *is_marked && noted.function(address) == function {
+        if *is_marked && named.function(address) == function {
             return true;
         }
     }

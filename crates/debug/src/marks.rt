@@ -1,7 +1,6 @@
 //! Marks of instructions: those of lines and of functions.
 
 use crate::refusals::Refusal;
-use code::Instr;
 use notes::NotedProgram;
 use settings::value_number;
 use std::alloc::{AllocError, Global};
@@ -15,9 +14,10 @@ pub fn mark_lines<'a>(
     are_all: bool,
 ) -> Result<(), Refusal<'a>> {
     let lines = lines_of(*marks.allocator(), list)?;
+    let (named, positions) = (noted.named(), &noted.note.positions);
     for address in 0..noted.program.instructions().len() {
-        let is_marked = is_listed(lines.as_slice(), noted.note.line(address))
-            && (are_all || is_entry(noted, address));
+        let is_marked = is_listed(lines.as_slice(), positions.line(address))
+            && (are_all || named.is_entry(positions, address));
         marks.push(is_marked).map_err(AllocError::from)?;
     }
     if marks.as_slice().contains(&true) {
@@ -32,34 +32,11 @@ pub fn mark_function(
     noted: &NotedProgram<'_>,
     function: usize,
 ) -> Result<(), AllocError> {
+    let named = noted.named();
     for address in 0..noted.program.instructions().len() {
-        marks.push(noted.function(address) == function)?;
+        marks.push(named.function(address) == function)?;
     }
     Ok(())
-}
-
-/// Reports whether the line of an instruction is entered at it: it is the line's first one, or a call or a jump leads to
-/// it from another line, or back within the line.
-pub fn is_entry(noted: &NotedProgram<'_>, address: usize) -> bool {
-    let before = address.saturating_sub(1);
-    address == 0
-        || noted.note.line(before) != noted.note.line(address)
-        || noted.function(before) != noted.function(address)
-        || is_jumped_to(noted, address)
-}
-
-/// Reports whether a jump leads to an address from another line, or from a later address.
-fn is_jumped_to(noted: &NotedProgram<'_>, address: usize) -> bool {
-    let line = noted.note.line(address);
-    for (from, instr) in noted.program.instructions().iter().enumerate() {
-        if let Instr::Branch(to) = instr
-            && usize::from(*to) == address
-            && (from >= address || noted.note.line(from) != line)
-        {
-            return true;
-        }
-    }
-    false
 }
 
 /// Reads a list of lines: each part is a line, or the first and the last of some.

@@ -2,13 +2,12 @@
 
 ghost use Rattle.std.specs.Prelude.{◌<◌, ◌≤◌, length};
 
-use crate::codes::column_of;
 use crate::sessions::Session;
 use arena::MOST_ROBOTS;
 use code::Machine;
 use std::alloc::{AllocError, Global};
 use tools::{Draft, Text};
-use watching::{Pilot, moment_at};
+use watching::Pilot;
 
 /// A call that is open.
 #[derive(Clone, Copy, Drop)]
@@ -54,22 +53,15 @@ pub fn add_calls(
     requires most { length pilots.old ≤ MOST_ROBOTS }
     requires inside { session.now.robot < length pilots.old }
 {
-    let Session {
-        wish,
-        robot,
-        noted,
-        ..
-    } = *session;
-    let (seed, number, limit) = (wish.seed(), wish.first(), wish.limit());
-    let _ = moment_at(pilots, robot, cycle, seed, number, limit);
-    for call in &open_calls(text.alloc(), pilots[robot].machine())? {
+    let machine = session.machine_at(pilots, cycle);
+    for call in &open_calls(text.alloc(), machine)? {
         let OpenCall {
             frames,
             address,
             ..
         } = *call;
-        let (line, function) = noted.position(address);
-        let column = column_of(&noted, address);
+        let (line, function) = session.noted.position(address);
+        let column = session.noted.note.positions.column(address);
         writeln!(
             text,
             "call\t{frames}\t{address}\t{line}\t{column}\t{function}"

@@ -43,48 +43,47 @@ pub enum Refusal<'a> {
 
 impl<'a> fmt::Display for Refusal<'a> {
     fn fmt<W: fmt::Write>(&self, f: &mut fmt::Formatter<W>) -> fmt::Result {
-        match *self {
-            Refusal::NoText => write!(f, "the line is no text"),
-            Refusal::Command(word) => write!(
-                f,
-                "{}: not at, next, last, all, value, calls, code or quit",
-                Plain(word)
-            ),
-            Refusal::Event(word) => write!(
-                f,
-                "{}: not line, in, ask, restart, hurt, hit, change or value",
-                Plain(word)
-            ),
-            Refusal::Form(form) => write!(f, "the form is {form}"),
-            Refusal::Number(word, least, most) => {
-                write!(f, "{}: no number from {least} to {most}", Plain(word))
+        let (word, says) = match *self {
+            Refusal::NoText => return f.write_str("the line is no text"),
+            Refusal::Memory => return f.write_str("out of memory"),
+            Refusal::Form(form) => {
+                f.write_str("the form is ")?;
+                return f.write_str(form);
             }
-            Refusal::Lines(word) => write!(f, "{}: no lines, as 3 or 5,8-12", Plain(word)),
-            Refusal::NoCode(word) => write!(f, "{}: no code in these lines", Plain(word)),
-            Refusal::Function(word) => write!(f, "{}: no intrinsic function", Plain(word)),
-            Refusal::Name(word) => write!(f, "{}: no variable", Plain(word)),
-            Refusal::Several(word) => write!(
-                f,
-                "{}: in several functions, so it wants one: FUNCTION.NAME",
-                Plain(word)
-            ),
-            Refusal::Expression(words) => write!(f, "{}: no expression", Plain(words)),
-            Refusal::Acts(words) => {
-                write!(
-                    f,
-                    "{}: an expression calls nothing and sets nothing",
-                    Plain(words)
+            Refusal::Call(frames) => {
+                return write!(f, "{frames}: no call is open with so many frames");
+            }
+            Refusal::Number(word, least, most) => {
+                return write!(f, "{}: no number from {least} to {most}", Plain(word));
+            }
+            Refusal::Command(word) => {
+                (word, "not at, next, last, all, value, calls, code or quit")
+            }
+            Refusal::Event(word) => {
+                (
+                    word,
+                    "not line, in, ask, restart, hurt, hit, change or value",
                 )
             }
-            Refusal::Count(words) => write!(f, "{}: not as 3, >= 3 or % 3", Plain(words)),
-            Refusal::Part(words) => write!(
-                f,
-                "{}: not where EXPRESSION, count NUMBER, or after all show EXPRESSION",
-                Plain(words)
+            Refusal::Lines(word) => (word, "no lines, as 3 or 5,8-12"),
+            Refusal::NoCode(word) => (word, "no code in these lines"),
+            Refusal::Function(word) => (word, "no intrinsic function"),
+            Refusal::Name(word) => (word, "no variable"),
+            Refusal::Several(word) => (
+                word,
+                "in several functions, so it wants one: FUNCTION.NAME",
             ),
-            Refusal::Call(frames) => write!(f, "{frames}: no call is open with so many frames"),
-            Refusal::Memory => write!(f, "out of memory"),
-        }
+            Refusal::Expression(words) => (words, "no expression"),
+            Refusal::Acts(words) => (words, "an expression calls nothing and sets nothing"),
+            Refusal::Count(words) => (words, "not as 3, >= 3 or % 3"),
+            Refusal::Part(words) => {
+                (
+                    words,
+                    "not where EXPRESSION, count NUMBER, or after all show EXPRESSION",
+                )
+            }
+        };
+        write!(f, "{}: {says}", Plain(word))
     }
 }
 

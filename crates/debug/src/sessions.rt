@@ -8,12 +8,13 @@ use crate::open_calls::add_calls;
 use crate::refusals::Refusal;
 use crate::values::add_value;
 use arena::MOST_ROBOTS;
+use code::Machine;
 use notes::{NotedProgram, Sources, add_moment};
 use settings::Settings;
 use std::io::{BufRead, ErrorKind};
 use std::str;
 use tools::{Draft, Fault, Text, write_text};
-use watching::{Pilot, next_cycle, previous_cycle};
+use watching::{Pilot, moment_at, sought_cycle};
 
 /// What the commands of a session are about: a match, and a robot in it.
 #[derive(Clone, Copy)]
@@ -26,6 +27,21 @@ pub struct Session<'a> {
     pub robot: usize,
     /// The robot's program, and what is known of its file.
     pub noted: NotedProgram<'a>,
+}
+
+impl Session<'_> {
+    /// Plays the match up to the moment after a cycle, and returns the robot's machine then.
+    pub fn machine_at<'p>(&self, pilots: &'p mut [Pilot<'_>], cycle: u32) -> &'p Machine
+        requires some { 2 ≤ length pilots.old }
+        requires most { length pilots.old ≤ MOST_ROBOTS }
+        requires inside { self.now.robot < length pilots.old }
+    {
+        let (wish, robot) = (self.wish, self.robot);
+        let (seed, number, limit) = (wish.seed(), wish.first(), wish.limit());
+        let _ = moment_at(pilots, robot, cycle, seed, number, limit);
+        let played = &*pilots;
+        played[robot].machine()
+    }
 }
 
 /// Reads commands from standard input, and writes the answer to each, up to `quit` or the end of input. A line about
@@ -118,12 +134,8 @@ fn add_answer<'a>(
         Command::Nothing => {}
         Command::Quit => return Ok(false),
         Command::At(cycle) => add_moment(text, wish, &noted, pilots, robot, cycle)?,
-        Command::Next(cycle, sought) => {
-            let found = next_cycle(pilots, robot, &sought, cycle, seed, number, limit);
-            add_found(text, found);
-        }
-        Command::Last(cycle, sought) => {
-            let found = previous_cycle(pilots, robot, &sought, cycle, seed, number, limit);
+        Command::Find(which, sought) => {
+            let found = sought_cycle(pilots, robot, &sought, which, seed, number, limit);
             add_found(text, found);
         }
         Command::Pass(mut pass) => pass.play(text, &session, pilots)?,

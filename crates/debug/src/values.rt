@@ -10,7 +10,7 @@ use arena::MOST_ROBOTS;
 use code::Machine;
 use std::alloc::{AllocError, Global};
 use tools::Draft;
-use watching::{Pilot, moment_at};
+use watching::Pilot;
 
 /// Adds the value of an expression after a cycle: in the call with which this many frames are open, or in the innermost
 /// one for 0.
@@ -26,20 +26,13 @@ pub fn add_value<'a>(
     requires most { length pilots.old ≤ MOST_ROBOTS }
     requires inside { session.now.robot < length pilots.old }
 {
-    let Session {
-        wish,
-        robot,
-        noted,
-        ..
-    } = *session;
-    let (seed, number, limit) = (wish.seed(), wish.first(), wish.limit());
-    let _ = moment_at(pilots, robot, cycle, seed, number, limit);
-    let machine = pilots[robot].machine();
+    let machine = session.machine_at(pilots, cycle);
     let Some((address, home)) = call_of(text.alloc(), machine, frames)? else {
         return Err(Refusal::Call(frames));
     };
-    let function = noted.function(address);
-    let mut expression = Expression::read(text.alloc(), &noted, function, words)?;
+    let noted = &session.noted;
+    let function = noted.named().function(address);
+    let mut expression = Expression::read(text.alloc(), noted, function, words)?;
     let value = expression.value(machine, home)?;
     writeln!(text, "value\t{value}\n");
     Ok(())

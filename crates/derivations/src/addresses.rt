@@ -1,11 +1,12 @@
 //! The position in a source that each instruction of its program comes from.
 
-ghost use Rattle.std.specs.Prelude.{◌≡◌, ◌≤◌, ◌==◌, ◌++◌, ◌∷◌, [], true, false, length, slice_get, IfSome};
+ghost use Rattle.std.specs.Prelude.{◌≡◌, ◌≤◌, ◌==◌, ◌++◌, ◌∷◌, [], true, false, None, Some, length, slice_get, IfSome};
 ghost use Rattle.grammar.specs.Grammar.{is_lexical_error};
 ghost use Rattle.tokens.specs.Tokens.{is_last, tokens};
 ghost use Rattle.derivations.specs.Columns.{position_in, token_positions};
 ghost use Rattle.derivations.specs.Positions.{ArePositions};
 ghost use Rattle.derivations.specs.Walks.{IsLocated, Passes, positions_next};
+ghost use Rattle.derivations.specs.declared.addresses.SourcePosition.{SourcePosition};
 
 use crate::locations::{Finder, Located};
 use crate::steps::{Automaton, StepEnd, place_of};
@@ -64,6 +65,28 @@ impl SourcePositions {
         ensures { result ≡ slice_get self.now address }
     {
         self.places.as_slice().get(address).copied()
+    }
+
+    /// Returns the line of the position of an address, 0 past the last instruction.
+    pub fn line(&self, address: usize) -> u32
+        ensures some { (p : SourcePosition) → slice_get self.now address ≡ Some p → result ≡ p.line }
+        ensures none { slice_get self.now address ≡ None → result ≡ 0 }
+    {
+        match self.place(address) {
+            Some(position) => position.line,
+            None => 0,
+        }
+    }
+
+    /// Returns the column of the position of an address, 0 past the last instruction.
+    pub fn column(&self, address: usize) -> u32
+        ensures some { (p : SourcePosition) → slice_get self.now address ≡ Some p → result ≡ p.column }
+        ensures none { slice_get self.now address ≡ None → result ≡ 0 }
+    {
+        match self.place(address) {
+            Some(position) => position.column,
+            None => 0,
+        }
     }
 
     /// Returns the positions, by the addresses.

@@ -12,7 +12,7 @@ use crate::addresses::{SourcePositions, lines};
 use code::{Maker, Program};
 use grammar::{ParseFault, Pools, Profile};
 use parser::parse;
-use tokens::Feed;
+use tokens::{Feed, MemoryFeed, WINDOW_BYTES};
 
 /// What a source compiles to: its program, and its names, which the program hasn't.
 #[derive(Drop)]
@@ -42,6 +42,38 @@ pub fn compile<F: Feed>(profile: Profile, feed: &mut F) -> Result<Compiled, Pars
     let names = parse(feed, &mut maker)?;
     let program = maker.finish(&names);
     Ok(Compiled { program, names })
+}
+
+/// What a source compiles to, and where in it each instruction comes from.
+#[derive(Drop)]
+pub struct CompiledSource {
+    /// The program.
+    pub program: Program,
+    /// The names of its externals, functions and variables.
+    pub names: Pools,
+    /// The position of each instruction, as `positions_of` finds them.
+    pub positions: Option<SourcePositions>,
+}
+
+/// Compiles a source in memory by a profile, as `compile` does, and finds the positions of its instructions.
+///
+/// # Errors
+/// `Source` with the first fault.
+pub fn compile_source(profile: Profile, source: &[u8]) -> Result<CompiledSource, ParseFault>
+    ensures compiles { IfOk result (λ made.
+        IsCompiled profile source.now (record { program = made.program; names = made.names })) }
+    ensures fault { IfErr result (IsFirstFault profile source.now) }
+    ensures positions { IfOk result (λ made. IfSome made.positions (λ positions.
+        ArePositions made.program.profile (tokens source.now) (token_positions source.now) positions)) }
+{
+    let mut feed = MemoryFeed::new(source, WINDOW_BYTES);
+    let Compiled { program, names } = compile(profile, &mut feed)?;
+    let positions = positions_of(&program, source);
+    Ok(CompiledSource {
+        program,
+        names,
+        positions,
+    })
 }
 
 /// Finds the position of each instruction of a program in the source that it was compiled from: that of the token that

@@ -2,7 +2,7 @@
 
 use crate::chances::compared;
 use crate::rewriting::Rewrite;
-use crate::steps::body_at;
+use crate::steps::{body_at, own_body};
 use crate::variables::set_by;
 use crate::warnings::{Said, Subject};
 use derivations::{Node, NodeKind};
@@ -62,11 +62,7 @@ fn between(op: Op, left: (i64, i64), right: (i64, i64)) -> Option<(i64, i64)> {
 
 /// Returns the index of the node of the value to which a function's own variable is set, if it is set once.
 fn only_set(subject: &Subject<'_>, index: usize, var: Var) -> Option<usize> {
-    let body = body_at(subject.tree, index)?;
-    let is_own = matches!(var, Var::Local(number) if usize::from(number) >= body.parameters);
-    if !is_own {
-        return None;
-    }
+    let body = own_body(subject, index, var)?;
     let mut only = None;
     for at in body.first..body.end {
         let node = subject.tree.get(at)?;

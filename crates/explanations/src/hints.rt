@@ -11,8 +11,8 @@ use crate::members::add_method;
 use crate::notes::Note;
 use crate::remarks::add_remark;
 use crate::rewriting::{Rewrite, add_written};
-use crate::told::{spelling_of, text_of};
-use derivations::Located;
+use crate::told::spelling_of;
+use derivations::{Located, name_text};
 use grammar::Intrinsic;
 
 /// A hint.
@@ -162,7 +162,7 @@ fn add_halved(note: &mut Note, source: &[u8], tokens: &[Located], index: usize) 
     match (name, tokens.get(index), tokens.get(index.saturating_add(1))) {
         (Some(name), Some(operator), Some(value)) => {
             note.add("write `");
-            note.add(text_of(&name));
+            note.add(name_text(&name));
             note.push(' ');
             note.add(spelling_of(source, operator));
             note.push(' ');

@@ -22,25 +22,21 @@ pub fn warn_of_kept(
         return false;
     };
     let var = Var::Local(number);
-    if let Some(token) = grown(subject, body, var, set) {
-        out.warn(
+    let (token, words) = if let Some(token) = grown(subject, body, var, set) {
+        (
             token,
-            Said::Named(
-                " is 0 at the beginning of each call: declare it outside of the functions, and it keeps its value",
-            ),
-        );
-        return true;
-    }
-    if let Some(token) = looked(subject, body, var, set) {
-        out.warn(
+            " is 0 at the beginning of each call: declare it outside of the functions, and it keeps its value",
+        )
+    } else if let Some(token) = looked(subject, body, var, set) {
+        (
             token,
-            Said::Named(
-                " is the answer of one question before this loop, and stays as it is: ask again in the loop",
-            ),
-        );
-        return true;
-    }
-    false
+            " is the answer of one question before this loop, and stays as it is: ask again in the loop",
+        )
+    } else {
+        return false;
+    };
+    out.warn(token, Said::Named(words));
+    true
 }
 
 /// Returns the token at which the node of an index, the first that sets a variable, changes what it was, in a function that

@@ -4,10 +4,9 @@ use crate::calls::{DEGREES, OTHERS};
 use crate::hints::Hint;
 use crate::indices::{name_at, token_at};
 use crate::notes::Note;
-use crate::pieces::{add_name, add_piece, argument};
+use crate::pieces::{add_name, add_piece, argument, open_bracket};
 use crate::rewriting::Rewrite;
 use crate::scenes::Scene;
-use crate::told::text_of;
 use derivations::Located;
 use std::str;
 use tokens::{Punctuator, Token};
@@ -31,17 +30,7 @@ pub fn on_named_arguments(scene: &Scene<'_>) -> Option<Hint> {
 
 /// Returns the index of the name of the call that the token of an index is an argument of.
 fn call_around(tokens: &[Located], index: usize) -> Option<usize> {
-    let mut depth = 0usize;
-    for number in 0..index {
-        let at = index.saturating_sub(number);
-        match token_at(tokens, at) {
-            Token::Punctuator(Punctuator::CloseRound) => depth = depth.saturating_add(1),
-            Token::Punctuator(Punctuator::OpenRound) if depth == 0 => return at.checked_sub(1),
-            Token::Punctuator(Punctuator::OpenRound) => depth = depth.saturating_sub(1),
-            _ => {}
-        }
-    }
-    None
+    open_bracket(tokens, index.saturating_add(1))?.checked_sub(1)
 }
 
 /// Reports whether a name that begins an argument is right before the token that doesn't fit.
@@ -156,7 +145,7 @@ pub fn add_exchanged_names(note: &mut Note, tokens: &[Located], call: usize) -> 
 fn names(tokens: &[Located], call: usize, number: usize, names: &[&str]) -> bool {
     match argument(tokens, call, number) {
         Some((begin, _)) => match name_at(tokens, begin) {
-            Some(name) => is_among(names, text_of(&name).as_bytes()),
+            Some(name) => is_among(names, name.as_bytes()),
             None => false,
         },
         None => false,

@@ -6,8 +6,7 @@ use crate::assigning::value_end;
 use crate::heads::behind_brackets;
 use crate::indices::{is_called, name_at, token_at};
 use crate::notes::Note;
-use crate::told::text_of;
-use derivations::{Located, spelled};
+use derivations::{Located, name_text, spelled};
 use tokens::{Keyword, Punctuator, Token};
 
 /// The most tokens of a piece that is quoted.
@@ -39,7 +38,7 @@ pub fn add_piece(note: &mut Note, tokens: &[Located], first: usize, end: usize) 
 /// Adds a token as it is written.
 fn add_spelled(note: &mut Note, token: &Token) -> Option<()> {
     match token {
-        Token::Name(name) => note.add(text_of(name)),
+        Token::Name(name) => note.add(name_text(name)),
         Token::Constant(value) => note.number(u64::from(*value)),
         Token::Punctuator(punctuator) => note.add(spelled(*punctuator)),
         Token::Keyword(word) => note.add(word_of(*word)?),
@@ -67,7 +66,10 @@ pub fn operand_before(tokens: &[Located], index: usize) -> Option<usize> {
     match token_at(tokens, last) {
         Token::Name(_) | Token::Constant(_) => Some(last),
         Token::Punctuator(Punctuator::CloseRound) => {
-            let open = opening(tokens, last)?;
+            let open = open_bracket(tokens, last)?;
+            if last.saturating_sub(open) >= MOST_QUOTED {
+                return None;
+            }
             let before = open.saturating_sub(1);
             Some(if name_at(tokens, before).is_some() {
                 before
@@ -80,18 +82,16 @@ pub fn operand_before(tokens: &[Located], index: usize) -> Option<usize> {
     }
 }
 
-/// Returns the index of the bracket that the one of an index closes.
-fn opening(tokens: &[Located], close: usize) -> Option<usize> {
+/// Returns the index of the innermost bracket that is open before an index.
+pub fn open_bracket(tokens: &[Located], index: usize) -> Option<usize> {
     let mut depth = 0usize;
-    for number in 0..MOST_QUOTED {
-        let at = close.checked_sub(number)?;
+    for number in 0..index {
+        let at = index.saturating_sub(number).saturating_sub(1);
         match token_at(tokens, at) {
             Token::Punctuator(Punctuator::CloseRound) => depth = depth.saturating_add(1),
+            Token::Punctuator(Punctuator::OpenRound) if depth == 0 => return Some(at),
             Token::Punctuator(Punctuator::OpenRound) => depth = depth.saturating_sub(1),
             _ => {}
-        }
-        if depth == 0 {
-            return Some(at);
         }
     }
     None
@@ -140,7 +140,7 @@ pub fn add_argument(note: &mut Note, tokens: &[Located], call: usize, number: us
 /// Adds the name of the token of an index.
 pub fn add_name(note: &mut Note, tokens: &[Located], index: usize) -> Option<()> {
     let name = name_at(tokens, index)?;
-    note.add(text_of(&name));
+    note.add(name_text(&name));
     Some(())
 }
 

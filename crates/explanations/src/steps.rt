@@ -16,6 +16,13 @@ pub fn body_at(tree: &SourceTree, index: usize) -> Option<&Body> {
     None
 }
 
+/// Returns the body of the function that the node of an index is in, if a variable is its own, and no parameter.
+pub fn own_body<'a>(subject: &Subject<'a>, index: usize, var: Var) -> Option<&'a Body> {
+    let body = body_at(subject.tree, index)?;
+    let is_own = matches!(var, Var::Local(number) if usize::from(number) >= body.parameters);
+    is_own.then_some(body)
+}
+
 /// Reports whether a node calls this intrinsic function.
 /// It isn't inlined, since the page's module is to be small.
 #[inline(never)]
@@ -185,11 +192,7 @@ pub fn only_value(subject: &Subject<'_>, index: usize) -> Option<i32> {
     let NodeKind::Fetch(var) = node.kind else {
         return value;
     };
-    let body = body_at(subject.tree, index)?;
-    let is_own = matches!(var, Var::Local(number) if usize::from(number) >= body.parameters);
-    if !is_own {
-        return None;
-    }
+    let body = own_body(subject, index, var)?;
     let mut only = None;
     for at in body.first..body.end {
         if let Some(node) = subject.tree.get(at)

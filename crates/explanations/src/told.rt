@@ -2,16 +2,16 @@
 
 use crate::letters::shown_at;
 use crate::notes::Note;
-use derivations::{Located, spelled};
+use derivations::{Located, name_text, spelled};
 use std::str;
-use tokens::{Name, Token};
+use tokens::Token;
 
 /// Adds what a token is: its kind, and how it is spelled.
 pub fn add_token(note: &mut Note, source: &[u8], located: &Located) {
     match located.token {
         Token::Name(name) => {
             note.add("the name ");
-            note.quote(text_of(&name));
+            note.quote(name_text(&name));
         }
         Token::Keyword(_) => {
             note.add("the word ");
@@ -79,9 +79,4 @@ pub fn character_at(source: &[u8], at: usize) -> Option<char> {
 pub fn spelling_of<'a>(source: &'a [u8], located: &Located) -> &'a str {
     let bytes = source.get(located.start()..located.end()).unwrap_or(&[]);
     str::from_utf8(bytes).unwrap_or("?")
-}
-
-/// Returns a name as text. Names are ASCII.
-pub fn text_of(name: &Name) -> &str {
-    str::from_utf8(name.as_bytes()).unwrap_or("?")
 }

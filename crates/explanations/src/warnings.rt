@@ -18,11 +18,10 @@ use crate::rewriting::{Rewrite, add_written};
 use crate::rows::warn_of_row;
 use crate::searches::{Search, declared};
 use crate::statements::warn_of_statement;
-use crate::told::text_of;
 use crate::values::{warn_of_operator, warn_of_store};
 use crate::variables::{is_truth, warn_of_variables};
 use arrayvec::ArrayVec;
-use derivations::{Located, Node, NodeKind, SourceTree};
+use derivations::{Located, Node, NodeKind, SourceTree, name_text};
 use grammar::{Diagnostic, Profile, intrinsic_named};
 use tokens::{Keyword, Punctuator, Token};
 
@@ -164,7 +163,7 @@ impl Warning {
             Meant::Call => {
                 note.add("; perhaps `");
                 if let Some(name) = name_at(tokens, self.token) {
-                    note.add(text_of(&name));
+                    note.add(name_text(&name));
                 }
                 note.add("()` is meant");
             }
@@ -187,7 +186,7 @@ fn add_used(note: &mut Note, tokens: &[Located], token: usize) {
 /// Adds the name that the token of an index is.
 fn add_name(note: &mut Note, tokens: &[Located], token: usize) {
     if let Some(name) = name_at(tokens, token) {
-        note.quote(text_of(&name));
+        note.quote(name_text(&name));
     }
 }
 
@@ -204,7 +203,7 @@ fn add_unchanged(note: &mut Note, tokens: &[Located], token: usize) {
         if add_asked(&mut own, tokens, token).is_some() {
             note.add(own.as_str());
         } else {
-            note.add(text_of(&name));
+            note.add(name_text(&name));
             note.add(" += 1");
         }
         note.add("` there");
@@ -243,7 +242,7 @@ fn add_grouped(note: &mut Note, tokens: &[Located], percent: usize) {
             Token::Constant(more),
             Token::Constant(whole),
         ) => {
-            note.add(text_of(&name));
+            note.add(name_text(&name));
             note.count(" + ", u64::from(more), ")");
             note.count(" % ", u64::from(whole), "`");
         }

@@ -4,9 +4,9 @@ use crate::chains::Link;
 use crate::facts::{Facts, Part};
 use crate::ways::Stretch;
 use cycles::Span;
+use derivations::name_text;
 use grammar::Intrinsic;
 use room::Room;
-use std::str;
 use tools::{Text, add_left, add_right, visible};
 
 /// The width of the longest name of a function that is laid out in a column.
@@ -110,7 +110,7 @@ fn add_chain(text: &mut impl Text, links: &[Link]) {
 fn add_circle(text: &mut impl Text, links: &[Link]) {
     text.add("no bound: ");
     if let Some(first) = links.first() {
-        text.add(name_of(first));
+        text.add(name_text(&first.name));
         text.add(" calls itself");
         add_place(text, first);
         text.add(")");
@@ -126,7 +126,7 @@ fn add_links(text: &mut impl Text, links: &[Link]) {
     let mut is_first = true;
     for link in links {
         text.add(if is_first { "" } else { ", " });
-        text.add(name_of(link));
+        text.add(name_text(&link.name));
         add_place(text, link);
         match link.variables {
             0 => text.add(")"),
@@ -145,11 +145,6 @@ fn add_links(text: &mut impl Text, links: &[Link]) {
 fn add_place(text: &mut impl Text, link: &Link) {
     text.add(" (line ");
     text.number(u64::from(link.line));
-}
-
-/// Returns the name of a function.
-fn name_of(link: &Link) -> &str {
-    str::from_utf8(link.name.as_bytes()).unwrap_or("?")
 }
 
 /// Adds the room that is needed, beside what the profile gives.
@@ -199,11 +194,7 @@ fn add_part(text: &mut impl Text, part: &Part, what: &str, never: &str) {
 
 /// Adds the name of a function, or of that in which a loop stands, in a column.
 fn add_name(text: &mut impl Text, part: &Part) {
-    add_left(
-        text,
-        str::from_utf8(part.name.as_bytes()).unwrap_or("?"),
-        NAMES,
-    );
+    add_left(text, name_text(&part.name), NAMES);
 }
 
 /// Adds how much there is at least and at most.

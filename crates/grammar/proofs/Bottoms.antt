@@ -21,6 +21,7 @@ use Rattle.grammar.specs.Profile.{Profile}
 use Rattle.grammar.specs.Scope.{Scope}
 use Rattle.grammar.proofs.AfterSteps.{IfStepped, if_matched, if_named, if_constant, if_replaced, after_step}
 use Rattle.grammar.proofs.LastTokens.{EndsWithLast}
+use Rattle.grammar.proofs.Weight.{unary_level}
 
 -- the end, and what leads to it
 abbrev is_bottom : Item → Bool
@@ -77,7 +78,7 @@ head_fits next after = refl
 choice_fits : (symbol : Symbol) (next after : Token) → fits (is_bottom (Part symbol)) (choice symbol next after) ≡ true
 choice_fits Head next after = head_fits next after
 choice_fits Expression next after = expression_fits next after
-choice_fits (Level n) next after = level_fits n (nat_lt n 11)
+choice_fits (Level n) next after = level_fits n (nat_lt n unary_level)
 choice_fits (Tail n) (token.Punctuator m) after = tail_fits n (operator_at n (token.Punctuator m)) m
 choice_fits (Tail n) next after = refl
 choice_fits Primary next after = primary_fits next after

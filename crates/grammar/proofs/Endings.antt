@@ -17,7 +17,7 @@ use Rattle.grammar.specs.Operators.{operator_at, store_of}
 use Rattle.grammar.specs.Scope.{Scope}
 use Rattle.grammar.proofs.AfterSteps.{IfStepped, if_matched, if_named, if_constant, if_replaced, if_sound}
 use Rattle.grammar.proofs.Runs.{stays}
-use Rattle.grammar.proofs.Weight.{cost, costs, credit_of, credit, weight}
+use Rattle.grammar.proofs.Weight.{cost, costs, credit_of, credit, weight, unary_level}
 
 abbrev load : List Item → ℕ
 load stack = costs stack + credit stack
@@ -53,12 +53,12 @@ less m n e = grind (arith, nat_tests)
 most : (m n : ℕ) → nat_le m n ≡ true → m ≤ n
 most m n e = grind (arith, nat_tests)
 
-level_lighter : (n : ℕ) (b : Bool) → nat_lt n 11 ≡ b →
+level_lighter : (n : ℕ) (b : Bool) → nat_lt n unary_level ≡ b →
     is_lighter (Level n) (if b then Some (Part (Level (n + 1)) ∷ Part (Tail n) ∷ []) else Some (Part Unary ∷ [])) ≡ true
 level_lighter n true e =
-    let small : n < 11 = less n 11 e in
-    lt-ltb (2 + (10 + 2 * (11 - (n + 1)))) (1 + (10 + 2 * (11 - n))) (omega arith)
-level_lighter n false e = lt-ltb 10 (1 + (10 + 2 * (11 - n))) (omega arith)
+    let small : n < unary_level = less n unary_level e in
+    lt-ltb (2 + (10 + 2 * (unary_level - (n + 1)))) (1 + (10 + 2 * (unary_level - n))) (omega arith)
+level_lighter n false e = lt-ltb 10 (1 + (10 + 2 * (unary_level - n))) (omega arith)
 
 head_lighter : (t after : Token) → is_lighter Head (choice Head t after) ≡ true
 head_lighter (token.Name name) (token.Punctuator punctuator.OpenRound) = refl
@@ -73,7 +73,7 @@ lighter : (symbol : Symbol) (t after : Token) → is_lighter symbol (choice symb
 lighter Head t after = head_lighter t after
 lighter Expression (token.Name name) (token.Punctuator m) = assignment_lighter (store_of m) m
 lighter Expression t after = refl
-lighter (Level n) t after = level_lighter n (nat_lt n 11) refl
+lighter (Level n) t after = level_lighter n (nat_lt n unary_level) refl
 lighter (Tail n) (token.Punctuator m) after = tail_lighter n (operator_at n (token.Punctuator m)) m
 lighter (Tail n) t after = refl
 lighter Primary t after = primary_lighter t after

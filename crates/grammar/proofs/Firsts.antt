@@ -3,9 +3,8 @@ use Rattle.std.proofs.Common.{◌≡◌, ℕ, zero, suc, ◌<◌, ◌≤◌, Lis
 use Rattle.std.proofs.lemmas.Bool.Decides.{nat_tests}
 use Rattle.std.specs.Prelude.{Option, Some, None, nat_le, nat_lt, if◌then◌else◌}
 use Rattle.tokens.specs.declared.located_tokens.LocatedToken.{LocatedToken}
-use Rattle.tokens.specs.declared.located_tokens.Punctuator.{Punctuator}
 use Rattle.tokens.specs.declared.located_tokens.Punctuator.TheVariants as punctuator
-use Rattle.tokens.specs.declared.located_tokens.Keyword.{Keyword}
+use Rattle.tokens.specs.declared.located_tokens.Token.{Token}
 use Rattle.grammar.specs.declared.diagnostics.Code.{Code}
 use Rattle.grammar.specs.declared.diagnostics.Code.TheVariants as fault_code
 use Rattle.grammar.specs.Compiled.{diagnostic}
@@ -21,6 +20,7 @@ use Rattle.grammar.specs.Scope.{Scope, has_begun, is_external_new, is_function_n
 -- a step never adds tokens
 pub use Rattle.grammar.proofs.TokensLeft.{run_keeps}
 use Rattle.grammar.proofs.Runs.{stays}
+use Rattle.grammar.proofs.Steps.{IsWanted}
 
 reflexive_at : (n c : ℕ) → (if nat_lt n n then true else (if nat_lt n n then false else nat_le c c)) ≡ true
 reflexive_at n c = grind (arith, nat_tests)
@@ -71,22 +71,22 @@ pub no_part : (profile : Profile) (symbol : Symbol) (stack : List Item) (rest : 
 no_part profile symbol stack rest values scope functions sound none clean =
     fails_stuck profile _ rest _ (rw (sound, none) refl) (rw (sound, clean, none) refl)
 
-pub no_punctuator : (profile : Profile) (m : Punctuator) (stack : List Item) (rest : List LocatedToken)
-    (values : List PartialTree) (scope : Scope) (functions : List Definition) →
-    is_lexical_error (next_token rest) ≡ false → is_punctuator m (next_token rest) ≡ false →
-    Fails profile (state (Exactly m ∷ stack) rest values scope functions)
-    (diagnostic (line_at rest) (unexpected_token_code (next_token rest)))
-no_punctuator profile m stack rest values scope functions sound none =
-    fails_stuck profile _ rest _ (rw (sound, none) refl) (rw (sound, none) refl)
+-- the token isn't the one that such an item wants
+abbrev pub IsUnwanted : Item → Token → Type 0
+IsUnwanted (Exactly m) t = is_punctuator m t ≡ false
+IsUnwanted (AKeyword w) t = is_keyword w t ≡ false
+IsUnwanted item t = ⊥
 
-pub no_word : (profile : Profile) (w : Keyword) (stack : List Item) (rest : List LocatedToken)
-    (values : List PartialTree)
-    (scope : Scope) (functions : List Definition) →
-    is_lexical_error (next_token rest) ≡ false → is_keyword w (next_token rest) ≡ false →
-    Fails profile (state (AKeyword w ∷ stack) rest values scope functions)
+pub unwanted : (profile : Profile) (item : Item) (stack : List Item) (rest : List LocatedToken)
+    (values : List PartialTree) (scope : Scope) (functions : List Definition) →
+    is_lexical_error (next_token rest) ≡ false → IsUnwanted item (next_token rest) →
+    Fails profile (state (item ∷ stack) rest values scope functions)
     (diagnostic (line_at rest) (unexpected_token_code (next_token rest)))
-no_word profile w stack rest values scope functions sound none =
+unwanted profile (Exactly m) stack rest values scope functions sound none =
     fails_stuck profile _ rest _ (rw (sound, none) refl) (rw (sound, none) refl)
+unwanted profile (AKeyword w) stack rest values scope functions sound none =
+    fails_stuck profile _ rest _ (rw (sound, none) refl) (rw (sound, none) refl)
+unwanted profile item stack rest values scope functions sound none = absurd none
 
 pub no_name : (profile : Profile) (role : Role) (stack : List Item) (rest : List LocatedToken)
     (values : List PartialTree)
@@ -250,6 +250,19 @@ none_in : (f : Fault) (faults : List Fault) → faults ≡ [] → (g : Fault) �
 none_in f [] e g h = absurd h
 none_in f (x ∷ faults) e g h = absurd (cc)
 
+fails_at : (profile : Profile) (s : State) (located_token : LocatedToken) (rest : List LocatedToken) (c : Code) →
+    IsFirstFault profile s (fault (located_token ∷ rest) c) → Fails profile s (diagnostic located_token.line c)
+fails_at profile s located_token rest c first = record { fault = _; first = first; line = refl; code = refl }
+
+-- its token is matched in the step after it, where there is no fault
+fails_matched : (profile : Profile) (s : State) (located_token : LocatedToken) (rest : List LocatedToken) (c : Code) →
+    faults_at profile s ≡ fault (located_token ∷ rest) c ∷ [] → faults_at profile (stepped s) ≡ [] →
+    length (stepped (stepped s)).rest < length (located_token ∷ rest) →
+    Fails profile s (diagnostic located_token.line c)
+fails_matched profile s located_token rest c here none before =
+    let f : Fault = fault (located_token ∷ rest) c in
+    fails_at profile s located_token rest c (matched_first profile s f here (none_in f _ none) before)
+
 -- A name with a fault of its role.
 pub name_fails : (profile : Profile) (role : Role) (name : List ℕ) (c : Code) (stack : List Item)
     (located_token : LocatedToken) (rest : List LocatedToken) (values : List PartialTree) (scope : Scope)
@@ -258,12 +271,9 @@ pub name_fails : (profile : Profile) (role : Role) (name : List ℕ) (c : Code) 
     role_faults role name scope (located_token ∷ rest) ≡ fault (located_token ∷ rest) c ∷ [] →
     Fails profile (state (AName role ∷ stack) (located_token ∷ rest) values scope functions)
     (diagnostic located_token.line c)
-name_fails profile role name c stack located_token rest values scope functions sound fits fails = record {
-  fault = fault (located_token ∷ rest) c;
-  first = now_first profile _ _ (rw (sound, fits, fails) refl) (simp (sound, fits) (omega arith));
-  line = refl;
-  code = refl;
-}
+name_fails profile role name c stack located_token rest values scope functions sound fits fails =
+    fails_at profile _ located_token rest c
+    (now_first profile _ _ (rw (sound, fits, fails) refl) (simp (sound, fits) (omega arith)))
 
 -- The closing brace of the function with which the code is too long.
 pub too_long : (profile : Profile) (stack : List Item) (located_token : LocatedToken) (rest : List LocatedToken)
@@ -275,54 +285,27 @@ pub too_long : (profile : Profile) (stack : List Item) (located_token : LocatedT
     Fails profile
     (state (Make Define ∷ Exactly punctuator.CloseCurly ∷ stack) (located_token ∷ rest) values scope functions)
     (diagnostic located_token.line fault_code.TooMuchCode)
-too_long profile stack located_token rest values scope functions sound fits long = record {
-  fault = fault (located_token ∷ rest) fault_code.TooMuchCode;
-  first = matched_first profile _ _ (rw (sound, long) refl)
-      (none_in (fault (located_token ∷ rest) fault_code.TooMuchCode) _ (simp (sound, fits)))
-      (simp (sound, fits) (omega arith));
-  line = refl;
-  code = refl;
-}
+too_long profile stack located_token rest values scope functions sound fits long =
+    fails_matched profile _ located_token rest fault_code.TooMuchCode (rw (sound, long) refl) (simp (sound, fits))
+    (simp (sound, fits) (omega arith))
 
--- Nested too deeply, by a punctuator.
-pub too_deep : (profile : Profile) (symbol : Symbol) (m : Punctuator) (items stack : List Item)
+-- Nested too deeply, by a punctuator or a keyword.
+pub too_deep : (profile : Profile) (symbol : Symbol) (item : Item) (items stack : List Item)
     (located_token : LocatedToken) (rest : List LocatedToken) (values : List PartialTree) (scope : Scope)
     (functions : List Definition) →
     is_lexical_error located_token.token ≡ false →
-    choice symbol located_token.token (next_token rest) ≡ Some (Exactly m ∷ items) →
-    is_punctuator m located_token.token ≡ true →
+    choice symbol located_token.token (next_token rest) ≡ Some (item ∷ items) → IsWanted item located_token.token →
     nesting_faults symbol (state stack (located_token ∷ rest) values scope functions) ≡
     fault (located_token ∷ rest) fault_code.NestedTooDeeply ∷ [] →
     Fails profile (state (Part symbol ∷ stack) (located_token ∷ rest) values scope functions)
     (diagnostic located_token.line fault_code.NestedTooDeeply)
-too_deep profile symbol m items stack located_token rest values scope functions sound chosen fits deep = record {
-  fault = fault (located_token ∷ rest) fault_code.NestedTooDeeply;
-  first = matched_first profile _ _ (rw (sound, deep, chosen) refl)
-      (none_in (fault (located_token ∷ rest) fault_code.NestedTooDeeply) _ (simp (sound, chosen, fits)))
-      (simp (sound, chosen, fits) (omega arith));
-  line = refl;
-  code = refl;
-}
-
--- By a keyword.
-pub too_deep_word : (profile : Profile) (symbol : Symbol) (w : Keyword) (items stack : List Item)
-    (located_token : LocatedToken) (rest : List LocatedToken) (values : List PartialTree) (scope : Scope)
-    (functions : List Definition) →
-    is_lexical_error located_token.token ≡ false →
-    choice symbol located_token.token (next_token rest) ≡ Some (AKeyword w ∷ items) →
-    is_keyword w located_token.token ≡ true →
-    nesting_faults symbol (state stack (located_token ∷ rest) values scope functions) ≡
-    fault (located_token ∷ rest) fault_code.NestedTooDeeply ∷ [] →
-    Fails profile (state (Part symbol ∷ stack) (located_token ∷ rest) values scope functions)
-    (diagnostic located_token.line fault_code.NestedTooDeeply)
-too_deep_word profile symbol w items stack located_token rest values scope functions sound chosen fits deep = record {
-  fault = fault (located_token ∷ rest) fault_code.NestedTooDeeply;
-  first = matched_first profile _ _ (rw (sound, deep, chosen) refl)
-      (none_in (fault (located_token ∷ rest) fault_code.NestedTooDeeply) _ (simp (sound, chosen, fits)))
-      (simp (sound, chosen, fits) (omega arith));
-  line = refl;
-  code = refl;
-}
+too_deep profile symbol (Exactly m) items stack located_token rest values scope functions sound chosen fits deep =
+    fails_matched profile _ located_token rest fault_code.NestedTooDeeply (rw (sound, deep, chosen) refl)
+    (simp (sound, chosen, fits)) (simp (sound, chosen, fits) (omega arith))
+too_deep profile symbol (AKeyword w) items stack located_token rest values scope functions sound chosen fits deep =
+    fails_matched profile _ located_token rest fault_code.NestedTooDeeply (rw (sound, deep, chosen) refl)
+    (simp (sound, chosen, fits)) (simp (sound, chosen, fits) (omega arith))
+too_deep profile symbol item items stack located_token rest values scope functions sound chosen fits deep = absurd fits
 
 -- A fault of a role has a greater code than that of nesting.
 

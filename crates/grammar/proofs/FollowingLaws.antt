@@ -81,10 +81,6 @@ call_ends : (args : Args) (o : Opened) → call_done (pushed args o) ≡ call_do
 call_ends NoMore o = refl
 call_ends (Argument e rest) o = call_ends rest (AValue (origin_of e) ∷ o)
 
-pushed_count : (args : Args) (o : Opened) → open_count (pushed args o) ≡ open_count o
-pushed_count NoMore o = refl
-pushed_count (Argument e rest) o = omega (arith, pushed_count rest (AValue (origin_of e) ∷ o))
-
 -- && and || are tested to be themselves
 pub logic_itself : (o : Op) → is_logic o ≡ true → same_op o o ≡ true
 logic_itself op.Or e = refl

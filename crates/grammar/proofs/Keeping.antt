@@ -16,6 +16,7 @@ use Rattle.grammar.specs.Laws.{KeepsFunction, BlocksKeepTheFunction}
 use Rattle.grammar.proofs.AfterSteps.{IfStepped, if_matched, if_named, if_constant, if_replaced, after_step}
 use Rattle.grammar.specs.Operators.{operator_at, store_of}
 use Rattle.grammar.specs.Scope.{Scope, scope_after_name, is_external_new, is_local_new, is_variable_new, is_function_new, with_external, with_variable, with_new_function}
+use Rattle.grammar.proofs.Weight.{unary_level}
 
 -- Inner items: they neither begin a function, nor give it a parameter, nor end it.
 
@@ -98,7 +99,7 @@ choice_inner (More role) (token.Punctuator punctuator.Comma) after h = more_inne
 choice_inner (More role) next after h = refl
 choice_inner Expression (token.Name name) (token.Punctuator m) h = assignment_inner (store_of m) m
 choice_inner Expression next after h = refl
-choice_inner (Level n) next after h = level_inner n (nat_lt n 11)
+choice_inner (Level n) next after h = level_inner n (nat_lt n unary_level)
 choice_inner (Tail n) (token.Punctuator m) after h = tail_inner n (operator_at n (token.Punctuator m)) m
 choice_inner (Tail n) next after h = refl
 choice_inner Primary next after h = primary_inner next after

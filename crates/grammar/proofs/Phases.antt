@@ -10,6 +10,7 @@ use Rattle.arith.specs.declared.operators.Op.{Op}
 use Rattle.grammar.specs.declared.operators.StoreOp.{StoreOp}
 use Rattle.grammar.specs.Grammar.{Symbol, Source, Types, Head, More, Parameters, ParameterTypes, FunctionBlock, Declarations, Expression, Level, Tail, Unary, Primary, Role, Defined, Called, Mentioned, Item, Exactly, AKeyword, AName, AConstant, AnEnd, Part, Make, Close, SemanticAction, Define, Production, choice, assignment_or, tail_production}
 use Rattle.grammar.specs.Operators.{operator_at, store_of}
+use Rattle.grammar.proofs.Weight.{unary_level}
 
 pub data Phase : Type 0 where
   Outside : Phase  -- between functions
@@ -155,7 +156,7 @@ kept (More role) (token.Punctuator punctuator.Comma) after = more_kept role
 kept (More role) next after = no_more_kept role
 kept Expression (token.Name name) (token.Punctuator m) = assignment_kept (store_of m) m
 kept Expression next after = (refl, refl, refl, refl)
-kept (Level n) next after = level_kept n (nat_lt n 11)
+kept (Level n) next after = level_kept n (nat_lt n unary_level)
 kept (Tail n) (token.Punctuator m) after = tail_kept n (operator_at n (token.Punctuator m)) m
 kept (Tail n) next after = (refl, refl, refl, refl)
 kept Primary next after = primary_kept next after

@@ -22,16 +22,6 @@ may_follow before opened next action s e small =
     }
 
 -- after appended actions, what they leave open is open
-pub stands_then : (before behind : Representation) (acts : List Action) (opened next : Opened) →
-    AppendsAll before behind acts → LeavesOpen before opened →
-    follow_all acts opened ≡ Some next → LeavesOpen behind next
-stands_then before behind acts opened next added s leads = record {
-  profile = s.profile;
-  acts = s.acts ++ acts;
-  stood = added s.profile s.acts s.stood;
-  opens = follow_append s.acts acts [] opened s.opens ∙ leads;
-}
-
 -- the first of some actions may follow
 pub may_front : (before : Representation) (xs ys : List Action) → MayFollowAll before (xs ++ ys) →
     MayFollowAll before xs

@@ -21,7 +21,7 @@ use Rattle.grammar.proofs.Phases.{Phase, Outside, Before, Inside, Wrong, Stays, 
 use Rattle.grammar.proofs.DistinctNames.{distinct_front, HaveNames, part_at, names, at_append, names_kept}
 use Rattle.grammar.proofs.Indices.{map_by_index}
 use Rattle.grammar.proofs.Runs.{append_empty}
-use Rattle.grammar.proofs.Soundness.{ValuesIn, values_wider, made_in, last_body_in, IsScoped, Grows, Clean, AllIn, all_append, BeginsWell, definition_begins, role_grows, callee_in, variable_in, function_below}
+use Rattle.grammar.proofs.Soundness.{InValue, ValuesIn, values_wider, made_in, last_body_in, IsScoped, Grows, Clean, AllIn, all_append, BeginsWell, definition_begins, role_grows, callee_in, variable_in, function_below}
 
 -- The names and trees, by the phase.
 
@@ -96,6 +96,18 @@ tied_ended phase values old new ds more change t = absurd t
 
 -- Steps.
 
+-- a name within a function makes a tree
+tree_sound : {stack : List Item} {left : List LocatedToken} {values : List PartialTree} {scope new : Scope}
+    {ds : List Definition} (tree : PartialTree) →
+    InValue (length new.externals) (length new.current.variables) (length new.functions) tree → Grows scope new ds →
+    Tied (inside (phase_of stack)) values scope ds → Sound (state stack left (tree ∷ values) new ds)
+tree_sound {stack} {values = values} {scope = scope} {new = new} {ds = ds} tree within g t = record {
+  scoped = g.scoped;
+  tied = tied_inside (phase_of stack) values (tree ∷ values) scope new ds
+      (λ b. let c : Busy values new ds = busy_grows values scope new ds g b in
+      record { within = (within, c.within); begun = c.begun; named = c.named }) t;
+}
+
 name_sound : (role : Role) (name : List ℕ) (stack : List Item) (rest : List LocatedToken) (line : ℕ)
     (left : List LocatedToken) (values : List PartialTree) (scope : Scope) (ds : List Definition) →
     IsScoped scope ds → Clean (role_faults role name scope rest) →
@@ -113,28 +125,10 @@ name_sound Defined name stack rest line left values scope ds k clean t =
           }) t;
     }
 name_sound Called name stack rest line left values scope ds k clean t =
-    let g : Grows scope (scope_after_name Called name line scope) ds =
-    role_grows Called name line scope ds rest tt k clean in
-    record {
-      scoped = g.scoped;
-      tied = tied_inside (phase_of stack) values _ scope _ ds
-          (λ b. let c : Busy values (scope_after_name Called name line scope) ds = busy_grows values scope _ ds g b in
-          record {
-            within = (record { callable = callee_in name line scope; arguments = tt }, c.within);
-            begun = c.begun;
-            named = c.named;
-          }) t;
-    }
+    tree_sound _ (record { callable = callee_in name line scope; arguments = tt })
+    (role_grows Called name line scope ds rest tt k clean) t
 name_sound Mentioned name stack rest line left values scope ds k clean t =
-    let g : Grows scope (scope_after_name Mentioned name line scope) ds =
-    role_grows Mentioned name line scope ds rest tt k clean in
-    record {
-      scoped = g.scoped;
-      tied = tied_inside (phase_of stack) values _ scope _ ds
-          (λ b. let c : Busy values (scope_after_name Mentioned name line scope) ds =
-          busy_grows values scope _ ds g b in
-          record { within = (variable_in name scope, c.within); begun = c.begun; named = c.named }) t;
-    }
+    tree_sound _ (variable_in name scope) (role_grows Mentioned name line scope ds rest tt k clean) t
 name_sound role name stack rest line left values scope ds k clean t =
     let g = role_grows role name line scope ds rest tt k clean in
     record { scoped = g.scoped; tied = tied_grows (phase_of stack) values scope _ ds g t }

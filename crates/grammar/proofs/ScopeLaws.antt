@@ -98,20 +98,6 @@ pub first_there : (name : List ℕ) (fs : List FunctionNames) (n : ℕ) (f : Fun
     Some n ≡ number_of_name name (map (λ f. f.name) fs)
 first_there name fs n f h none here is = there name fs n f h (λ k l. none.none k l (omega (arith, h, l))) here is
 
--- one function more that hasn't
-pub none_more : (name : List ℕ) (fs : List FunctionNames) (n : ℕ) (f : FunctionNames) → n < length fs →
-    NoFunctionBefore n name fs → f ≡ slice_index_or fs n f → bytes_eq name f.name ≡ false →
-    NoFunctionBefore (n + 1) name fs
-none_more name fs n f h none here other = record { none = λ k less within. by k less within (nat_lt k n) refl }
-  where
-    by : (k : ℕ) → k < n + 1 → k < length fs → (b : Bool) → nat_lt k n ≡ b →
-        bytes_eq name (slice_index_or fs k (only_named [])).name ≡ false
-    by k less within true e = none.none k (grind (arith, nat_tests)) within
-    by k less within false e =
-        let last : k ≡ n = grind (arith, nat_tests) in
-        ap (λ j. bytes_eq name (slice_index_or fs j (only_named [])).name) last ∙
-        ap (λ g. bytes_eq name g.name) (sym (here ∙ any_default fs n f (only_named []) h)) ∙ other
-
 pub function_new : (name : List ℕ) (scope : Scope) → intrinsic_named name ≡ None → function_number name scope ≡ None →
     is_function_new name scope ≡ true
 function_new name scope own unknown = rw (own, unknown) refl

@@ -105,8 +105,12 @@ fetched_is v (Call f es) h = absurd (cc)
 
 -- Values.
 
-push : (value : ℤ) (h : Hole) (q : Opened) → HoleFits h → follow (PushConstant value) (open_hole h) ≡ Some q →
-    open_count q ≤ 200 → Steps (PushConstant value) h q
+-- from each hole in which the action may come
+abbrev CanStep : Action → Type 0
+CanStep a =
+    (h : Hole) (q : Opened) → HoleFits h → follow a (open_hole h) ≡ Some q → open_count q ≤ 200 → Steps a h q
+
+push : (value : ℤ) → CanStep (PushConstant value)
 push value h q fits e small =
     let is : AValue (Number value) ∷ open_hole h ≡ q =
     some_same _ q (sym (within_hole (AValue (Number value)) h) ∙ e) in
@@ -117,8 +121,7 @@ push value h q fits e small =
       fits = (fits, record { names = tt; few = omega (arith, small, ap open_count is) });
     }
 
-fetch : (v : Var) (h : Hole) (q : Opened) → HoleFits h → follow (FetchVariable v) (open_hole h) ≡ Some q →
-    open_count q ≤ 200 → Steps (FetchVariable v) h q
+fetch : (v : Var) → CanStep (FetchVariable v)
 fetch v h q fits e small =
     let both = if_true (is_var_numbered v) (opens_within (AValue (Fetched v)) (open_hole h)) q e in
     let is : AValue (Fetched v) ∷ open_hole h ≡ q = some_same _ q (sym (within_hole (AValue (Fetched v)) h) ∙ both.1) in
@@ -142,8 +145,7 @@ store v op (Behind x h) q fits e small =
 store v op (Statement (InFun n k b)) q fits e small = absurd (cc)
 store v op h q fits e small = absurd (cc)
 
-binop : (op : Op) (h : Hole) (q : Opened) → HoleFits h → follow (ApplyBinop op) (open_hole h) ≡ Some q →
-    open_count q ≤ 200 → Steps (ApplyBinop op) h q
+binop : (op : Op) → CanStep (ApplyBinop op)
 binop op (Behind r (Behind l h)) q fits e small =
     let both = if_false (is_logic op) (AValue Computed ∷ open_hole h) q e in
     let none : right_side op ≡ 0 = rw both.0 refl in
@@ -174,8 +176,7 @@ binop op (Behind r (Statement (InFun n k b))) q fits e small = absurd (cc)
 binop op (Statement (InFun n k b)) q fits e small = absurd (cc)
 binop op h q fits e small = absurd (cc)
 
-logic_middle : (op : Op) (h : Hole) (q : Opened) → HoleFits h → follow (LogicMiddle op) (open_hole h) ≡ Some q →
-    open_count q ≤ 200 → Steps (LogicMiddle op) h q
+logic_middle : (op : Op) → CanStep (LogicMiddle op)
 logic_middle op (Behind l h) q fits e small =
     let both = only_true (is_logic op) (BeforeRight op ∷ AValue (origin_of l) ∷ open_hole h) q e in
     record {
@@ -189,8 +190,7 @@ logic_middle op h q fits e small = absurd (cc)
 
 -- Calls.
 
-begin_call : (h : Hole) (q : Opened) → HoleFits h → follow BeginCall (open_hole h) ≡ Some q → open_count q ≤ 200 →
-    Steps BeginCall h q
+begin_call : CanStep BeginCall
 begin_call h q fits e small =
     let is : InCall ∷ open_hole h ≡ q = some_same _ q (sym (within_hole InCall h) ∙ e) in
     record { next = Arguments h; opens = is; adds = refl; fits = (fits, omega (arith, small, ap open_count is)) }
@@ -260,8 +260,7 @@ settled a h p s r q fits more same e adds = record {
   fits = add_fits s p fits more;
 }
 
-if_test : (h : Hole) (q : Opened) → HoleFits h → follow IfTest (open_hole h) ≡ Some q → open_count q ≤ 200 →
-    Steps IfTest h q
+if_test : CanStep IfTest
 if_test (Behind c (Statement p)) q fits e small =
     let both = only_true (may_take_statement (open_context p)) (InBranch ∷ open_context p) q e in
     record {
@@ -273,8 +272,7 @@ if_test (Behind c (Statement p)) q fits e small =
 if_test (Statement (InFun n k b)) q fits e small = absurd (cc)
 if_test h q fits e small = absurd (cc)
 
-else_part : (h : Hole) (q : Opened) → HoleFits h → follow ElsePart (open_hole h) ≡ Some q → open_count q ≤ 200 →
-    Steps ElsePart h q
+else_part : CanStep ElsePart
 else_part (Statement (InFirst c s p)) q fits e small =
     let is : InElse ∷ open_context p ≡ q = some_same _ q e in
     record {
@@ -285,8 +283,7 @@ else_part (Statement (InFirst c s p)) q fits e small =
     }
 else_part h q fits e small = absurd (cc)
 
-end_if : (h : Hole) (q : Opened) → HoleFits h → follow EndIf (open_hole h) ≡ Some q → open_count q ≤ 200 →
-    Steps EndIf h q
+end_if : CanStep EndIf
 end_if (Statement (InFirst c s p)) q fits e small =
     settled EndIf (Statement (InFirst c s p)) p (IfStatement c s Done) false q fits.0
     (record { names = (fits.1.names, fits.2.names, tt); few = omega (arith, fits.1.few, fits.2.few) }) (λ before. refl)
@@ -299,15 +296,13 @@ end_if (Statement (InSecond c s t p)) q fits e small =
     }) (λ before. refl) e (simp append_assoc refl)
 end_if h q fits e small = absurd (cc)
 
-begin_while : (h : Hole) (q : Opened) → HoleFits h → follow BeginWhile (open_hole h) ≡ Some q → open_count q ≤ 200 →
-    Steps BeginWhile h q
+begin_while : CanStep BeginWhile
 begin_while (Statement p) q fits e small =
     let both = only_true (may_take_statement (open_context p)) (BeforeTest ∷ open_context p) q e in
     record { next = Test p; opens = both.1; adds = refl; fits = (fits, omega (arith, small, ap open_count both.1)) }
 begin_while h q fits e small = absurd (cc)
 
-while_test : (h : Hole) (q : Opened) → HoleFits h → follow WhileTest (open_hole h) ≡ Some q → open_count q ≤ 200 →
-    Steps WhileTest h q
+while_test : CanStep WhileTest
 while_test (Behind c (Test p)) q fits e small =
     record {
       next = Statement (InLoop c Done p);
@@ -323,16 +318,14 @@ while_test (Behind c (Statement (InFun n k b))) q fits e small = absurd (cc)
 while_test (Statement (InFun n k b)) q fits e small = absurd (cc)
 while_test h q fits e small = absurd (cc)
 
-end_while : (h : Hole) (q : Opened) → HoleFits h → follow EndWhile (open_hole h) ≡ Some q → open_count q ≤ 200 →
-    Steps EndWhile h q
+end_while : CanStep EndWhile
 end_while (Statement (InLoop c s p)) q fits e small =
     settled EndWhile (Statement (InLoop c s p)) p (While c s Done) false q fits.0
     (record { names = (fits.1.names, fits.2.names, tt); few = omega (arith, fits.1.few, fits.2.few) }) (λ before. refl)
     e (simp append_assoc refl)
 end_while h q fits e small = absurd (cc)
 
-give_back : (h : Hole) (q : Opened) → HoleFits h → follow GiveBack (open_hole h) ≡ Some q → open_count q ≤ 200 →
-    Steps GiveBack h q
+give_back : CanStep GiveBack
 give_back (Behind x (Statement p)) q fits e small =
     settled GiveBack (Behind x (Statement p)) p (Return x Done) (is_number 0 (origin_of x)) q fits.0
     (record { names = (fits.1.names, tt); few = omega (arith, fits.1.few) }) (λ before. refl) e
@@ -368,7 +361,7 @@ chop_step (Binary op a b) y h q fits is small = absurd (cc)
 chop_step (Postfix op v) y h q fits is small = absurd (cc)
 chop_step (Call f args) y h q fits is small = absurd (cc)
 
-chop : (h : Hole) (q : Opened) → HoleFits h → follow Chop (open_hole h) ≡ Some q → open_count q ≤ 200 → Steps Chop h q
+chop : CanStep Chop
 chop (Behind x (Statement p)) q fits e small =
     settled Chop (Behind x (Statement p)) p (ExpressionStatement x Done) false q fits.0
     (record { names = (fits.1.names, tt); few = omega (arith, fits.1.few) }) (λ before. refl)

@@ -3,6 +3,10 @@ use Rattle.std.specs.Prelude.{ℕ, ◌+◌, ◌-◌, ◌*◌, List, [], ◌∷�
 use Rattle.grammar.specs.Derivation.{State}
 use Rattle.grammar.specs.Grammar.{Item, AnEnd, Part, Make, Close, Symbol, Source, Types, Head, More, Parameters, ParameterTypes, FunctionBlock, Block, Declarations, Statements, Statement, ElsePart, Back, Expression, Level, Tail, Unary, Primary, Arguments, MoreArguments}
 
+-- past the levels of binary operators
+abbrev pub unary_level : ℕ
+unary_level = 11
+
 -- each item costs a step; the end's makes up for what follows it, and of two symbols for the semantic action that is
 -- all they push
 abbrev pub cost : Item → ℕ
@@ -32,7 +36,7 @@ credit_of Statement = 38
 credit_of ElsePart = 40
 credit_of Back = 40
 credit_of Expression = 34
-credit_of (Level n) = 10 + 2 * (11 - n)
+credit_of (Level n) = 10 + 2 * (unary_level - n)
 credit_of (Tail n) = 40
 credit_of Unary = 9
 credit_of Primary = 7

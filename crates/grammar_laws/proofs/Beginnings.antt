@@ -29,49 +29,21 @@ pub record BeginsExpression (t : Token) : Type 0 where
   pub gives_back : (after : Token) → choice Back t after ≡ Some (Part grammar.Expression ∷ [])
 
 begins_constant : (value : ℕ) → BeginsExpression (token.Constant value)
-begins_constant value = record {
-  begins = record { sound = refl; no_declaration = λ after. refl; no_else = λ after. refl; one_more = λ after. refl };
-  evaluates = λ after. refl;
-  gives_back = λ after. refl;
-}
+begins_constant value = assumption
 
 begins_name : (name : List ℕ) → BeginsExpression (token.Name name)
-begins_name name = record {
-  begins = record { sound = refl; no_declaration = λ after. refl; no_else = λ after. refl; one_more = λ after. refl };
-  evaluates = λ after. refl;
-  gives_back = λ after. refl;
-}
+begins_name name = assumption
 
 begins_round : BeginsExpression (token.Punctuator punctuator.OpenRound)
-begins_round = record {
-  begins = record { sound = refl; no_declaration = λ after. refl; no_else = λ after. refl; one_more = λ after. refl };
-  evaluates = λ after. refl;
-  gives_back = λ after. refl;
-}
+begins_round = assumption
 
 begins_sign : (sign : Sign) → BeginsExpression (token.Punctuator (sign_punctuator sign))
-begins_sign Minus = record {
-  begins = record { sound = refl; no_declaration = λ after. refl; no_else = λ after. refl; one_more = λ after. refl };
-  evaluates = λ after. refl;
-  gives_back = λ after. refl;
-}
-begins_sign sign = record {
-  begins = record { sound = refl; no_declaration = λ after. refl; no_else = λ after. refl; one_more = λ after. refl };
-  evaluates = λ after. refl;
-  gives_back = λ after. refl;
-}
+begins_sign Minus = assumption
+begins_sign sign = assumption
 
 begins_increment : (increment : Increment) → BeginsExpression (token.Punctuator (spelled_increment increment))
-begins_increment Up = record {
-  begins = record { sound = refl; no_declaration = λ after. refl; no_else = λ after. refl; one_more = λ after. refl };
-  evaluates = λ after. refl;
-  gives_back = λ after. refl;
-}
-begins_increment increment = record {
-  begins = record { sound = refl; no_declaration = λ after. refl; no_else = λ after. refl; one_more = λ after. refl };
-  evaluates = λ after. refl;
-  gives_back = λ after. refl;
-}
+begins_increment Up = assumption
+begins_increment increment = assumption
 
 part_first : (e : Expression) (rest : List Token) → BeginsExpression (first (spell_part e ++ rest))
 part_first (Constant value) rest = begins_constant value
@@ -95,8 +67,7 @@ pub statement_first : (s : Statement) (rest : List Token) → BeginsStatement (f
 statement_first (Evaluate e) rest =
     rw (append_assoc (spell e) (token.Punctuator punctuator.Semicolon ∷ []) rest)
     (expression_first e (token.Punctuator punctuator.Semicolon ∷ rest)).begins
-statement_first s rest =
-    record { sound = refl; no_declaration = λ after. refl; no_else = λ after. refl; one_more = λ after. refl }
+statement_first s rest = assumption
 
 -- what follows a statement: another one, or the brace
 pub record Follows (tokens : List Token) : Type 0 where

@@ -11,6 +11,7 @@ use Rattle.grammar.specs.declared.operators.StoreOp.{StoreOp}
 use Rattle.grammar.specs.Grammar.{Symbol, Head, Expression, Level, Tail, Unary, Primary, Part, choice, enters, assignment_or, tail_production}
 use Rattle.grammar_laws.specs.ClosedNesting.{closes, nested_entered, NestedProductionsClose}
 use Rattle.grammar.specs.Operators.{operator_at, store_of}
+use Rattle.grammar.proofs.Weight.{unary_level}
 
 level_close : (n : ℕ) (b : Bool) →
     closes (if b then Some (Part (Level (n + 1)) ∷ Part (Tail n) ∷ []) else Some (Part Unary ∷ [])) ≡ 0
@@ -26,31 +27,17 @@ assignment_close : (o : Option StoreOp) (m : Punctuator) →
 assignment_close None m = refl
 assignment_close (Some op) m = refl
 
-expression_close : (next after : Token) →
-    closes (choice Expression next after) ≡ nested_entered (enters Expression next after)
-expression_close (token.Name name) (token.Punctuator m) = assignment_close (store_of m) m
-expression_close next after = refl
-
-primary_close : (next after : Token) → closes (choice Primary next after) ≡ nested_entered (enters Primary next after)
-primary_close (token.Name name) (token.Punctuator punctuator.OpenRound) = refl
-primary_close (token.Punctuator punctuator.OpenRound) after = refl
-primary_close next after = refl
-
-head_close : (next after : Token) → closes (choice Head next after) ≡ nested_entered (enters Head next after)
-head_close (token.Name name) (token.Punctuator punctuator.OpenRound) = refl
-head_close next after = refl
-
 pub nested_close : NestedProductionsClose
 nested_close symbol next after = close symbol next after
   where
     close : (symbol : Symbol) (next after : Token) →
         closes (choice symbol next after) ≡ nested_entered (enters symbol next after)
-    close Head next after = head_close next after
-    close Expression next after = expression_close next after
-    close (Level n) next after = level_close n (nat_lt n 11)
+    close Expression (token.Name name) (token.Punctuator m) = assignment_close (store_of m) m
+    close (Level n) next after = level_close n (nat_lt n unary_level)
     close (Tail n) (token.Punctuator m) after = tail_close n (operator_at n (token.Punctuator m)) m
     close (Tail n) next after = refl
-    close Primary next after = primary_close next after
+    close Head (token.Name name) (token.Punctuator punctuator.OpenRound) = refl
+    close Primary (token.Name name) (token.Punctuator punctuator.OpenRound) = refl
     close symbol (token.Punctuator punctuator.Plus) after = refl
     close symbol (token.Keyword keyword.Type) after = refl
     close symbol next after = refl

@@ -1,5 +1,5 @@
 -- Each expression, as it is spelled, is taken.
-use Rattle.std.proofs.Common.{◌≡◌, ℕ, ◌+◌, List, [], ◌∷◌, ◌++◌, refl, sym, ap, append_assoc}
+use Rattle.std.proofs.Common.{false, ◌≡◌, ℕ, ◌+◌, List, [], ◌∷◌, ◌++◌, refl, sym, ap, append_assoc}
 use Rattle.std.specs.Prelude.{Some}
 use Rattle.tokens.specs.declared.located_tokens.Punctuator.TheVariants as punctuator
 use Rattle.tokens.specs.declared.located_tokens.Token.{Token}
@@ -10,7 +10,7 @@ use Rattle.grammar.specs.declared.operators.StoreOp.{StoreOp}
 use Rattle.grammar.specs.declared.operators.StoreOp.TheVariants as store_op
 use Rattle.grammar.specs.Derivation.{PartialTree, AnExpr, AVariable, ACall, Definition}
 use Rattle.grammar.specs.Grammar as grammar
-use Rattle.grammar.specs.Grammar.{Item, Exactly, AName, Part, Make, Close, Mentioned, Level, Unary, Primary, MoreArguments, SemanticAction, Operate, Negate, Complement, Store, AddArgument, Invoke, choice}
+use Rattle.grammar.specs.Grammar.{Item, Exactly, Part, Make, Close, Level, Unary, MoreArguments, SemanticAction, Operate, Negate, Complement, Store, AddArgument, Invoke, choice, is_lexical_error}
 use Rattle.grammar.specs.Scope.{Scope, variable_of, callee_of}
 use Rattle.grammar.specs.Tree as tree
 use Rattle.grammar.specs.Tree.{Expr, Args, add_argument}
@@ -129,39 +129,46 @@ no_assignment : (increment : Increment) (name : List ℕ) →
 no_assignment Up name = refl
 no_assignment Down name = refl
 
+-- the name was taken, and the increment is still to be made
+incremented : (rule : SemanticAction) (name : List ℕ) (whole : Expr) (tokens rest : List Token) (c : Closing)
+    (stack : List Item) (values : List PartialTree) (scope : Scope) (functions : List Definition) →
+    is_lexical_error (first tokens) ≡ false →
+    choice grammar.Expression (first tokens) (second tokens) ≡ Some (Part (Level 1) ∷ []) →
+    Leads (at (Part Unary ∷ tails 10 1 stack) tokens values scope functions)
+    (at (Make rule ∷ tails 10 1 stack) (token.Punctuator (closing_punctuator c) ∷ rest)
+    (AVariable (variable_of name scope) ∷ values) (mentioned name scope) functions) →
+    Leads
+    (at (Make rule ∷ tails 10 1 stack) (token.Punctuator (closing_punctuator c) ∷ rest)
+    (AVariable (variable_of name scope) ∷ values) (mentioned name scope) functions)
+    (at (tails 10 1 stack) (token.Punctuator (closing_punctuator c) ∷ rest) (AnExpr whole ∷ values)
+    (mentioned name scope) functions) →
+    Leads (at (Part grammar.Expression ∷ stack) tokens values scope functions)
+    (at stack (token.Punctuator (closing_punctuator c) ∷ rest) (AnExpr whole ∷ values) (mentioned name scope)
+    functions)
+incremented rule name whole tokens rest c stack values scope functions sound chosen begins made =
+    then _ _ _ (part grammar.Expression (Part (Level 1) ∷ []) stack tokens values scope functions sound chosen)
+    (then _ _ _ (down 10 1 stack tokens values scope functions refl sound)
+    (then _ _ _ begins (then _ _ _ made
+    (up 10 1 c stack rest (AnExpr whole ∷ values) (mentioned name scope) functions))))
+
 pre_incremented : (increment : Increment) (name : List ℕ) → IsTaken (PreIncrement increment name)
 pre_incremented increment name c rest stack values scope functions =
-    let tokens : List Token =
-    token.Punctuator (spelled_increment increment) ∷ token.Name name ∷ token.Punctuator (closing_punctuator c) ∷ rest in
-    let above : List Item = tails 10 1 stack in
-    let whole : Expr = tree_of (PreIncrement increment name) scope in
-    then _ _ _ (part grammar.Expression (Part (Level 1) ∷ []) stack tokens values scope functions refl refl)
-    (then _ _ _ (down 10 1 stack tokens values scope functions refl refl)
-    (then _ _ _
-    (before_begins increment name (token.Punctuator (closing_punctuator c) ∷ rest) above values scope functions)
-    (then _ _ _
-    (make (grammar.PrefixIncrement (increment_operator increment)) above
-    (token.Punctuator (closing_punctuator c) ∷ rest) _
-    (AnExpr whole ∷ values) (mentioned name scope) functions refl refl refl refl)
-    (up 10 1 c stack rest (AnExpr whole ∷ values) (mentioned name scope) functions))))
+    let rule : SemanticAction = grammar.PrefixIncrement (increment_operator increment) in
+    let closing : List Token = token.Punctuator (closing_punctuator c) ∷ rest in
+    incremented rule name (tree_of (PreIncrement increment name) scope)
+    (token.Punctuator (spelled_increment increment) ∷ token.Name name ∷ closing) rest c stack values scope functions
+    refl refl (before_begins increment name closing (tails 10 1 stack) values scope functions)
+    (make rule (tails 10 1 stack) closing _ _ (mentioned name scope) functions refl refl refl refl)
 
 post_incremented : (increment : Increment) (name : List ℕ) → IsTaken (PostIncrement increment name)
 post_incremented increment name c rest stack values scope functions =
-    let tokens : List Token =
-    token.Name name ∷ token.Punctuator (spelled_increment increment) ∷ token.Punctuator (closing_punctuator c) ∷ rest in
-    let above : List Item = tails 10 1 stack in
-    let whole : Expr = tree_of (PostIncrement increment name) scope in
-    then _ _ _
-    (part grammar.Expression (Part (Level 1) ∷ []) stack tokens values scope functions refl
-    (no_assignment increment name))
-    (then _ _ _ (down 10 1 stack tokens values scope functions refl refl)
-    (then _ _ _
-    (behind_begins increment name (token.Punctuator (closing_punctuator c) ∷ rest) above values scope functions)
-    (then _ _ _
-    (make (grammar.PostfixIncrement (increment_operator increment)) above
-    (token.Punctuator (closing_punctuator c) ∷ rest) _
-    (AnExpr whole ∷ values) (mentioned name scope) functions refl refl refl refl)
-    (up 10 1 c stack rest (AnExpr whole ∷ values) (mentioned name scope) functions))))
+    let rule : SemanticAction = grammar.PostfixIncrement (increment_operator increment) in
+    let closing : List Token = token.Punctuator (closing_punctuator c) ∷ rest in
+    incremented rule name (tree_of (PostIncrement increment name) scope)
+    (token.Name name ∷ token.Punctuator (spelled_increment increment) ∷ closing) rest c stack values scope functions
+    refl (no_assignment increment name)
+    (behind_begins increment name closing (tails 10 1 stack) values scope functions)
+    (make rule (tails 10 1 stack) closing _ _ (mentioned name scope) functions refl refl refl refl)
 
 -- an assignment
 

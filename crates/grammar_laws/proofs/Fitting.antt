@@ -13,6 +13,7 @@ use Rattle.arith.specs.declared.operators.Op.{Op}
 use Rattle.arith.specs.declared.operators.Op.TheVariants as op
 use Rattle.grammar.specs.declared.operators.StoreOp.{StoreOp}
 use Rattle.grammar.specs.Actions.{expr_actions, args_actions}
+use Rattle.grammar.specs.NameLimits.{most_names}
 use Rattle.grammar.specs.Nesting.{nesting, args_nesting, body_nesting, right_side}
 use Rattle.arith.specs.Op.{is_logic}
 use Rattle.grammar.specs.Operators.{binary_of, if_at, operator_at}
@@ -27,10 +28,11 @@ use Rattle.grammar_laws.proofs.Reporting.{ExprFits, ArgsFit, BodyFits}
 pub constant_fits : (A : Type 0) (room : ℕ) (value : ℤ) → ExprFits A room (tree.Constant value)
 constant_fits A room value = record { names = λ a. tt; few = λ a. omega arith }
 
-pub variable_fits : (A : Type 0) (room : ℕ) (v : Var) → (A → IsVariable 64 64 v) → ExprFits A room (tree.Variable v)
+pub variable_fits : (A : Type 0) (room : ℕ) (v : Var) → (A → IsVariable most_names most_names v) →
+    ExprFits A room (tree.Variable v)
 variable_fits A room v h = record { names = h; few = λ a. omega arith }
 
-pub postfix_fits : (A : Type 0) (room : ℕ) (o : StoreOp) (v : Var) → (A → IsVariable 64 64 v) →
+pub postfix_fits : (A : Type 0) (room : ℕ) (o : StoreOp) (v : Var) → (A → IsVariable most_names most_names v) →
     ExprFits A room (tree.Postfix o v)
 postfix_fits A room o v h = record { names = h; few = λ a. omega arith }
 
@@ -38,7 +40,7 @@ pub expr_wider : (A : Type 0) (small room : ℕ) (e : Expr) → (A → small ≤
 expr_wider A small room e less f = record { names = f.names; few = λ a. omega (arith, less a, f.few a) }
 
 pub assign_fits : (A : Type 0) (small room : ℕ) (o : StoreOp) (v : Var) (e : Expr) → (A → small ≤ room) →
-    (A → IsVariable 64 64 v) → ExprFits A small e → ExprFits A room (tree.Assign o v e)
+    (A → IsVariable most_names most_names v) → ExprFits A small e → ExprFits A room (tree.Assign o v e)
 assign_fits A small room o v e less h f = record {
   names = λ a. (h a, f.names a);
   few =
@@ -51,7 +53,7 @@ binary_fits A left right room o a b less few f g =
     record { names = λ x. (f.names x, g.names x); few = λ x. omega (arith, less x, few x, f.few x, g.few x) }
 
 pub call_fits : (A : Type 0) (small room : ℕ) (f : Callee) (args : Args) → (A → 1 + small ≤ room) →
-    (A → IsCallable 64 f) → ArgsFit A small args → ExprFits A room (tree.Call f args)
+    (A → IsCallable most_names f) → ArgsFit A small args → ExprFits A room (tree.Call f args)
 call_fits A small room f args less h g = record {
   names = λ a. (h a, g.names a);
   few =
@@ -63,8 +65,9 @@ call_fits A small room f args less h g = record {
 pub no_args_fit : (A : Type 0) (room : ℕ) → ArgsFit A room tree.NoMore
 no_args_fit A room = record { names = λ a. tt; few = λ a. omega arith }
 
-argument_in : (args : Args) (e : Expr) → InArgs 64 64 64 args → InExpr 64 64 64 e →
-    InArgs 64 64 64 (add_argument args e)
+argument_in : (args : Args) (e : Expr) → InArgs most_names most_names most_names args →
+    InExpr most_names most_names most_names e →
+    InArgs most_names most_names most_names (add_argument args e)
 argument_in tree.NoMore e h k = (k, tt)
 argument_in (tree.Argument a rest) e h k = (h.0, argument_in rest e h.1 k)
 
@@ -109,18 +112,15 @@ join_few room (tree.Return e rest) s h k = let more : body_nesting (join rest s)
 pub join_fits : (A : Type 0) (room : ℕ) (b s : Body) → BodyFits A room b → BodyFits A room s →
     BodyFits A room (join b s)
 join_fits A room b s f g = record {
-  names = λ a. join_in 64 64 64 b s (f.names a) (g.names a);
+  names = λ a. join_in most_names most_names most_names b s (f.names a) (g.names a);
   few =
       λ a. join_few room b s (f.few a) (g.few a);
 }
 
 pub statement_fits : (A : Type 0) (small room : ℕ) (e : Expr) → (A → small ≤ room) → ExprFits A small e →
     BodyFits A room (tree.ExpressionStatement e tree.Done)
-statement_fits A small room e less f = record {
-  names = λ a. (f.names a, tt);
-  few =
-      λ a. omega (arith, less a, f.few a);
-}
+statement_fits A small room e less f =
+    record { names = λ a. (f.names a, tt); few = λ a. omega (arith, less a, f.few a) }
 
 pub return_fits : (A : Type 0) (small room : ℕ) (e : Expr) → (A → small ≤ room) → ExprFits A small e →
     BodyFits A room (tree.Return e tree.Done)
@@ -128,11 +128,8 @@ return_fits A small room e less f = record { names = λ a. (f.names a, tt); few 
 
 pub if_fits : (A : Type 0) (small room : ℕ) (c : Expr) (s : Body) → (A → small + 1 ≤ room) → ExprFits A small c →
     BodyFits A small s → BodyFits A room (tree.IfStatement c s tree.Done)
-if_fits A small room c s less f g = record {
-  names = λ a. (f.names a, g.names a, tt);
-  few =
-      λ a. omega (arith, less a, f.few a, g.few a);
-}
+if_fits A small room c s less f g =
+    record { names = λ a. (f.names a, g.names a, tt); few = λ a. omega (arith, less a, f.few a, g.few a) }
 
 pub if_else_fits : (A : Type 0) (small room : ℕ) (c : Expr) (s t : Body) → (A → small + 1 ≤ room) → ExprFits A small c →
     BodyFits A small s → BodyFits A small t → BodyFits A room (tree.IfElseStatement c s t tree.Done)
@@ -141,11 +138,8 @@ if_else_fits A small room c s t less f g h = record
 
 pub while_fits : (A : Type 0) (small room : ℕ) (c : Expr) (s : Body) → (A → small + 1 ≤ room) → ExprFits A small c →
     BodyFits A small s → BodyFits A room (tree.While c s tree.Done)
-while_fits A small room c s less f g = record {
-  names = λ a. (f.names a, g.names a, tt);
-  few =
-      λ a. omega (arith, less a, f.few a, g.few a);
-}
+while_fits A small room c s less f g =
+    record { names = λ a. (f.names a, g.names a, tt); few = λ a. omega (arith, less a, f.few a, g.few a) }
 
 -- The two operators with a right side are of the levels 1 and 2.
 

@@ -12,6 +12,7 @@ use Rattle.grammar.specs.Derivation.{PartialTree, Definition}
 use Rattle.grammar.specs.Grammar.{Item, Part, Make, Level, Tail, Unary, Operate, is_lexical_error}
 use Rattle.grammar.specs.Scope.{Scope}
 use Rattle.grammar.specs.Operators.{binary_punctuator}
+use Rattle.grammar.proofs.Weight.{unary_level}
 use Rattle.grammar_laws.proofs.Leading.{Leads, then, at, first, part}
 
 -- the tails of m levels from level n on, the tightest in front
@@ -19,18 +20,18 @@ abbrev pub tails : ℕ → ℕ → List Item → List Item
 tails zero n stack = stack
 tails (suc m) n stack = tails m (n + 1) (Part (Tail n) ∷ stack)
 
-tighter : (m n : ℕ) → suc m + n ≡ 11 → nat_lt n 11 ≡ true
+tighter : (m n : ℕ) → suc m + n ≡ unary_level → nat_lt n unary_level ≡ true
 tighter m n sum = grind (arith, nat_tests)
 
-tightest : (n : ℕ) → zero + n ≡ 11 → nat_lt n 11 ≡ false
+tightest : (n : ℕ) → zero + n ≡ unary_level → nat_lt n unary_level ≡ false
 tightest n sum = grind (arith, nat_tests)
 
-next_sum : (m n : ℕ) → suc m + n ≡ 11 → m + (n + 1) ≡ 11
+next_sum : (m n : ℕ) → suc m + n ≡ unary_level → m + (n + 1) ≡ unary_level
 next_sum m n sum = omega arith
 
 pub down : (m n : ℕ) (stack : List Item) (tokens : List Token) (values : List PartialTree) (scope : Scope)
     (functions : List Definition) →
-    m + n ≡ 11 → is_lexical_error (first tokens) ≡ false →
+    m + n ≡ unary_level → is_lexical_error (first tokens) ≡ false →
     Leads (at (Part (Level n) ∷ stack) tokens values scope functions)
     (at (Part Unary ∷ tails m n stack) tokens values scope functions)
 down zero n stack tokens values scope functions sum sound =
@@ -71,7 +72,7 @@ up (suc m) n c stack tokens values scope functions = then _ _ _
 pub record Operates (o : Op) : Type 0 where
   pub level : ℕ
   pub above : ℕ
-  pub sum : above + (level + 1) ≡ 11
+  pub sum : above + (level + 1) ≡ unary_level
   pub goes : (stack : List Item) (tokens : List Token) (values : List PartialTree) (scope : Scope)
       (functions : List Definition) →
       Leads (at (tails 10 1 stack) (token.Punctuator (binary_punctuator o) ∷ tokens) values scope functions)

@@ -9,11 +9,13 @@ use Rattle.grammar.specs.declared.actions.Action.TheVariants.{EndFunction}
 use Rattle.grammar_laws.specs.Emitted.{IsNumbered, AreNumbered}
 use Rattle.grammar.specs.Following.{AValue, Fetched, InFunction, Opened, call_done, few_open, follow, follow_all}
 use Rattle.grammar.specs.Following.{is_callee_numbered, is_var_numbered, stored_origin, then_follow, opens_within}
+use Rattle.grammar.specs.NameLimits.{most_names}
 use Rattle.grammar.specs.Resolved.{IsVariable}
 use Rattle.grammar.proofs.Beginnings.{begin_makes, finish_makes}
 use Rattle.grammar.proofs.UnfinishedSteps.{callee_in, if_true, only_true, variable_in}
 
-store_numbered : (v : Var) (op : StoreOp) (o q : Opened) → follow (StoreVariable v op) o ≡ Some q → IsVariable 64 64 v
+store_numbered : (v : Var) (op : StoreOp) (o q : Opened) → follow (StoreVariable v op) o ≡ Some q →
+    IsVariable most_names most_names v
 store_numbered v op (AValue origin ∷ o) q e = variable_in v
     (only_true (is_var_numbered v) (AValue (stored_origin v origin) ∷ o) q e).0
 store_numbered v op o q e = absurd (cc)

@@ -9,10 +9,11 @@ use Rattle.arith.specs.declared.operators.Op.{Op}
 use Rattle.arith.specs.declared.operators.Op.TheVariants as op
 use Rattle.grammar.specs.Derivation.{PartialTree, AnExpr, AVariable, Definition}
 use Rattle.grammar.specs.Grammar as grammar
-use Rattle.grammar.specs.Grammar.{Item, Exactly, AName, Part, Make, Close, Mentioned, Level, Unary, Primary, Fetch, choice, is_lexical_error}
+use Rattle.grammar.specs.Grammar.{Item, Exactly, AName, Part, Make, Close, Mentioned, Level, Unary, Primary, Fetch, choice, is_lexical_error, Symbol}
 use Rattle.grammar.specs.Scope.{Scope, variable_of}
 use Rattle.grammar_laws.specs.Written.{Expression, Constant, Variable}
 use Rattle.grammar.specs.Operators.{binary_punctuator}
+use Rattle.grammar.proofs.Weight.{unary_level}
 use Rattle.grammar_laws.specs.Spelling.{spell, as_part, brackets}
 use Rattle.grammar_laws.specs.Resolving.{tree_of, behind, mentioned}
 use Rattle.grammar_laws.proofs.Leading.{Leads, then, at, first, second, part, make}
@@ -33,16 +34,18 @@ pub operator_ends : (o : Op) → EndsPart (binary_punctuator o)
 operator_ends op.Or = record { fetches = λ name. refl; begins = λ name. refl }
 operator_ends o = record { fetches = λ name. refl; begins = λ name. refl }
 
--- the derivation takes an expression as it is spelled, up to the punctuator after it
-abbrev pub IsTaken : Expression → Type 0
-IsTaken e =
+-- the derivation takes an expression from these tokens, up to the punctuator after it
+abbrev pub IsTakenFrom : List Token → Symbol → Expression → Type 0
+IsTakenFrom tokens symbol e =
     (c : Closing) (rest : List Token) (stack : List Item) (values : List PartialTree) (scope : Scope)
     (functions : List Definition) →
-    Leads
-    (at (Part grammar.Expression ∷ stack) (spell e ++ token.Punctuator (closing_punctuator c) ∷ rest) values scope
-    functions)
+    Leads (at (Part symbol ∷ stack) (tokens ++ token.Punctuator (closing_punctuator c) ∷ rest) values scope functions)
     (at stack (token.Punctuator (closing_punctuator c) ∷ rest) (AnExpr (tree_of e scope) ∷ values) (behind e scope)
     functions)
+
+-- as it is spelled
+abbrev pub IsTaken : Expression → Type 0
+IsTaken e = IsTakenFrom (spell e) grammar.Expression e
 
 abbrev pub spell_part : Expression → List Token
 spell_part e = as_part e (spell e)
@@ -104,14 +107,8 @@ part_begins (Variable name) m rest ends = ends.begins name
 part_begins e m rest ends = refl
 
 -- a part after which a level of operators ends
-pub part_at_level : (e : Expression) → IsOperand e → (m n : ℕ) → m + n ≡ 11 →
-    (c : Closing) (rest : List Token) (stack : List Item) (values : List PartialTree) (scope : Scope)
-    (functions : List Definition) →
-    Leads
-    (at (Part (Level n) ∷ stack) (spell_part e ++ token.Punctuator (closing_punctuator c) ∷ rest) values scope
-    functions)
-    (at stack (token.Punctuator (closing_punctuator c) ∷ rest) (AnExpr (tree_of e scope) ∷ values) (behind e scope)
-    functions)
+pub part_at_level : (e : Expression) → IsOperand e → (m n : ℕ) → m + n ≡ unary_level →
+    IsTakenFrom (spell_part e) (Level n) e
 part_at_level e is m n sum c rest stack values scope functions =
     then _ _ _
     (down m n stack (spell_part e ++ token.Punctuator (closing_punctuator c) ∷ rest) values scope functions sum
@@ -120,14 +117,7 @@ part_at_level e is m n sum c rest stack values scope functions =
     (up m n c stack rest (AnExpr (tree_of e scope) ∷ values) (behind e scope) functions))
 
 -- a part that is an expression of its own
-pub part_alone : (e : Expression) → IsOperand e →
-    (c : Closing) (rest : List Token) (stack : List Item) (values : List PartialTree) (scope : Scope)
-    (functions : List Definition) →
-    Leads
-    (at (Part grammar.Expression ∷ stack) (spell_part e ++ token.Punctuator (closing_punctuator c) ∷ rest) values scope
-    functions)
-    (at stack (token.Punctuator (closing_punctuator c) ∷ rest) (AnExpr (tree_of e scope) ∷ values) (behind e scope)
-    functions)
+pub part_alone : (e : Expression) → IsOperand e → IsTakenFrom (spell_part e) grammar.Expression e
 part_alone e is c rest stack values scope functions =
     then _ _ _
     (part grammar.Expression (Part (Level 1) ∷ []) stack

@@ -1,5 +1,5 @@
 -- `choice` is the plain grammar with its semantic actions, and the names of a production have one role.
-use Rattle.std.proofs.Common.{◌≡◌, ◌≤◌, ℕ, ◌+◌, refl, List, [], ◌∷◌, length, Bool, true, false, arith, zero, suc}
+use Rattle.std.proofs.Common.{◌≡◌, ◌<◌, ◌≤◌, ℕ, ◌+◌, refl, List, [], ◌∷◌, length, Bool, true, false, arith, zero, suc}
 use Rattle.std.specs.Fmt.{digits}
 use Rattle.std.specs.Prelude.{Option, Some, None, nat_lt, if◌then◌else◌, option_map, replicate}
 use Rattle.tokens.specs.declared.located_tokens.Punctuator.{Punctuator}
@@ -11,6 +11,7 @@ use Rattle.arith.specs.declared.operators.Op.{Op}
 use Rattle.grammar.specs.declared.operators.StoreOp.{StoreOp}
 use Rattle.grammar.specs.Grammar.{Role, Symbol, Head, Expression, Level, Tail, Unary, Primary, Mentioned, Part, assignment_or, choice, tail_production}
 use Rattle.grammar.specs.Operators.{operator_at, store_of}
+use Rattle.grammar.proofs.Weight.{unary_level}
 use Rattle.grammar_laws.specs.Scheme.{ActsByRows, ChoosesRows, HasOneRole, IsSymbol, action_rows, actions_after, in_words, found_actions, of_symbol, plain, role_in_production, roles_in, roles_of}
 
 -- the production chosen is the row's, with the semantic actions listed for it
@@ -19,34 +20,7 @@ Fits symbol next after = (option_map in_words (choice symbol next after) ≡ pla
     × (option_map (actions_after 0) (choice symbol next after)
     ≡ option_map (found_actions (of_symbol symbol) action_rows) (plain symbol next after))
 
-head_fits : (next after : Token) → Fits Head next after
-unfolding digits
-head_fits (token.Name name) (token.Punctuator punctuator.Plus) = (refl, refl)
-head_fits (token.Name name) (token.Keyword keyword.Type) = (refl, refl)
-head_fits (token.Name name) after = (refl, refl)
-head_fits (token.Punctuator punctuator.Plus) after = (refl, refl)
-head_fits (token.Keyword keyword.Type) after = (refl, refl)
-head_fits next after = (refl, refl)
-
-expression_fits : (next after : Token) → Fits Expression next after
-unfolding digits
-expression_fits (token.Name name) (token.Punctuator punctuator.Plus) = (refl, refl)
-expression_fits (token.Name name) (token.Keyword keyword.Type) = (refl, refl)
-expression_fits (token.Name name) after = (refl, refl)
-expression_fits (token.Punctuator punctuator.Plus) after = (refl, refl)
-expression_fits (token.Keyword keyword.Type) after = (refl, refl)
-expression_fits next after = (refl, refl)
-
-primary_fits : (next after : Token) → Fits Primary next after
-unfolding digits
-primary_fits (token.Name name) (token.Punctuator punctuator.Plus) = (refl, refl)
-primary_fits (token.Name name) (token.Keyword keyword.Type) = (refl, refl)
-primary_fits (token.Name name) after = (refl, refl)
-primary_fits (token.Punctuator punctuator.Plus) after = (refl, refl)
-primary_fits (token.Keyword keyword.Type) after = (refl, refl)
-primary_fits next after = (refl, refl)
-
-level_fits : (n : ℕ) (next after : Token) → n ≤ 10 → Fits (Level (suc n)) next after
+level_fits : (n : ℕ) (next after : Token) → n < unary_level → Fits (Level (suc n)) next after
 unfolding digits
 level_fits (suc (suc (suc (suc (suc (suc (suc (suc (suc (suc (suc n))))))))))) next after l = absurd (omega arith)
 level_fits n next after l = (refl, refl)
@@ -60,13 +34,16 @@ tail_fits n next after l = (refl, refl)
 
 fits : (symbol : Symbol) (next after : Token) → IsSymbol symbol → Fits symbol next after
 unfolding digits
-fits Head next after d = head_fits next after
-fits Expression next after d = expression_fits next after
-fits Primary next after d = primary_fits next after
 fits (Level zero) next after d = absurd (omega arith)
 fits (Level (suc n)) next after d = level_fits n next after (omega arith)
 fits (Tail zero) next after d = absurd (omega arith)
 fits (Tail (suc n)) next after d = tail_fits n next after (omega arith)
+fits Head (token.Name name) (token.Punctuator punctuator.Plus) d = (refl, refl)
+fits Head (token.Name name) (token.Keyword keyword.Type) d = (refl, refl)
+fits Expression (token.Name name) (token.Punctuator punctuator.Plus) d = (refl, refl)
+fits Expression (token.Name name) (token.Keyword keyword.Type) d = (refl, refl)
+fits Primary (token.Name name) (token.Punctuator punctuator.Plus) d = (refl, refl)
+fits Primary (token.Name name) (token.Keyword keyword.Type) d = (refl, refl)
 fits symbol (token.Punctuator punctuator.Plus) after d = (refl, refl)
 fits symbol (token.Keyword keyword.Type) after d = (refl, refl)
 fits symbol next after d = (refl, refl)
@@ -94,30 +71,17 @@ expression_role : (o : Option StoreOp) (m : Punctuator) → AreFor Mentioned (ro
 expression_role None m = refl
 expression_role (Some op) m = refl
 
-head_role : (next after : Token) → AreFor (role_in_production Head after) (roles_of (choice Head next after))
-head_role (token.Name name) (token.Punctuator punctuator.OpenRound) = refl
-head_role (token.Name name) after = refl
-head_role next (token.Punctuator punctuator.OpenRound) = refl
-head_role next after = refl
-
-primary_role : (next after : Token) → AreFor (role_in_production Primary after) (roles_of (choice Primary next after))
-primary_role (token.Name name) (token.Punctuator punctuator.OpenRound) = refl
-primary_role (token.Name name) after = refl
-primary_role (token.Punctuator punctuator.OpenRound) after = refl
-primary_role next after = refl
-
 pub has_one_role : HasOneRole
 has_one_role symbol next after = role symbol next after
   where
     role : (symbol : Symbol) (next after : Token) →
         AreFor (role_in_production symbol after) (roles_of (choice symbol next after))
-    role Head next after = head_role next after
     role Expression (token.Name name) (token.Punctuator m) = expression_role (store_of m) m
-    role Expression next after = refl
-    role (Level n) next after = level_role n (nat_lt n 11)
+    role (Level n) next after = level_role n (nat_lt n unary_level)
     role (Tail n) (token.Punctuator m) after = tail_role n (operator_at n (token.Punctuator m)) m
     role (Tail n) next after = refl
-    role Primary next after = primary_role next after
+    role Head (token.Name name) (token.Punctuator punctuator.OpenRound) = refl
+    role Primary (token.Name name) (token.Punctuator punctuator.OpenRound) = refl
     role symbol (token.Punctuator punctuator.Plus) after = refl
     role symbol (token.Keyword keyword.Type) after = refl
     role symbol next after = refl

@@ -17,6 +17,7 @@ use Rattle.grammar.specs.Grammar.{Symbol, Source, Types, Head, More, Parameters,
 use Rattle.grammar.specs.Grammar.{Declarations, Statements, Statement, ElsePart, Back, Expression, Level, Tail, Unary}
 use Rattle.grammar.specs.Grammar.{Primary, Arguments, MoreArguments, Role, Defined, Parameter, Called, Mentioned, Item}
 use Rattle.grammar.specs.Grammar.{Exactly, AKeyword, AName, AConstant, AnEnd, Part, Make, Close, SemanticAction, Define}
+use Rattle.grammar.specs.NameLimits.{most_names, most_nested}
 use Rattle.grammar.specs.Nesting.{nesting, args_nesting, body_nesting}
 use Rattle.grammar.specs.Resolved.{IsVariable, IsCallable, InExpr, InArgs, InBody}
 use Rattle.grammar.specs.Tree as tree
@@ -25,15 +26,15 @@ use Rattle.grammar.specs.Tree.{Expr, Args, Body}
 -- Trees within the limits: their names, and how much is open in them at once.
 
 pub record ExprFits (A : Type 0) (room : ℕ) (e : Expr) : Type 0 where
-  pub names : A → InExpr 64 64 64 e
+  pub names : A → InExpr most_names most_names most_names e
   pub few : A → nesting e ≤ room
 
 pub record ArgsFit (A : Type 0) (room : ℕ) (args : Args) : Type 0 where
-  pub names : A → InArgs 64 64 64 args
+  pub names : A → InArgs most_names most_names most_names args
   pub few : A → args_nesting args ≤ room
 
 pub record BodyFits (A : Type 0) (room : ℕ) (b : Body) : Type 0 where
-  pub names : A → InBody 64 64 64 b
+  pub names : A → InBody most_names most_names most_names b
   pub few : A → body_nesting b ≤ room
 
 -- what is true of the trees, of the number and the parameters of the function that is being defined, of the functions
@@ -92,7 +93,7 @@ pub record Defines (A : Type 0) (next : Fact) (values : List PartialTree) (n k :
   pub reported : definitions_actions ds ++ (BeginFunction n k ∷ body_actions (last_body values)) ≡ acts
   pub fit : A → AreReportable ds
   pub body : BodyFits A 200 (last_body values)
-  pub numbers : A → (n < 64) × (k ≤ 64)
+  pub numbers : A → (n < most_names) × (k ≤ most_names)
   pub on : (left : List PartialTree) (m j : ℕ) (more : List Definition) → (A → AreReportable more) →
       next left m j more (definitions_actions more)
 
@@ -143,9 +144,9 @@ Branched A least next values n k ds acts = OnBranch
 abbrev pub Named : Type 0 → Role → Fact → Fact
 Named A Defined next values n k ds acts = (m j : ℕ) → next values m j ds acts
 Named A Parameter next values n k ds acts = (j : ℕ) → next values n j ds acts
-Named A Called next values n k ds acts = (f : Callee) → (A → IsCallable 64 f) →
+Named A Called next values n k ds acts = (f : Callee) → (A → IsCallable most_names f) →
     next (ACall f tree.NoMore ∷ values) n k ds (acts ++ BeginCall ∷ [])
-Named A Mentioned next values n k ds acts = (v : Var) → (A → IsVariable 64 64 v) →
+Named A Mentioned next values n k ds acts = (v : Var) → (A → IsVariable most_names most_names v) →
     next (AVariable v ∷ values) n k ds acts
 Named A role next values n k ds acts = next values n k ds acts
 
@@ -158,7 +159,7 @@ Listed role next values n k ds acts = next values n k ds acts
 
 -- how much may be open at once within this many levels, without the right sides of && and ||
 abbrev pub room_in : List Item → ℕ
-room_in stack = 3 * (64 - nested_count stack)
+room_in stack = 3 * (most_nested - nested_count stack)
 
 abbrev pub Parted : Type 0 → Symbol → ℕ → Fact → Fact
 Parted A Source room next values n k ds acts = Between A next ds acts

@@ -12,7 +12,7 @@ use Rattle.grammar.specs.Faults.{Fault, fault, faults_at, stack_faults, nested_c
 use Rattle.grammar.specs.Faults.{name_faults, only_if, role_faults}
 use Rattle.grammar.specs.Grammar.{Symbol, FunctionBlock, Item, AName, Part, Make, Define, Role, Called, Mentioned}
 use Rattle.grammar.specs.Grammar.{enters, is_lexical_error}
-use Rattle.grammar.specs.NameLimits.{most_nested}
+use Rattle.grammar.specs.NameLimits.{most_names, most_nested}
 use Rattle.grammar.specs.Profile.{Profile}
 use Rattle.grammar.specs.Resolved.{IsAmong}
 use Rattle.grammar.specs.Scope.{Scope, scope_after_name, callee_of, variable_of}
@@ -27,11 +27,11 @@ use Rattle.grammar_laws.proofs.ReportingSteps.{Allows, NameAllows}
 -- Levels.
 
 level_below : (enters : Bool) (open_levels : ℕ) (f : Fault) →
-    only_if enters (only_if (nat_le most_nested open_levels) (f ∷ [])) ≡ [] → enters ≡ true → open_levels < 64
+    only_if enters (only_if (nat_le most_nested open_levels) (f ∷ [])) ≡ [] → enters ≡ true → open_levels < most_nested
 unfolding most_nested
-level_below true open_levels f clean e = by (nat_le 64 open_levels) refl clean
+level_below true open_levels f clean e = by (nat_le most_nested open_levels) refl clean
   where
-    by : (b : Bool) → nat_le 64 open_levels ≡ b → only_if b (f ∷ []) ≡ [] → open_levels < 64
+    by : (b : Bool) → nat_le most_nested open_levels ≡ b → only_if b (f ∷ []) ≡ [] → open_levels < most_nested
     by true is h = absurd (cc)
     by false is h = grind (arith, nat_tests)
 level_below false open_levels f clean e = absurd (cc)
@@ -39,7 +39,8 @@ level_below false open_levels f clean e = absurd (cc)
 -- Names.
 
 scoped_wider : (scope : Scope) (ds : List Definition) → IsScoped scope ds →
-    IsWider (length scope.externals) (length scope.current.variables) (length scope.functions) 64 64 64
+    IsWider (length scope.externals) (length scope.current.variables) (length scope.functions) most_names most_names
+    most_names
 scoped_wider scope ds k = record { externals = k.externals; locals = k.variables; functions = k.functions }
 
 call_allowed : (name : List ℕ) (scope : Scope) (ds : List Definition) (rest : List LocatedToken) → IsScoped scope ds →
@@ -47,7 +48,8 @@ call_allowed : (name : List ℕ) (scope : Scope) (ds : List Definition) (rest : 
 call_allowed name scope ds rest k clean =
     let g : Grows scope (scope_after_name Called name (line_at rest) scope) ds =
     role_grows Called name (line_at rest) scope ds rest tt k clean in
-    λ a. callable_wider _ _ _ 64 64 64 (scoped_wider (scope_after_name Called name (line_at rest) scope) ds g.scoped)
+    λ a. callable_wider _ _ _ most_names most_names most_names
+    (scoped_wider (scope_after_name Called name (line_at rest) scope) ds g.scoped)
     (callee_of name scope) (callee_in name (line_at rest) scope)
 
 mention_allowed : (name : List ℕ) (scope : Scope) (ds : List Definition) (rest : List LocatedToken) →
@@ -56,7 +58,8 @@ mention_allowed : (name : List ℕ) (scope : Scope) (ds : List Definition) (rest
 mention_allowed name scope ds rest k clean =
     let g : Grows scope (scope_after_name Mentioned name (line_at rest) scope) ds =
     role_grows Mentioned name (line_at rest) scope ds rest tt k clean in
-    λ a. variable_wider _ _ _ 64 64 64 (scoped_wider (scope_after_name Mentioned name (line_at rest) scope) ds g.scoped)
+    λ a. variable_wider _ _ _ most_names most_names most_names
+    (scoped_wider (scope_after_name Mentioned name (line_at rest) scope) ds g.scoped)
     (variable_of name scope) (variable_in name scope)
 
 name_allowed : (role : Role) (name : Option (List ℕ)) (scope : Scope) (ds : List Definition)

@@ -22,10 +22,12 @@ use Rattle.grammar.specs.Grammar.{Symbol, Source, Types, Head, More, Parameters,
 use Rattle.grammar.specs.Grammar.{Declarations, Statements, Statement, ElsePart, Back, Expression, Level, Tail, Unary}
 use Rattle.grammar.specs.Grammar.{Primary, Arguments, MoreArguments, Item, Part, Make, Operate, AddArgument, choice}
 use Rattle.grammar.specs.Grammar.{assignment_or, tail_production}
+use Rattle.grammar.specs.NameLimits.{most_names, most_nested}
 use Rattle.grammar.specs.Operators.{operator_at, store_of}
 use Rattle.grammar.specs.Scope.{Scope}
 use Rattle.grammar.specs.Tree as tree
-use Rattle.grammar.specs.Tree.{Expr, add_argument}
+use Rattle.grammar.specs.Tree.{Expr}
+use Rattle.grammar.proofs.Weight.{unary_level}
 use Rattle.grammar_laws.proofs.Fitting.{constant_fits, variable_fits, postfix_fits, expr_wider, assign_fits, binary_fits}
 use Rattle.grammar_laws.proofs.Fitting.{call_fits, no_args_fit, argument_fits, argument_actions, side_fits}
 use Rattle.grammar_laws.proofs.ReportingProductions.{and_then_is, Produced, Enters, source_reports, head_reports}
@@ -115,7 +117,7 @@ assignment_reports : (A : Type 0) (o : Option StoreOp) (p : Punctuator) (stack :
 assignment_reports A None p stack values n k ds acts h = h
 assignment_reports A (Some o) p stack values n k ds acts h = λ v i e f.
     given A (room_in stack + 2) (Reports A stack) values n k ds acts h (tree.Assign o v e)
-    (assign_fits A (3 * (64 - (nested_count stack + 1)) + 2) (room_in stack + 2) o v e (λ a. omega arith) i f)
+    (assign_fits A (3 * (most_nested - (nested_count stack + 1)) + 2) (room_in stack + 2) o v e (λ a. omega arith) i f)
     _ (sym (append_assoc acts (expr_actions e) (StoreVariable v o ∷ [])))
 
 expression_reports : (A : Type 0) (next after : Token) (stack : List Item) (values : List PartialTree) (n k : ℕ)
@@ -138,7 +140,7 @@ back_reports A next after stack values n k ds acts h = h
 
 -- the room within a level more
 abbrev inner : List Item → ℕ
-inner stack = 3 * (64 - (nested_count stack + 1))
+inner stack = 3 * (most_nested - (nested_count stack + 1))
 
 negated : (acts e : List Action) → acts ++ (PushConstant (pos 0) ∷ (e ++ ApplyBinop op.Subtract ∷ [])) ≡
     ((acts ++ PushConstant (pos 0) ∷ []) ++ e) ++ ApplyBinop op.Subtract ∷ []
@@ -249,33 +251,9 @@ further_arguments_report A next after stack values n k ds acts h =
 
 -- Any symbol.
 
-types_report : (A : Type 0) (next after : Token) (stack : List Item) (values : List PartialTree) (n k : ℕ)
-    (ds : List Definition) (acts : List Action) →
-    Reports A stack values n k ds acts → Produced A (choice Types next after) stack values n k ds acts
-types_report A (token.Keyword keyword.Type) after stack values n k ds acts h = h
-types_report A next after stack values n k ds acts h = h
-
-parameters_report : (A : Type 0) (next after : Token) (stack : List Item) (values : List PartialTree) (n k : ℕ)
-    (ds : List Definition) (acts : List Action) →
-    ((j : ℕ) → Reports A stack values n j ds acts) → Produced A (choice Parameters next after) stack values n k ds acts
-parameters_report A (token.Name name) after stack values n k ds acts h = λ j i. h i
-parameters_report A next after stack values n k ds acts h = h k
-
-parameter_types_report : (A : Type 0) (next after : Token) (stack : List Item) (values : List PartialTree) (n k : ℕ)
-    (ds : List Definition) (acts : List Action) →
-    Reports A stack values n k ds acts → Produced A (choice ParameterTypes next after) stack values n k ds acts
-parameter_types_report A (token.Keyword keyword.Type) after stack values n k ds acts h = h
-parameter_types_report A next after stack values n k ds acts h = h
-
-declarations_report : (A : Type 0) (next after : Token) (stack : List Item) (values : List PartialTree) (n k : ℕ)
-    (ds : List Definition) (acts : List Action) →
-    Reports A stack values n k ds acts → Produced A (choice Declarations next after) stack values n k ds acts
-declarations_report A (token.Keyword keyword.Type) after stack values n k ds acts h = h
-declarations_report A next after stack values n k ds acts h = h
-
 -- a function's number and its parameters are within the limits, if a function's block is next
 abbrev pub Begins : Type 0 → Symbol → Scope → Type 0
-Begins A FunctionBlock scope = A → (scope.number < 64) × (scope.current.parameters ≤ 64)
+Begins A FunctionBlock scope = A → (scope.number < most_names) × (scope.current.parameters ≤ most_names)
 Begins A symbol scope = Unit {0}
 
 pub part_reports : (A : Type 0) (symbol : Symbol) (next after : Token) (stack : List Item) (values : List PartialTree)
@@ -286,22 +264,22 @@ pub part_reports : (A : Type 0) (symbol : Symbol) (next after : Token) (stack : 
     (and_then acts (on_choice symbol next scope))
 part_reports A Source next after stack values scope ds acts level begins h =
     source_reports A next after stack values scope.number scope.current.parameters ds acts h
-part_reports A Types next after stack values scope ds acts level begins h =
-    types_report A next after stack values scope.number scope.current.parameters ds acts h
+part_reports A Types (token.Keyword keyword.Type) after stack values scope ds acts level begins h = h
+part_reports A Types next after stack values scope ds acts level begins h = h
 part_reports A Head next after stack values scope ds acts level begins h =
     head_reports A next after stack values scope.number scope.current.parameters ds acts h
 part_reports A (More role) next after stack values scope ds acts level begins h =
     more_reports A role next after stack values scope.number scope.current.parameters ds acts h
-part_reports A Parameters next after stack values scope ds acts level begins h =
-    parameters_report A next after stack values scope.number scope.current.parameters ds acts h
-part_reports A ParameterTypes next after stack values scope ds acts level begins h =
-    parameter_types_report A next after stack values scope.number scope.current.parameters ds acts h
+part_reports A Parameters (token.Name name) after stack values scope ds acts level begins h = λ j i. h i
+part_reports A Parameters next after stack values scope ds acts level begins h = h scope.current.parameters
+part_reports A ParameterTypes (token.Keyword keyword.Type) after stack values scope ds acts level begins h = h
+part_reports A ParameterTypes next after stack values scope ds acts level begins h = h
 part_reports A FunctionBlock next after stack values scope ds acts level begins h =
     function_reports A next after stack values scope ds acts begins h
 part_reports A Block next after stack values scope ds acts level begins h =
     block_reports A next after stack values scope.number scope.current.parameters ds acts h
-part_reports A Declarations next after stack values scope ds acts level begins h =
-    declarations_report A next after stack values scope.number scope.current.parameters ds acts h
+part_reports A Declarations (token.Keyword keyword.Type) after stack values scope ds acts level begins h = h
+part_reports A Declarations next after stack values scope ds acts level begins h = h
 part_reports A Statements next after stack values scope ds acts level begins h =
     statements_report A next after stack values scope.number scope.current.parameters ds acts h
 part_reports A Statement next after stack values scope ds acts level begins h =
@@ -313,7 +291,7 @@ part_reports A Back next after stack values scope ds acts level begins h =
 part_reports A Expression next after stack values scope ds acts level begins h =
     expression_reports A next after stack values scope.number scope.current.parameters ds acts h
 part_reports A (Level m) next after stack values scope ds acts level begins h =
-    level_reports A m (nat_lt m 11) stack values scope.number scope.current.parameters ds acts h
+    level_reports A m (nat_lt m unary_level) stack values scope.number scope.current.parameters ds acts h
 part_reports A (Tail m) next after stack values scope ds acts level begins h =
     tail_reports A m next after stack values scope scope.number scope.current.parameters ds acts h
 part_reports A Unary next after stack values scope ds acts level begins h =

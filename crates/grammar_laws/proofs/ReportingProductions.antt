@@ -8,8 +8,7 @@ use Rattle.tokens.specs.declared.located_tokens.Token.TheVariants as token
 use Rattle.tokens.specs.declared.located_tokens.Keyword.TheVariants as keyword
 use Rattle.grammar.specs.declared.actions.Action.TheVariants as action
 use Rattle.grammar.specs.declared.actions.Action.{Action}
-use Rattle.grammar.specs.declared.actions.Action.TheVariants.{PushConstant, StoreVariable, ApplyBinop, BeginCall}
-use Rattle.grammar.specs.declared.actions.Action.TheVariants.{EndCall, IfTest, EndIf, BeginWhile, WhileTest, EndWhile}
+use Rattle.grammar.specs.declared.actions.Action.TheVariants.{IfTest, EndIf, BeginWhile, WhileTest, EndWhile}
 use Rattle.grammar.specs.declared.actions.Action.TheVariants.{Chop, BeginFunction}
 use Rattle.grammar.specs.Actions.{expr_actions, body_actions}
 use Rattle.grammar.specs.Derivation.{PartialTree, AnExpr, ABody, Definition}
@@ -19,9 +18,10 @@ use Rattle.grammar.specs.Grammar.{Symbol, Source, Head, More, FunctionBlock, Blo
 use Rattle.grammar.specs.Grammar.{Back, Expression, Role, Defined, External, Parameter, Typed, Local, Called, Mentioned}
 use Rattle.grammar.specs.Grammar.{Item, Exactly, AName, Part, Make, Close, Repeat, DecideElse, Evaluate, GiveBack}
 use Rattle.grammar.specs.Grammar.{Empty, Decide, Production, choice, enters}
+use Rattle.grammar.specs.NameLimits.{most_names, most_nested}
 use Rattle.grammar.specs.Scope.{Scope}
 use Rattle.grammar.specs.Tree as tree
-use Rattle.grammar.specs.Tree.{Expr, Args, Body, add_argument, join}
+use Rattle.grammar.specs.Tree.{Expr, Body, join}
 use Rattle.grammar.proofs.Unfinished.{body_actions-join}
 use Rattle.grammar_laws.proofs.Fitting.{done_fits, join_fits, statement_fits, return_fits, if_fits, if_else_fits, while_fits}
 use Rattle.grammar_laws.proofs.Reporting.{BodyFits, Fact, Adds, Branches, Between, Defines, Stated, Branched, Listed, room_in}
@@ -37,7 +37,7 @@ Produced A (Some items) stack values n k ds acts = Reports A (items ++ stack) va
 
 -- a nested production is one of as many as may be open
 abbrev pub Enters : Type 0 → Symbol → Token → Token → List Item → Type 0
-Enters A symbol next after stack = A → enters symbol next after ≡ true → nested_count stack < 64
+Enters A symbol next after stack = A → enters symbol next after ≡ true → nested_count stack < most_nested
 
 -- Files.
 
@@ -112,7 +112,7 @@ more_reports A role next after stack values n k ds acts h = no_more_names A role
 -- Functions.
 
 defines : (A : Type 0) (next : Fact) (values : List PartialTree) (n k : ℕ) (ds : List Definition) (acts : List Action) →
-    (A → (n < 64) × (k ≤ 64)) → Between A next ds acts →
+    (A → (n < most_names) × (k ≤ most_names)) → Between A next ds acts →
     (b : Body) → BodyFits A 200 b → Defines A next (ABody b ∷ values) n k ds
     ((acts ++ BeginFunction n k ∷ []) ++ body_actions b)
 defines A next values n k ds acts numbers h b f = record {
@@ -126,9 +126,10 @@ defines A next values n k ds acts numbers h b f = record {
 
 pub function_reports : (A : Type 0) (next after : Token) (stack : List Item) (values : List PartialTree) (scope : Scope)
     (ds : List Definition) (acts : List Action) →
-    (A → (scope.number < 64) × (scope.current.parameters ≤ 64)) → Between A (Reports A stack) ds acts →
+    (A → (scope.number < most_names) × (scope.current.parameters ≤ most_names)) → Between A (Reports A stack) ds acts →
     Produced A (choice FunctionBlock next after) stack values scope.number scope.current.parameters ds
     (and_then acts (on_choice FunctionBlock next scope))
+unfolding most_nested
 function_reports A (token.Punctuator punctuator.OpenCurly) after stack values scope ds acts numbers h = record {
   base = acts ++ BeginFunction scope.number scope.current.parameters ∷ [];
   room = 200;
@@ -212,15 +213,15 @@ branch_actions base b acts c x s e = sym (append_assoc base b (c ++ x ∷ s)) �
 
 decides : (A : Type 0) (stack : List Item) (values : List PartialTree) (n k : ℕ) (ds : List Definition)
     (acts : List Action) →
-    (A → nested_count stack < 64) → Stated A (room_in stack + 2) (Reports A stack) values n k ds acts →
+    (A → nested_count stack < most_nested) → Stated A (room_in stack + 2) (Reports A stack) values n k ds acts →
     Reports A (Part Expression ∷ Exactly punctuator.CloseRound ∷ Make Empty ∷ Part Statement ∷ Part
     ElsePart ∷ Close ∷ stack) values n k ds acts
 decides A stack (ABody b ∷ below) n k ds acts nested h = λ c f. record {
   base = (acts ++ expr_actions c) ++ IfTest ∷ [];
-  room = 3 * (64 - (nested_count stack + 1)) + 2;
+  room = 3 * (most_nested - (nested_count stack + 1)) + 2;
   enough = λ a. omega arith;
   reported = append-nil ((acts ++ expr_actions c) ++ IfTest ∷ []);
-  fits = done_fits A (3 * (64 - (nested_count stack + 1)) + 2);
+  fits = done_fits A (3 * (most_nested - (nested_count stack + 1)) + 2);
   on = λ s g. record {
     base = h.base;
     room = h.room;
@@ -240,18 +241,19 @@ turn_actions acts c s = simp append_assoc refl
 
 repeats : (A : Type 0) (stack : List Item) (values : List PartialTree) (n k : ℕ) (ds : List Definition)
     (acts : List Action) →
-    (A → nested_count stack < 64) → Stated A (room_in stack + 2) (Reports A stack) values n k ds acts →
+    (A → nested_count stack < most_nested) → Stated A (room_in stack + 2) (Reports A stack) values n k ds acts →
     Reports A (Part Expression ∷ Exactly punctuator.CloseRound ∷ Make Empty ∷ Part Statement ∷ Make
     Repeat ∷ Close ∷ stack) values n k ds (acts ++ BeginWhile ∷ [])
 repeats A stack (ABody b ∷ below) n k ds acts nested h = λ c f. record {
   base = ((acts ++ BeginWhile ∷ []) ++ expr_actions c) ++ WhileTest ∷ [];
-  room = 3 * (64 - (nested_count stack + 1)) + 2;
+  room = 3 * (most_nested - (nested_count stack + 1)) + 2;
   enough = λ a. omega arith;
   reported = append-nil (((acts ++ BeginWhile ∷ []) ++ expr_actions c) ++ WhileTest ∷ []);
-  fits = done_fits A (3 * (64 - (nested_count stack + 1)) + 2);
+  fits = done_fits A (3 * (most_nested - (nested_count stack + 1)) + 2);
   on = λ s g. added A (room_in stack + 2) (λ x more. Reports A stack (ABody x ∷ below) n k ds more) b acts h
       (tree.While c s tree.Done)
-      (while_fits A (3 * (64 - (nested_count stack + 1)) + 2) h.room c s (λ a. omega (arith, nested a, h.enough a)) f g)
+      (while_fits A (3 * (most_nested - (nested_count stack + 1)) + 2) h.room c s
+      (λ a. omega (arith, nested a, h.enough a)) f g)
       _ (turn_actions acts (expr_actions c) (body_actions s));
 }
 repeats A stack values n k ds acts nested h = absurd h
@@ -290,13 +292,6 @@ statement_reports A (token.Keyword keyword.Return) after stack values scope n k 
 statement_reports A next after stack values scope n k ds acts nested h = evaluates A stack values n k ds acts h
 
 -- The end of an if.
-
-joined : (base b s acts more all : List Action) → base ++ (b ++ s) ≡ all → all ++ more ≡ acts →
-    base ++ (b ++ (s ++ more)) ≡ acts
-joined base b s acts more all e f = regroup ∙ ap (λ xs. xs ++ more) e ∙ f
-  where
-    regroup : base ++ (b ++ (s ++ more)) ≡ (base ++ (b ++ s)) ++ more
-    regroup = simp append_assoc refl
 
 decided : (A : Type 0) (least : ℕ) (next : Body → List Action → Type 0) (s : Body) (c : Expr) (b : Body)
     (acts : List Action) → Branches A least next s c b acts →

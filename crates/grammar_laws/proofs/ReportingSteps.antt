@@ -22,6 +22,7 @@ use Rattle.grammar.specs.Grammar.{AnEnd, Part, Make, Close, SemanticAction, Fetc
 use Rattle.grammar.specs.Grammar.{Store, PrefixIncrement, PostfixIncrement, Invoke}
 use Rattle.grammar.specs.Grammar.{Define, Role, Defined, External, Parameter, Typed, Local}
 use Rattle.grammar.specs.Grammar.{Called, Mentioned, Production, choice, is_lexical_error, is_punctuator, is_keyword}
+use Rattle.grammar.specs.NameLimits.{most_names}
 use Rattle.grammar.specs.Resolved.{IsVariable, IsCallable}
 use Rattle.grammar.specs.Scope.{Scope, scope_after_name, end_definition, variable_of, callee_of, is_external_new}
 use Rattle.grammar.specs.Scope.{is_local_new, is_variable_new, is_function_new, with_external, with_parameter}
@@ -43,13 +44,13 @@ After A (Some s) acts more = StateReports A s (and_then acts more)
 -- What is asked of a state if the limits are to hold.
 
 abbrev pub NameAllows : Type 0 → Role → Option (List ℕ) → Scope → Type 0
-NameAllows A Called (Some name) scope = A → IsCallable 64 (callee_of name scope)
-NameAllows A Mentioned (Some name) scope = A → IsVariable 64 64 (variable_of name scope)
+NameAllows A Called (Some name) scope = A → IsCallable most_names (callee_of name scope)
+NameAllows A Mentioned (Some name) scope = A → IsVariable most_names most_names (variable_of name scope)
 NameAllows A role name scope = Unit {0}
 
 abbrev pub RuleAllows : Type 0 → SemanticAction → Scope → Type 0
 RuleAllows A Define scope = A → (scope.current.parameters ≤ length scope.current.variables) ×
-    (length scope.current.variables ≤ 64)
+    (length scope.current.variables ≤ most_names)
 RuleAllows A rule scope = Unit {0}
 
 abbrev pub Allows : Type 0 → List Item → List LocatedToken → Scope → Type 0

@@ -4,7 +4,7 @@ use Rattle.tokens.specs.declared.located_tokens.Punctuator.TheVariants as punctu
 use Rattle.tokens.specs.declared.located_tokens.Token.{Token}
 use Rattle.tokens.specs.declared.located_tokens.Token.TheVariants as token
 use Rattle.tokens.specs.declared.located_tokens.Keyword.TheVariants as keyword
-use Rattle.grammar.specs.Derivation.{PartialTree, AnExpr, ABody, Definition}
+use Rattle.grammar.specs.Derivation.{State, PartialTree, AnExpr, ABody, Definition}
 use Rattle.grammar.specs.Grammar as grammar
 use Rattle.grammar.specs.Grammar.{Item, Exactly, Part, Make, Close, Declarations, ElsePart, Back, Empty, Decide, DecideElse, Repeat, Zero, GiveBack, is_lexical_error}
 use Rattle.grammar.specs.Scope.{Scope}
@@ -81,20 +81,21 @@ evaluate e rest f stack before values scope functions =
     (ABody (join before (tree.ExpressionStatement (tree_of e scope) tree.Done)) ∷ values) (behind e scope)
     functions f.sound refl refl refl))))
 
--- a condition in brackets, and the body after it
-conditioned : (c : Expression) (body : Statements) → AreAdded body → (rest : List Token) →
+-- the start of a statement, a condition in brackets, and the body after it
+conditioned : {from : State} (c : Expression) (body : Statements) → AreAdded body → (rest : List Token) →
     is_lexical_error (first rest) ≡ false →
     (stack : List Item) (values : List PartialTree) (scope : Scope) (functions : List Definition) →
-    Leads
+    Leads from
     (at (Part grammar.Expression ∷ Exactly punctuator.CloseRound ∷ Make Empty ∷ Part grammar.Statement ∷ stack)
     (spell c ++ token.Punctuator punctuator.CloseRound ∷ (braces (spell_statements body) ++ rest)) values scope
-    functions)
+    functions) →
+    Leads from
     (at stack rest (ABody (bodies_of body (behind c scope)) ∷ AnExpr (tree_of c scope) ∷ values)
     (behind_statements body (behind c scope)) functions)
-conditioned c body added rest sound stack values scope functions =
+conditioned c body added rest sound stack values scope functions starts =
     let tokens : List Token = braces (spell_statements body) ++ rest in
     let test : List PartialTree = AnExpr (tree_of c scope) ∷ values in
-    then _ _ _
+    then _ _ _ starts (then _ _ _
     (taken c Round tokens (Exactly punctuator.CloseRound ∷ Make Empty ∷ Part grammar.Statement ∷ stack) values scope
     functions)
     (then _ (at (Make Empty ∷ Part grammar.Statement ∷ stack) tokens test (behind c scope) functions) _
@@ -102,7 +103,7 @@ conditioned c body added rest sound stack values scope functions =
     (then _ _ _
     (make Empty (Part grammar.Statement ∷ stack) tokens test (ABody tree.Done ∷ test) (behind c scope) functions refl
     refl refl refl)
-    (block body added rest sound stack tree.Done test (behind c scope) functions)))
+    (block body added rest sound stack tree.Done test (behind c scope) functions))))
 
 -- ( condition ) .. with what follows it
 opened : (c : Expression) (more rest : List Token) →
@@ -122,15 +123,12 @@ decide c body added rest f stack before values scope functions =
     let all : Body = join before (body_of (If c body) scope) in
     let end : List Item = Part ElsePart ∷ Close ∷ stack in
     rw (opened c (braces (spell_statements body)) rest)
-    (then _
-    (at (Part grammar.Expression ∷ Exactly punctuator.CloseRound ∷ Make Empty ∷ Part grammar.Statement ∷ end)
-    (spell c ++ token.Punctuator punctuator.CloseRound ∷ (braces (spell_statements body) ++ rest))
-    (ABody before ∷ values) scope functions) _
-    (record { steps = 3; leads = refl })
-    (then _ _ _ (conditioned c body added rest f.sound end (ABody before ∷ values) scope functions)
+    (then _ _ _
+    (conditioned c body added rest f.sound end (ABody before ∷ values) scope functions
+    (record { steps = 3; leads = refl }))
     (then _ _ _ (part ElsePart (Make Decide ∷ []) (Close ∷ stack) rest parts in_scope functions f.sound f.no_else)
     (then _ _ _ (make Decide (Close ∷ stack) rest parts (ABody all ∷ values) in_scope functions f.sound refl refl refl)
-    (close stack rest (ABody all ∷ values) in_scope functions f.sound)))))
+    (close stack rest (ABody all ∷ values) in_scope functions f.sound))))
 
 decide_else : (c : Expression) (body other : Statements) → AreAdded body → AreAdded other →
     IsAdded (IfElse c body other)
@@ -147,12 +145,9 @@ decide_else c body other added added_other rest f stack before values scope func
       opened c (braces (spell_statements body) ++ token.Keyword keyword.Else ∷ second_body) rest,
       append_assoc (braces (spell_statements body)) (token.Keyword keyword.Else ∷ second_body) rest,
     )
-    (then _
-    (at (Part grammar.Expression ∷ Exactly punctuator.CloseRound ∷ Make Empty ∷ Part grammar.Statement ∷ end)
-    (spell c ++ token.Punctuator punctuator.CloseRound ∷ (braces (spell_statements body) ++ rest_else))
-    (ABody before ∷ values) scope functions) _
-    (record { steps = 3; leads = refl })
-    (then _ _ _ (conditioned c body added rest_else refl end (ABody before ∷ values) scope functions)
+    (then _ _ _
+    (conditioned c body added rest_else refl end (ABody before ∷ values) scope functions
+    (record { steps = 3; leads = refl }))
     (then _
     (at (Make Empty ∷ Part grammar.Statement ∷ Make DecideElse ∷ Close ∷ stack) (second_body ++ rest) parts in_scope
     functions) _
@@ -166,7 +161,7 @@ decide_else c body other added added_other rest f stack before values scope func
     (make DecideElse (Close ∷ stack) rest (ABody (bodies_of other in_scope) ∷ parts) (ABody all ∷ values) learnt
     functions
     f.sound refl refl refl)
-    (close stack rest (ABody all ∷ values) learnt functions f.sound)))))))
+    (close stack rest (ABody all ∷ values) learnt functions f.sound))))))
 
 repeat : (c : Expression) (body : Statements) → AreAdded body → IsAdded (While c body)
 repeat c body added rest f stack before values scope functions =
@@ -176,14 +171,11 @@ repeat c body added rest f stack before values scope functions =
     let all : Body = join before (body_of (While c body) scope) in
     let end : List Item = Make Repeat ∷ Close ∷ stack in
     rw (opened c (braces (spell_statements body)) rest)
-    (then _
-    (at (Part grammar.Expression ∷ Exactly punctuator.CloseRound ∷ Make Empty ∷ Part grammar.Statement ∷ end)
-    (spell c ++ token.Punctuator punctuator.CloseRound ∷ (braces (spell_statements body) ++ rest))
-    (ABody before ∷ values) scope functions) _
-    (record { steps = 3; leads = refl })
-    (then _ _ _ (conditioned c body added rest f.sound end (ABody before ∷ values) scope functions)
+    (then _ _ _
+    (conditioned c body added rest f.sound end (ABody before ∷ values) scope functions
+    (record { steps = 3; leads = refl }))
     (then _ _ _ (make Repeat (Close ∷ stack) rest parts (ABody all ∷ values) in_scope functions f.sound refl refl refl)
-    (close stack rest (ABody all ∷ values) in_scope functions f.sound))))
+    (close stack rest (ABody all ∷ values) in_scope functions f.sound)))
 
 -- the semicolon after a return
 return_ends : (e : Expr) (rest : List Token) → is_lexical_error (first rest) ≡ false →

@@ -26,12 +26,7 @@ pub fn add_warnings(
     declarations: &Declarations,
     fault: Option<usize>,
 ) -> Result<(), AllocError> {
-    let Subject {
-        source,
-        tokens,
-        profile,
-        ..
-    } = *subject;
+    let (source, tokens, profile) = (subject.source, subject.tokens, subject.profile);
     let end = fault.unwrap_or(tokens.len());
     let warnings = warnings_up_to(source, tokens, profile, declarations, end);
     let mut from = 0;
@@ -126,12 +121,7 @@ fn add_fault(
     fault: &Diagnostic,
     index: usize,
 ) -> Result<(), AllocError> {
-    let Subject {
-        alloc,
-        source,
-        profile,
-        ..
-    } = *subject;
+    let (alloc, source, profile) = (subject.alloc, subject.source, subject.profile);
     let note = explain_found(source, search, fault);
     let tokens = search.tokens();
     let hint = said(note.as_str(), HINT);
@@ -170,12 +160,7 @@ pub fn add_later_faults(
     subject: &Subject<'_>,
     index: usize,
 ) -> Result<LeftOut, AllocError> {
-    let Subject {
-        alloc,
-        source,
-        profile,
-        ..
-    } = *subject;
+    let (alloc, source, profile) = (subject.alloc, subject.source, subject.profile);
     let mut rest = Rest::of(alloc, source, profile)?;
     let mut place = place_of(subject.tokens, index);
     let mut lines = rest.leave_out_at(subject.tokens, index)?;

@@ -255,17 +255,11 @@ pub fn fix_of_warning(
 ) -> Result<Option<Fix>, AllocError>
     ensures { IfOk result (λ found. IfSome found (StillCompiles subject.now.profile subject.now.source.now)) }
 {
-    let Subject {
-        alloc,
-        source,
-        tokens,
-        profile,
-    } = *subject;
     let Some(fix) = suggested(subject, index, words)? else {
         return Ok(None);
     };
-    let edited = edited(alloc, source, &fix)?;
-    if compiles(profile, edited.as_slice()) {
+    let edited = edited(subject.alloc, subject.source, &fix)?;
+    if compiles(subject.profile, edited.as_slice()) {
         Ok(Some(fix))
     } else {
         Ok(None)

@@ -1,9 +1,9 @@
 //! What is known of the language, and of a robot before it fights, as rows.
 
 use crate::robots::Robot;
-use crate::rows::{Subject, add_position, add_range, begin_row, text_of};
+use crate::rows::{Subject, add_position, add_range, begin_row};
 use cycles::{Counted, Runs, Span, all_runs, turns};
-use derivations::locate;
+use derivations::{locate, name_text};
 use facts::add_room;
 use grammar::{Intrinsic, Name};
 use room::{Room, all_needs};
@@ -101,7 +101,7 @@ fn add_needs(text: &mut Draft, subject: &Subject<'_>, robot: &Robot) {
     for (index, function) in robot.maker().functions().iter().enumerate() {
         let (line, column) = robot.places().function(index);
         let mut row = begin_row(text, "need");
-        row.words("name", text_of(&robot.name(function.number)));
+        row.words("name", name_text(&robot.name(function.number)));
         add_position(&mut row, line, column);
         add_room_fields(&mut row, needs[usize::from(function.number)]);
         row.end();
@@ -152,7 +152,7 @@ fn add_part(text: &mut Draft, what: &str, name: &Name, place: (u32, u32), cycles
     let (line, column) = place;
     let mut row = begin_row(text, "cycles");
     row.words("of", what);
-    row.words("name", text_of(name));
+    row.words("name", name_text(name));
     add_position(&mut row, line, column);
     add_span(&mut row, cycles);
     row.end();

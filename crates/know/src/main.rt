@@ -116,13 +116,8 @@ fn tell_faulty(rt: &HostRuntime, subject: &Subject<'_>, fault: &Diagnostic) -> R
     requires { compiled subject.now.profile subject.now.source.now ≡ Err fault.now }
 {
     let mut text = Draft::new(rt.alloc());
-    let Subject {
-        alloc,
-        source,
-        tokens,
-        profile,
-    } = *subject;
-    let index = fault_index(alloc, source, tokens, profile, fault)?;
+    let (tokens, profile) = (subject.tokens, subject.profile);
+    let index = fault_index(subject.alloc, subject.source, tokens, profile, fault)?;
     add_first(&mut text, subject, fault, index);
     write(rt, &mut text)?;
     let mut search = Search::of(tokens, profile);

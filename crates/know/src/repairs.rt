@@ -28,28 +28,13 @@ pub fn gets_further(alloc: Global, faulty: &Faulty<'_>, other: &[u8]) -> Result<
     match compile(faulty.profile, &mut MemoryFeed::new(other, WINDOW_BYTES)) {
         Ok(_) => Ok(true),
         Err(ParseFault::Source(next)) => {
-            let is_further = is_further(alloc, faulty, other, &next)?;
-            Ok(is_further)
+            if fits_now(faulty.fault, &next) {
+                return Ok(true);
+            }
+            let is_nearer = is_nearer(alloc, faulty, other, &next)?;
+            Ok(is_nearer)
         }
         Err(ParseFault::Device | ParseFault::Memory) => Ok(false),
-    }
-}
-
-/// Reports whether another source, whose first fault is the next one, gets further than one with a fault.
-fn is_further(
-    alloc: Global,
-    faulty: &Faulty<'_>,
-    other: &[u8],
-    next: &Diagnostic,
-) -> Result<bool, AllocError>
-    ensures { IfOk result (λ is. is ≡ true → compiled faulty.now.profile other.now ≡ Err next.now
-        → GetsFurther faulty.now.profile faulty.now.source.now faulty.now.fault.now other.now) }
-{
-    if fits_now(faulty.fault, next) {
-        Ok(true)
-    } else {
-        let is_nearer = is_nearer(alloc, faulty, other, next)?;
-        Ok(is_nearer)
     }
 }
 

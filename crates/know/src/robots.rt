@@ -22,16 +22,11 @@ pub struct Robot {
 impl Robot {
     /// Finds out what is known of the robot of a source that compiles. The only fault is that memory is refused.
     pub fn of(subject: &Subject<'_>) -> Result<Robot, ParseFault> {
-        let Subject {
-            alloc,
-            source,
-            tokens,
-            profile,
-        } = *subject;
+        let (alloc, source, profile) = (subject.alloc, subject.source, subject.profile);
         let mut maker = TreeMaker::new(alloc, profile);
         let names = parse(&mut MemoryFeed::new(source, WINDOW_BYTES), &mut maker)?;
         let bound = bounds(alloc, &mut MemoryFeed::new(source, WINDOW_BYTES), profile)?;
-        let Ok(places) = Places::of(alloc, tokens) else {
+        let Ok(places) = Places::of(alloc, subject.tokens) else {
             return Err(ParseFault::Memory);
         };
         let chain = chain_of(subject, &bound, &maker, &names, &places)?;
@@ -88,12 +83,7 @@ fn chain_of(
     names: &Pools,
     places: &Places,
 ) -> Result<Chain, ParseFault> {
-    let Subject {
-        alloc,
-        source,
-        profile,
-        ..
-    } = *subject;
+    let (alloc, source, profile) = (subject.alloc, subject.source, subject.profile);
     if bound.has_room {
         return Ok(Chain::new(Vec::new(alloc), None));
     }

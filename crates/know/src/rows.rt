@@ -4,7 +4,6 @@ use derivations::Located;
 use grammar::Profile;
 use std::alloc::Global;
 use std::str;
-use tokens::Name;
 use tools::{Draft, Object};
 
 /// A source that is told of.
@@ -45,9 +44,4 @@ pub fn add_range(row: &mut Object<'_>, start: usize, end: usize) {
 pub fn add_position(row: &mut Object<'_>, line: u32, column: u32) {
     row.number("line", u64::from(line));
     row.number("column", u64::from(column));
-}
-
-/// Returns a name as text. Names are ASCII.
-pub fn text_of(name: &Name) -> &str {
-    str::from_utf8(name.as_bytes()).unwrap_or("?")
 }

@@ -8,6 +8,6 @@ mod spelling;
 mod variables;
 
 pub use moment_rows::add_moment;
-pub use notes::{Note, NotedProgram, Sources, compiled, name_text, plain};
-pub use spelling::{add_call, add_instruction, add_words, name_in};
+pub use notes::{Note, NotedProgram, Sources, compiled, plain};
+pub use spelling::{add_call, add_instruction, add_words};
 pub use variables::{Variable, variables_named};

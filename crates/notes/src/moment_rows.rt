@@ -2,10 +2,11 @@
 
 ghost use Rattle.std.specs.Prelude.{◌<◌, ◌≤◌, length};
 
-use crate::notes::{NotedProgram, name_text};
-use crate::spelling::{add_call, add_instruction, add_words, name_in};
+use crate::notes::NotedProgram;
+use crate::spelling::{add_call, add_instruction, add_words};
 use arena::{Arena, MOST_ROBOTS};
 use code::{Machine, Want};
+use derivations::name_text;
 use grammar::Name;
 use settings::Settings;
 use std::alloc::AllocError;
@@ -66,14 +67,11 @@ fn life(is_alive: bool) -> &'static str {
 /// function in it.
 fn add_next(text: &mut Draft, noted: &NotedProgram<'_>, address: usize) -> Result<(), AllocError> {
     let (line, function) = noted.position(address);
-    let column = match noted.note.positions.place(address) {
-        Some(position) => position.column,
-        None => 0,
-    };
+    let column = noted.note.positions.column(address);
     writeln!(text, "at\t{address}\t{line}\t{column}\t{function}");
     text.add("instruction\t");
     add_instruction(text, noted, address)?;
-    writeln!(text, "\t{}", name_in(noted, address));
+    writeln!(text, "\t{}", noted.named().name_in(address).unwrap_or(""));
     Ok(())
 }
 
@@ -105,6 +103,7 @@ fn add_asked(text: &mut Draft, moment: &Moment) {
 /// frames that were open as the call began, the line on which the robot is in it, and the function. Frames of calls
 /// whose arguments are being worked out have none.
 fn add_calls(text: &mut Draft, noted: &NotedProgram<'_>, machine: &Machine) {
+    let named = noted.named();
     let mut address = machine.address();
     let mut depth = machine.frames().len();
     for frame in machine.frames().iter().rev() {
@@ -113,12 +112,8 @@ fn add_calls(text: &mut Draft, noted: &NotedProgram<'_>, machine: &Machine) {
             let (line, function) = noted.position(address);
             writeln!(text, "call\t{depth}\t{line}\t{function}");
             let words = machine.words().get(usize::from(frame.base)..);
-            add_values(
-                text,
-                "local",
-                noted.variables(address),
-                words.unwrap_or(&[]),
-            );
+            let names = named.variables(named.function(address));
+            add_values(text, "local", names, words.unwrap_or(&[]));
             address = usize::from(frame.back).saturating_sub(1);
         }
         depth = depth.saturating_sub(1);

@@ -3,14 +3,12 @@
 ghost use Rattle.std.specs.Prelude.{◌≡◌, ◌<◌, ◌≤◌, IfOk, length};
 
 use code::Program;
-use derivations::{Compiled, SourcePositions, compile, positions_of};
-use grammar::{Name, ParseFault, Pools};
+use derivations::{NamedProgram, SourcePositions, compile_source};
+use grammar::{ParseFault, Pools};
 use settings::{MOST_FILES, Settings};
 use std::alloc::{AllocError, Global};
 use std::str;
-use tokens::{MemoryFeed, WINDOW_BYTES};
 use tools::{Fault, name_of, source_of, tell_diagnostic, visible};
-use watching::function_at;
 
 /// What is known of a file beside its program.
 #[derive(Drop)]
@@ -26,22 +24,6 @@ pub struct Note {
 }
 
 impl Note {
-    /// Returns the line that the instruction of an address comes from, 0 if there is none.
-    pub fn line(&self, address: usize) -> u32 {
-        match self.positions.place(address) {
-            Some(position) => position.line,
-            None => 0,
-        }
-    }
-
-    /// Returns the name of the function of this number.
-    pub fn function_name(&self, number: usize) -> &str {
-        match self.names.functions().get(number) {
-            Some(function) => name_text(function.name()),
-            None => "?",
-        }
-    }
-
     /// Returns the bytes of the line of this number, from 1.
     pub fn text_of(&self, line: u32) -> &[u8] {
         let mut rest = self.text.as_slice();
@@ -68,11 +50,6 @@ fn line_length(text: &[u8]) -> usize {
     text.len()
 }
 
-/// Returns a name as text.
-pub fn name_text(name: &Name) -> &str {
-    str::from_utf8(name.as_bytes()).unwrap_or("?")
-}
-
 /// A program, and what is known of its file beside it.
 #[derive(Clone, Copy)]
 pub struct NotedProgram<'a> {
@@ -83,23 +60,19 @@ pub struct NotedProgram<'a> {
 }
 
 impl<'a> NotedProgram<'a> {
-    /// Returns the number of the function that holds an address.
-    pub fn function(&self, address: usize) -> usize {
-        function_at(self.program.addresses(), address)
+    /// Returns the program with the names of its file.
+    pub fn named(&self) -> NamedProgram<'a> {
+        NamedProgram {
+            program: self.program,
+            names: &self.note.names,
+        }
     }
 
     /// Returns the line that the instruction of an address comes from, and the name of its function.
     pub fn position(&self, address: usize) -> (u32, &'a str) {
-        let function = self.function(address);
-        (self.note.line(address), self.note.function_name(function))
-    }
-
-    /// Returns the names of the variables of the function that holds an address.
-    pub(crate) fn variables(&self, address: usize) -> &'a [Name] {
-        match self.note.names.functions().get(self.function(address)) {
-            Some(function) => function.variables(),
-            None => &[],
-        }
+        let named = self.named();
+        let function = named.function_name(named.function(address));
+        (self.note.positions.line(address), function)
     }
 }
 
@@ -165,18 +138,16 @@ fn compiled_file(
     word: &str,
 ) -> Result<Option<(Program, Note)>, Fault> {
     let text = source_of(rt, program, word)?;
-    let mut feed = MemoryFeed::new(text.as_slice(), WINDOW_BYTES);
-    match compile(wish.profile(), &mut feed) {
-        Ok(Compiled { program, names }) => {
-            // a program has a position in its source for each instruction
-            let positions = positions_of(&program, text.as_slice()).ok_or(Fault::Source)?;
+    match compile_source(wish.profile(), text.as_slice()) {
+        Ok(made) => {
             let note = Note {
                 name: plain(rt.alloc(), name_of(word).as_bytes())?,
                 text,
-                positions,
-                names,
+                // a program has a position in its source for each instruction
+                positions: made.positions.ok_or(Fault::Source)?,
+                names: made.names,
             };
-            Ok(Some((program, note)))
+            Ok(Some((made.program, note)))
         }
         Err(ParseFault::Source(diagnostic)) => {
             tell_diagnostic(rt, word, &diagnostic);

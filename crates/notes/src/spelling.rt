@@ -1,8 +1,7 @@
 //! How instructions, words of a stack, and calls are written.
 
-use crate::notes::{NotedProgram, name_text};
-use code::Instr;
-use grammar::{Callee, Intrinsic, Name, Var};
+use crate::notes::NotedProgram;
+use grammar::Intrinsic;
 use listings::instruction_text;
 use std::alloc::AllocError;
 use std::str;
@@ -28,30 +27,6 @@ pub fn add_instruction(
         text.add(str::from_utf8(instruction.as_slice()).unwrap_or("?"));
     }
     Ok(())
-}
-
-/// Returns the name of the variable or function in an instruction, the empty text if it has none.
-pub fn name_in<'a>(noted: &NotedProgram<'a>, address: usize) -> &'a str {
-    match noted.program.instructions().get(address) {
-        Some(Instr::Fetch(Var::External(number)) | Instr::Store(Var::External(number), _)) => {
-            name_at(noted.note.names.externals(), *number)
-        }
-        Some(Instr::Fetch(Var::Local(number)) | Instr::Store(Var::Local(number), _)) => {
-            name_at(noted.variables(address), *number)
-        }
-        Some(Instr::Fcall(Callee::Function(number))) => {
-            noted.note.function_name(usize::from(*number))
-        }
-        _ => "",
-    }
-}
-
-/// Returns the name of this number.
-fn name_at(names: &[Name], number: u8) -> &str {
-    match names.get(usize::from(number)) {
-        Some(name) => name_text(name),
-        None => "",
-    }
 }
 
 /// Adds a call of an intrinsic function with the arguments that it uses.

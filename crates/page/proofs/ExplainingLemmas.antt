@@ -36,8 +36,3 @@ explained order robots first Full sheet accepted here is room =
     of_first order robots first Full sheet accepted here is (inl refl)
 explained order robots first Refused sheet accepted here is room = absurd is
 explained order robots first GoesOn sheet accepted here is room = absurd is
-
--- of a full one
-pub cut : (order : Order) (robots : List RobotFile) (first : RobotFile) (sheet : Sheet)
-    → IsAccepted order robots → slice_get robots 0 ≡ Some first → ExplainsRobots order robots Full sheet
-cut order robots first sheet accepted here = of_first order robots first Full sheet accepted here tt (inl refl)

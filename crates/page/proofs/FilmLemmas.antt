@@ -1,5 +1,5 @@
 -- What a film says of its robots' sources.
-use Rattle.std.proofs.Common.{◌≡◌, ◌≢◌, List, Option, Some, None, inl, map, refl}
+use Rattle.std.proofs.Common.{◌≡◌, List, Option, Some, None, inl, map, refl}
 use Rattle.grammar.specs.Laws.{CompiledIsResolved}
 use Rattle.grammar.specs.Tree.{File}
 use Rattle.grammar.specs.ProfileNumbers.{profile_numbered}
@@ -22,7 +22,7 @@ use Rattle.page.specs.Films.{FilmsRobots, HasCompiled, MayEnd, OfMatch, Shows}
 use Rattle.page.specs.Robots.{source_of}
 use Rattle.page.specs.Running.{IsAccepted, blank, taken_by}
 use Rattle.page.specs.Sheets.{IsFull, refused}
-use Rattle.page.proofs.RunningLemmas.{lines_held}
+use Rattle.page.proofs.RunningLemmas.{held}
 
 -- the robots of an order were compiled on blank sheets, with this status
 abbrev pub CompilesRobots : Order → List RobotFile → Status → Sheet → Sheet → Type 0
@@ -33,11 +33,12 @@ CompilesRobots order robots end film faults =
 -- and their diagnostics are on the sheet of faults
 pub has_compiled : (order : Order) (robots : List RobotFile) (end : Status) (film faults : Sheet)
     → IsAccepted order robots → CompilesRobots order robots end film faults → HasCompiled order robots end faults
-has_compiled order robots end film faults accepted (writes, is) = record {
-  accepted = accepted;
-  status = is;
-  lines = lines_held (compiling Matches (profile_numbered order.profile) (map source_of robots)) film faults writes;
-}
+has_compiled order robots end film faults accepted (writes, is) =
+    let pieces = compiling Matches (profile_numbered order.profile) (map source_of robots) in record {
+      accepted = accepted;
+      status = is;
+      lines = (held (record { pieces = pieces; status = end }) film faults writes).lines;
+    }
 
 -- the programs of good sources are the codes of their files
 pub codes_good : CompiledIsResolved → (order : Order) (robots : List RobotFile) (codes : List Program)
@@ -52,13 +53,13 @@ codes_good law order robots codes files given good =
 -- what was shown of good sources
 pub has_shown : (order : Order) (robots : List RobotFile) (stretch : Option Stretch) (ending : Ending)
     (film faults : Sheet) → HasCompiled order robots status.Done faults → MayEnd stretch ending
-    → (ending ≡ Full → IsFull film) → (ending ≢ Full → refused film ≡ 0)
+    → (ending ≡ Full → IsFull film) → refused film ≡ 0
     → OfMatch order robots (λ cycles. Shows stretch cycles ending)
     → FilmsRobots order robots stretch ending film faults
 has_shown order robots stretch Done film faults compiled may_end full room shows =
-    record { compiled = compiled; may_end = may_end; whole = room (λ is. absurd (cc is)); shows = shows }
+    record { compiled = compiled; may_end = may_end; whole = room; shows = shows }
 has_shown order robots stretch GoesOn film faults compiled may_end full room shows =
-    record { compiled = compiled; may_end = may_end; whole = room (λ is. absurd (cc is)); shows = shows }
+    record { compiled = compiled; may_end = may_end; whole = room; shows = shows }
 has_shown order robots stretch Full film faults compiled may_end full room shows =
     (compiled.accepted, inl (full refl))
 has_shown order robots None Faulty film faults compiled may_end full room shows = absurd may_end

@@ -26,7 +26,7 @@ use Rattle.page.specs.declared.sheets.Sheet.{Sheet}
 use Rattle.page.specs.Orders.{setup_by, setup_of}
 use Rattle.page.specs.Robots.{name_bytes, source_bytes, source_of}
 use Rattle.page.specs.Running.{Holds, IsAccepted, OneIsFull, RunsRobots, blank, bytes_on, ending_of, output_of, part_on, taken_by}
-use Rattle.page.specs.Sheets.{IsFull, contents_of, most_frames, refused, told}
+use Rattle.page.specs.Sheets.{IsFull, most_frames, refused, told}
 
 -- two sinks of known contents
 abbrev both : KnownPortions → KnownPortions → Taken
@@ -99,29 +99,13 @@ portions_in None = []
 portions_in (Some contents) = contents.portions
 
 -- two sheets that were blank
-held : (out : Output) (text faults : Sheet)
-    →
-    Writes (both (record { portions = []; whole = false }) (record { portions = []; whole = false }))
-    (on_both (contents_of text) (contents_of faults)) out.pieces
-    → Holds out text faults
+pub held : (out : Output) (text faults : Sheet) → Writes blank (taken_by text faults) out.pieces → Holds out text faults
 held out text faults writes =
-    let grow =
-    all_grow (record { portions = []; whole = false }) (record { portions = []; whole = false })
-    (on_both (contents_of text) (contents_of faults)) out.pieces writes in
+    let none : KnownPortions = record { portions = []; whole = false } in
+    let grow = all_grow none none (taken_by text faults) out.pieces writes in
     let texts : told text ≡ grow.new_text.portions = ap (λ (t : Taken). portions_in t.text) grow.is in
     let lines : told faults ≡ grow.new_faults.portions = ap (λ (t : Taken). portions_in t.faults) grow.is in
     record { texts = ap concat texts ∙ grow.texts; lines = ap concat lines ∙ grow.lines }
-
--- the lines that were put on a sheet that was blank
-pub lines_held : (pieces : List Piece) (text faults : Sheet)
-    → Writes blank (on_both (contents_of text) (contents_of faults)) pieces
-    → concat (told faults) ≡ bytes_on Faults pieces
-lines_held pieces text faults writes =
-    let grow =
-    all_grow (record { portions = []; whole = false }) (record { portions = []; whole = false })
-    (on_both (contents_of text) (contents_of faults)) pieces writes in
-    let lines : told faults ≡ grow.new_faults.portions = ap (λ (t : Taken). portions_in t.faults) grow.is in
-    ap concat lines ∙ grow.lines
 
 -- what is true of all sources with the robots' names and bytes, on blank sheets, is true of those of the robots
 pub by_robots : (R : Settings → List SourceFile → Taken → Type 0) (mode : Mode) (order : Order)
@@ -155,25 +139,6 @@ sink_failed before after (inr is) =
     let faults : after.faults ≡ before.faults + 1 = ap (λ (f : Failures). f.faults) is in
     inr (omega (arith, faults))
 
--- of devices that never fail only a sink stops a run, and then one has failed
-only_writes : {X A : Type 0} →
-    (olds news : List X) (ran : Result A RunFault) (text faults later_text later_faults : ℕ)
-    →
-    FailsAsAnswered ran (failing (map (λ _. no_device) olds) text faults)
-    (failing (map (λ _. no_device) news) later_text later_faults)
-    → IfErr ran (λ stopped. (stopped ≡ run_fault.Write) × ((0 < later_text) ⊎ (0 < later_faults)))
-only_writes olds news (Ok answer) text faults later_text later_faults accounts = tt
-only_writes olds news (Err (run_fault.Read file)) text faults later_text later_faults (within, is) =
-    let feeds : List FailureCount = map (λ _. no_device) olds in
-    let here = ap (λ (f : Failures). get_or f.feeds file no_device) is in
-    let there = get_or-set_same feeds file (failed_again (get_or feeds file no_device)) no_device within in
-    let counts : 0 ≡ (get_or feeds file no_device).failures + 1 =
-    ap (λ (a : FailureCount). a.failures) (sym (never_failed news file) ∙ here ∙ there) in
-    absurd (omega (arith, counts))
-only_writes olds news (Err run_fault.Write) text faults later_text later_faults accounts =
-    (refl, sink_failed _ _ accounts)
-only_writes olds news (Err run_fault.Memory) text faults later_text later_faults accounts = absurd accounts
-
 -- a sheet that refused a write is full
 full_if : (used failures : ℕ) (is : Bool) → nat_le most_frames used ≡ is → 0 < (if is then failures else 0)
     → (most_frames ≤ used) × (0 < failures)
@@ -197,9 +162,16 @@ pub only_full : {X A : Type 0} → (olds news : List X) (ran : Result A RunFault
     (failing (map (λ _. no_device) news) (refused film) (refused lines))
     → IfErr ran (λ stopped. (stopped ≡ run_fault.Write) × OneIsFull film lines)
 only_full olds news (Ok answer) text faults film lines accounts = tt
-only_full {A = A} olds news (Err stopped) text faults film lines accounts =
-    let found = only_writes {A = A} olds news (Err stopped) text faults (refused film) (refused lines) accounts in
-    (found.0, one_full film lines found.1)
+only_full olds news (Err (run_fault.Read file)) text faults film lines (within, is) =
+    let feeds : List FailureCount = map (λ _. no_device) olds in
+    let here = ap (λ (f : Failures). get_or f.feeds file no_device) is in
+    let there = get_or-set_same feeds file (failed_again (get_or feeds file no_device)) no_device within in
+    let counts : 0 ≡ (get_or feeds file no_device).failures + 1 =
+    ap (λ (a : FailureCount). a.failures) (sym (never_failed news file) ∙ here ∙ there) in
+    absurd (omega (arith, counts))
+only_full olds news (Err run_fault.Write) text faults film lines accounts =
+    (refl, one_full film lines (sink_failed _ _ accounts))
+only_full olds news (Err run_fault.Memory) text faults film lines accounts = absurd accounts
 
 -- what the sheets hold after a run on blank ones, by its end
 pub ends_with : (order : Order) (robots : List RobotFile) (ran : Result Status RunFault) (text faults : Sheet)

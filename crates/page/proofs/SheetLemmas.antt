@@ -1,14 +1,13 @@
 -- Texts that are added to a sheet.
-use Rattle.std.proofs.Common.{◌≡◌, ◌⊎◌, ◌<◌, ◌+◌, ◌-◌, ◌∙◌, inl, inr, ℕ, List, [], ◌∷◌, ◌++◌, map, sym, ap, append_assoc, arith, length, take, set, get_or}
+use Rattle.std.proofs.Common.{◌≡◌, ◌⊎◌, ◌<◌, ◌+◌, ◌-◌, ◌∙◌, inl, inr, ℕ, List, [], ◌∷◌, ◌++◌, map, sym, ap, append_assoc, length, take, set, get_or}
 use Rattle.std.specs.List.{concat}
-use Rattle.std.proofs.lemmas.Bool.Decides.{nat_tests}
 use Rattle.std.proofs.lemmas.List.{append-nil, take_more, take_more_set}
 use Rattle.explanations.specs.Faults.{IsOn}
 use Rattle.grammar.specs.declared.diagnostics.Diagnostic.{Diagnostic}
 use Rattle.page.specs.Explaining.{EndsOn}
 use Rattle.page.specs.declared.sheets.Sheet.{Sheet}
 use Rattle.page.specs.declared.sheets.SheetBlock.{SheetBlock}
-use Rattle.page.specs.Sheets.{Adds, AddsSome, IsFull, bytes_of, refused, text_on}
+use Rattle.page.specs.Sheets.{Adds, IsFull, bytes_of, text_on}
 
 -- the text of frames, with one more behind them
 one_more : (frames : List SheetBlock) (frame : SheetBlock)
@@ -39,17 +38,8 @@ next_put frames n frame bytes inside is =
     ∙ one_more (take n frames) frame
     ∙ ap (λ (last : List ℕ). concat (map bytes_of (take n frames)) ++ last) is
 
--- a sheet that refuses nothing isn't full
-pub not_full : (sheet : Sheet) → refused sheet ≡ 0 → IsFull sheet → ⊥
-not_full sheet none full = grind (arith, nat_tests, full.used, full.refused)
-
--- nothing is added
-pub adds_nothing : (sheet : Sheet) → Adds sheet sheet []
-adds_nothing sheet = record { full = λ full. full; told = inr (sym (append-nil (text_on sheet))) }
-
 -- a text is added, and another one
-told_both : (before between after : Sheet) (first second : List ℕ)
-    → (IsFull between → IsFull after)
+told_both : (before between after : Sheet) (first second : List ℕ) → (IsFull between → IsFull after)
     → IsFull between ⊎ (text_on between ≡ text_on before ++ first)
     → IsFull after ⊎ (text_on after ≡ text_on between ++ second)
     → IsFull after ⊎ (text_on after ≡ text_on before ++ (first ++ second))
@@ -65,20 +55,10 @@ adds_both before between after first second here there = record {
   told = told_both before between after first second there.full here.told there.told;
 }
 
-pub adds_some_both : (before between after : Sheet) (second : List ℕ)
-    → AddsSome before between → Adds between after second → AddsSome before after
-adds_some_both before between after second here there = record {
-  text = here.text ++ second;
-  adds = adds_both before between after here.text second here.adds there;
-}
-
 -- a note on a diagnostic is added
-note_told : (diagnostic : Diagnostic) (before after : Sheet) (note : List ℕ) → IsOn diagnostic note
-    → IsFull after ⊎ (text_on after ≡ text_on before ++ note) → IsFull after ⊎ EndsOn diagnostic (text_on after)
-note_told diagnostic before after note on (inl full) = inl full
-note_told diagnostic before after note on (inr is) =
-    inr (record { before = text_on before; note = note; is = is; on = on })
-
 pub ends_on : (diagnostic : Diagnostic) (before after : Sheet) (note : List ℕ)
     → IsOn diagnostic note → Adds before after note → IsFull after ⊎ EndsOn diagnostic (text_on after)
-ends_on diagnostic before after note on adds = note_told diagnostic before after note on adds.told
+ends_on diagnostic before after note on adds = elim adds.told [
+  | inl full ↦ inl full
+  | inr is ↦ inr (record { before = text_on before; note = note; is = is; on = on })
+]

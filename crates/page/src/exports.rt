@@ -3,7 +3,7 @@
 ghost use Rattle.std.specs.Prelude.{◌≡◌, None, Some};
 ghost use Rattle.page.specs.Endings.{EndsWith};
 ghost use Rattle.page.specs.Explaining.{ExplainsRobots};
-ghost use Rattle.page.specs.Films.{FilmsRobots};
+ghost use Rattle.page.specs.Films.{FilmsRobots, stretch_in};
 ghost use Rattle.page.specs.Orders.{stretch_of};
 ghost use Rattle.page.specs.Running.{RunsRobots};
 
@@ -15,18 +15,6 @@ use crate::running::run_robots;
 use crate::sheets::Sheet;
 use crate::subjects::Subject;
 use crate::targets::Target;
-
-/// The bytes of an order.
-const ORDER_BYTES: usize = size_of::<Order>();
-
-/// The bytes of a robot.
-const ROBOT_BYTES: usize = size_of::<RobotFile>();
-
-/// The bytes of a sheet.
-const SHEET_BYTES: usize = size_of::<Sheet>();
-
-/// The bytes of a target.
-const TARGET_BYTES: usize = size_of::<Target>();
 
 /// Runs what the order asks for over one to four robots, and writes on the two sheets, as the program crobots does: the
 /// text that it writes on standard output, and the lines about faulty sources.
@@ -56,14 +44,8 @@ pub extern "C" fn film(
 ) -> u32
     ensures { EndsWith (λ ending. FilmsRobots order.now robots.now None ending text.new faults.new) result }
 {
-    tell_robots(
-        order,
-        robots,
-        &Subject::Film(None, order.skipped),
-        text,
-        faults,
-    )
-    .code()
+    let film = Subject::Film(None, order.skipped);
+    tell(order, robots, &film, text, faults)
 }
 
 /// Plays the first match that the order asks for of one to four robots up to a number of updates, and films a number of
@@ -82,14 +64,8 @@ pub extern "C" fn film_windows(
 ) -> u32
     ensures { EndsWith (λ ending. FilmsRobots order.now robots.now (Some (stretch_of order.now)) ending text.new faults.new) result }
 {
-    tell_robots(
-        order,
-        robots,
-        &Subject::Film(Some(order.stretch()), order.skipped),
-        text,
-        faults,
-    )
-    .code()
+    let film = Subject::Film(Some(order.stretch()), order.skipped);
+    tell(order, robots, &film, text, faults)
 }
 
 /// Plays the first match that the order asks for of one to four robots up to a cycle, and writes where a robot is then,
@@ -104,7 +80,7 @@ pub extern "C" fn moment(
 ) -> u32
     ensures { EndsWith (λ ending. FilmsRobots order.now robots.now None ending text.new faults.new) result }
 {
-    tell_robots(order, robots, &Subject::Moment(target), text, faults).code()
+    tell(order, robots, &Subject::Moment(target), text, faults)
 }
 
 /// Plays the first match that the order asks for of one to four robots, and writes the first cycle after a cycle, or
@@ -120,7 +96,7 @@ pub extern "C" fn find(
 ) -> u32
     ensures { EndsWith (λ ending. FilmsRobots order.now robots.now None ending text.new faults.new) result }
 {
-    tell_robots(order, robots, &Subject::Run(target), text, faults).code()
+    tell(order, robots, &Subject::Run(target), text, faults)
 }
 
 /// Writes where the instructions of one to four robots come from, a row each, or the diagnostics of faulty sources.
@@ -134,7 +110,20 @@ pub extern "C" fn places(
 ) -> u32
     ensures { EndsWith (λ ending. FilmsRobots order.now robots.now None ending text.new faults.new) result }
 {
-    tell_robots(order, robots, &Subject::Places, text, faults).code()
+    tell(order, robots, &Subject::Places, text, faults)
+}
+
+/// Tells what a subject reports of one to four robots, or the diagnostics of faulty sources. Answers as `run` does.
+fn tell(
+    order: &Order,
+    robots: &[RobotFile],
+    subject: &Subject<'_>,
+    text: &mut Sheet,
+    faults: &mut Sheet,
+) -> u32
+    ensures { EndsWith (λ ending. FilmsRobots order.now robots.now (stretch_in subject.now) ending text.new faults.new) result }
+{
+    tell_robots(order, robots, subject, text, faults).code()
 }
 
 /// Explains the source of the first robot in the language profile that the order asks for, as the program crobots-why
@@ -164,7 +153,7 @@ pub extern "C" fn turns(order: &Order, robots: &[RobotFile], text: &mut Sheet) -
 pub extern "C" fn order_bytes() -> usize
     ensures { result ≡ 40 }
 {
-    ORDER_BYTES
+    size_of::<Order>()
 }
 
 /// Returns how many bytes a robot has.
@@ -172,7 +161,7 @@ pub extern "C" fn order_bytes() -> usize
 pub extern "C" fn robot_bytes() -> usize
     ensures { result ≡ 1048840 }
 {
-    ROBOT_BYTES
+    size_of::<RobotFile>()
 }
 
 /// Returns how many bytes a sheet has.
@@ -180,7 +169,7 @@ pub extern "C" fn robot_bytes() -> usize
 pub extern "C" fn sheet_bytes() -> usize
     ensures { result ≡ 8388624 }
 {
-    SHEET_BYTES
+    size_of::<Sheet>()
 }
 
 /// Returns how many bytes a target has.
@@ -188,5 +177,5 @@ pub extern "C" fn sheet_bytes() -> usize
 pub extern "C" fn target_bytes() -> usize
     ensures { result ≡ 4016 }
 {
-    TARGET_BYTES
+    size_of::<Target>()
 }

@@ -13,13 +13,14 @@ ghost use Rattle.page.specs.Sheets.{IsFull, refused};
 use crate::compiled_robots::CompiledRobots;
 use crate::endings::Ending;
 use crate::films::Film;
-use crate::insides::{tell_moment, tell_run};
+use crate::insides::tell_inside;
 use crate::orders::Order;
 use crate::pilots::pilots_of;
-use crate::positions::{positions_in, tell_positions};
+use crate::positions::positions_in;
 use crate::robots::RobotFile;
 use crate::running::{feeds_of, settings_of};
 use crate::sheets::Sheet;
+use crate::source_parts::tell_places;
 use crate::stretches::Stretch;
 use crate::subjects::Subject;
 use grammar::laws::resolved_files;
@@ -48,34 +49,15 @@ pub fn tell_robots(
         Ok(Status::Done) => {
             // For the proof alone: a file that compiles is resolved.
             resolved_files();
-            tell(&settings, &compiled, robots, subject, film)
+            let ending = tell_subject(&settings, &compiled, robots, subject, film);
+            if film.is_full() {
+                return Ending::Full;
+            }
+            ending
         }
         Ok(Status::Faulty) => Ending::Faulty,
         Err(_) => Ending::Full,
     }
-}
-
-/// Writes on a sheet what the subject reports of compiled robots, and how that ends: `Full` if the sheet is.
-fn tell(
-    settings: &Settings<'_>,
-    compiled: &CompiledRobots,
-    robots: &[RobotFile],
-    subject: &Subject<'_>,
-    sheet: &mut Sheet,
-) -> Ending
-    requires { 0 < length compiled.now.programs.items }
-    ensures may_end { MayEnd (stretch_in subject.now) result }
-    ensures full { result ≡ Ending.Full → IsFull sheet.new }
-    ensures room { result ≢ Ending.Full → refused sheet.new ≡ 0 }
-    ensures shows { (files : List File) → AreProgramsOf compiled.now.programs.items settings.now.profile files
-        → Shows (stretch_in subject.now) (battle (robots_of settings.now.profile files) settings.now.seed
-        settings.now.first settings.now.limit).cycles result }
-{
-    let ending = tell_subject(settings, compiled, robots, subject, sheet);
-    if sheet.is_full() {
-        return Ending::Full;
-    }
-    ending
 }
 
 /// Writes on a sheet what the subject reports of compiled robots. `Full` if it was cut off, since the sheet is full.
@@ -97,9 +79,9 @@ fn tell_subject(
         Subject::Film(stretch, skipped) => {
             return film_match(settings, compiled, robots, stretch, skipped, sheet);
         }
-        Subject::Moment(target) => tell_moment(settings, compiled, target, sheet),
-        Subject::Run(target) => tell_run(settings, compiled, target, sheet),
-        Subject::Places => tell_positions(compiled.programs.as_slice(), robots, sheet),
+        Subject::Moment(target) => tell_inside(settings, compiled, target, false, sheet),
+        Subject::Run(target) => tell_inside(settings, compiled, target, true, sheet),
+        Subject::Places => tell_places(settings.profile(), robots, sheet),
     }
     Ending::Done
 }

@@ -11,11 +11,10 @@ use crate::sheets::Sheet;
 use crate::stretches::Stretch;
 use arena::{Arena, MOST_BURSTS};
 use code::{Cause, Intrinsic};
-use derivations::SourcePositions;
-use std::str;
+use derivations::{SourcePositions, function_at, name_text};
 use watching::{
     Camera, Event, Exchange, FILM_COLUMNS, FilmRows, Listener, Pilot, Place, Stance, Turn,
-    UPDATE_CYCLES, Watcher, function_at, word_of,
+    UPDATE_CYCLES, Watcher, word_of,
 };
 
 /// The rows of a film on a sheet: of all of it, or of a stretch. A full sheet takes no more.
@@ -118,7 +117,7 @@ impl<'a> Film<'a> {
     fn line(&self, robot: usize, address: usize) -> u32 {
         let file = robot.min(self.positions.len().saturating_sub(1));
         match self.positions.get(file) {
-            Some(Some(positions)) => positions.place(address).unwrap_or_default().line,
+            Some(Some(positions)) => positions.line(address),
             _ => 0,
         }
     }
@@ -253,7 +252,7 @@ pub(crate) fn add_columns(sheet: &mut Sheet) {
 fn function_name(files: &[Functions], robot: usize, number: usize) -> &str {
     let file = if files.len() == 1 { 0 } else { robot };
     match files.get(file).and_then(|functions| functions.get(number)) {
-        Some(name) => str::from_utf8(name.as_bytes()).unwrap_or("?"),
+        Some(name) => name_text(name),
         None => "?",
     }
 }

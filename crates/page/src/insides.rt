@@ -8,7 +8,7 @@ ghost use Rattle.battles.specs.Battle.{first_state};
 ghost use Rattle.battles.specs.Pairing.{paired, robots_of};
 ghost use Rattle.watching.specs.Played.{codes_of};
 ghost use Rattle.watching.specs.Moments.{IsMoment};
-ghost use Rattle.watching.specs.Searches.{IsLast, IsNext};
+ghost use Rattle.watching.specs.Searches.{IsSoughtCycle};
 ghost use Rattle.page.specs.Insides.{OfSought};
 
 use crate::compiled_robots::CompiledRobots;
@@ -21,16 +21,18 @@ use arena::MOST_ROBOTS;
 use code::{Intrinsic, Machine, Want};
 use series::Settings;
 use watching::{
-    Asked, Event, Field, Moment, Pilot, Sought, moment_at, next_cycle, previous_cycle, word_of,
+    Asked, Event, Field, Moment, Pilot, Sought, SoughtCycle, moment_at, sought_cycle, word_of,
 };
 
-/// Writes on a blank sheet where a robot is after a cycle of the first match of compiled robots, or at its end if that
-/// comes before.
+/// Writes on a blank sheet what is asked of the robot of a target in the first match of compiled robots. If it is sought
+/// that is the first or the last cycle, after or before that of the target, after which it is at one of the target's
+/// instructions, if there is one; and else where it is after the target's cycle, or at the end if that comes before.
 #[tactic(auto, using(crate::proofs::FilmedRobots::two_paired))]
-pub(crate) fn tell_moment(
+pub(crate) fn tell_inside(
     settings: &Settings<'_>,
     compiled: &CompiledRobots,
     target: &Target,
+    is_sought: bool,
     sheet: &mut Sheet,
 )
     requires { 0 < length compiled.now.programs.items }
@@ -42,14 +44,23 @@ pub(crate) fn tell_moment(
     }
     let mut pilots = pilots_of(compiled);
     let pilots = &mut pilots[..compiled.robots()];
+    if is_sought {
+        let marked = target.marked();
+        let sought = Sought::Address(&marked, target.frames as usize);
+        if let Some(cycle) = found_in(settings, pilots, robot, &sought, target.which()) {
+            sheet.add(Row::new(cycle, robot, &Event::new("found", &[])).as_slice());
+        }
+        return;
+    }
     let moment = moment_in(settings, pilots, robot, target.cycle);
+    let cycle = moment.game.ending().cycles;
     let mut inside = Inside {
         sheet,
-        cycle: moment.game.ending().cycles,
+        cycle,
         robot,
     };
-    let pilots = &*pilots;
-    inside.tell(&moment, pilots[robot].machine());
+    let played = &*pilots;
+    inside.tell(&moment, played[robot].machine());
 }
 
 /// Plays the first match of the settings up to the moment after a cycle, and returns where a robot is then. The pilots
@@ -68,70 +79,22 @@ fn moment_in(settings: &Settings<'_>, pilots: &mut [Pilot<'_>], robot: usize, cy
     moment_at(pilots, robot, cycle, seed, number, limit)
 }
 
-/// Writes on a blank sheet the first or the last cycle, after or before that of a target, after which a robot is at one
-/// of the target's instructions, in the first match of compiled robots. Writes none if there is none.
-#[tactic(auto, using(crate::proofs::FilmedRobots::two_paired))]
-pub(crate) fn tell_run(
-    settings: &Settings<'_>,
-    compiled: &CompiledRobots,
-    target: &Target,
-    sheet: &mut Sheet,
-)
-    requires { 0 < length compiled.now.programs.items }
-{
-    add_columns(sheet);
-    let robot = target.robot as usize;
-    if robot >= compiled.robots() {
-        return;
-    }
-    let mut pilots = pilots_of(compiled);
-    let marked = target.marked();
-    let sought = Sought::Address(&marked, target.frames as usize);
-    let pilots = &mut pilots[..compiled.robots()];
-    let found = if target.backwards == 0 {
-        next_in(settings, pilots, robot, &sought, target.cycle)
-    } else {
-        last_in(settings, pilots, robot, &sought, target.cycle)
-    };
-    if let Some(cycle) = found {
-        sheet.add(Row::new(cycle, robot, &Event::new("found", &[])).as_slice());
-    }
-}
-
-/// Returns the first cycle later than `after` in which what is sought happens to a robot in the first match of the
+/// Returns the cycle that is looked for, of those in which what is sought happens to a robot in the first match of the
 /// settings.
-fn next_in(
+fn found_in(
     settings: &Settings<'_>,
     pilots: &mut [Pilot<'_>],
     robot: usize,
     sought: &Sought<'_>,
-    after: u32,
+    which: SoughtCycle,
 ) -> Option<u32>
     requires some { 2 ≤ length pilots.old }
     requires most { length pilots.old ≤ MOST_ROBOTS }
     requires inside { robot < length pilots.old }
-    ensures { OfSought settings.now pilots.old robot sought.now (λ happens last. IsNext happens after last result) }
+    ensures { OfSought settings.now pilots.old robot sought.now (λ happens last. IsSoughtCycle which happens last result) }
 {
     let (seed, number, limit) = (settings.seed(), settings.first(), settings.limit());
-    next_cycle(pilots, robot, sought, after, seed, number, limit)
-}
-
-/// Returns the last cycle before another one in which what is sought happens to a robot in the first match of the
-/// settings.
-fn last_in(
-    settings: &Settings<'_>,
-    pilots: &mut [Pilot<'_>],
-    robot: usize,
-    sought: &Sought<'_>,
-    before: u32,
-) -> Option<u32>
-    requires some { 2 ≤ length pilots.old }
-    requires most { length pilots.old ≤ MOST_ROBOTS }
-    requires inside { robot < length pilots.old }
-    ensures { OfSought settings.now pilots.old robot sought.now (λ happens last. IsLast happens before last result) }
-{
-    let (seed, number, limit) = (settings.seed(), settings.first(), settings.limit());
-    previous_cycle(pilots, robot, sought, before, seed, number, limit)
+    sought_cycle(pilots, robot, sought, which, seed, number, limit)
 }
 
 /// What writes rows about a robot from inside.

@@ -17,6 +17,7 @@ mod robots;
 mod rows;
 mod running;
 mod sheets;
+mod source_parts;
 mod sources;
 mod stretches;
 mod subjects;

@@ -1,6 +1,10 @@
 //! Targets: which robot is looked into, and where it is looked for.
 
+ghost use Rattle.std.specs.Prelude.{◌≡◌};
+ghost use Rattle.page.specs.Insides.{which_of};
+
 use code::MOST_INSTRUCTIONS;
+use watching::SoughtCycle;
 
 /// The marks of a target: one for each address that a program may have.
 pub const MARKS: usize = MOST_INSTRUCTIONS;
@@ -29,5 +33,16 @@ impl Target {
             marked[address] = self.marks[address] != 0;
         }
         marked
+    }
+
+    /// Returns which cycle is looked for.
+    pub(crate) fn which(&self) -> SoughtCycle
+        ensures { result ≡ which_of self.now }
+    {
+        if self.backwards == 0 {
+            SoughtCycle::After(self.cycle)
+        } else {
+            SoughtCycle::Before(self.cycle)
+        }
     }
 }

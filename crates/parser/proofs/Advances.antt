@@ -1,9 +1,9 @@
 -- One call after another: what they keep.
-use Rattle.std.proofs.Common.{ℕ, refl, ◌∙◌, ap, arith, le_refl, List}
+use Rattle.std.proofs.Common.{ℕ, ◌<◌, refl, ◌∙◌, ap, arith, le_refl, List}
 use Rattle.std.specs.Prelude.{Option, Result, Ok, Err}
 use Rattle.tokens.specs.Window.{TakesBytes}
 use Rattle.grammar.specs.declared.diagnostics.ParseFault.{ParseFault}
-use Rattle.parser.specs.ScopedCursors.{ScopedCursor}
+use Rattle.parser.specs.ScopedCursors.{ScopedCursor, to_go}
 use Rattle.tokens.specs.Device.{FailureCount}
 use Rattle.parser.specs.Segment.{account_after}
 use Rattle.parser.specs.Advancing.{Advances, IsReady, HasStayedOrAdvanced, Stopped, HasAdvanced}
@@ -30,23 +30,16 @@ kept_then a b c h i = record {
   ready = i.ready;
 }
 
+-- calls of which one advanced
+strictly : (a b : ScopedCursor) → to_go b < to_go a → HasStayedOrAdvanced a b → HasAdvanced a b
+strictly a b less h =
+    record { borrows = h.borrows; account = h.account; took = h.took; falls = less; ready = h.ready }
+
 pub on_then : (a b c : ScopedCursor) → HasAdvanced a b → HasStayedOrAdvanced b c → HasAdvanced a c
-on_then a b c h i = record {
-  borrows = i.borrows ∙ h.borrows;
-  account = i.account ∙ h.account;
-  took = takes_then _ _ _ _ _ _ h.took i.took;
-  falls = omega (arith, h.falls, i.falls);
-  ready = i.ready;
-}
+on_then a b c h i = strictly a c (omega (arith, h.falls, i.falls)) (kept_then a b c (on a b h) i)
 
 pub kept_on : (a b c : ScopedCursor) → HasStayedOrAdvanced a b → HasAdvanced b c → HasAdvanced a c
-kept_on a b c h i = record {
-  borrows = i.borrows ∙ h.borrows;
-  account = i.account ∙ h.account;
-  took = takes_then _ _ _ _ _ _ h.took i.took;
-  falls = omega (arith, h.falls, i.falls);
-  ready = i.ready;
-}
+kept_on a b c h i = strictly a c (omega (arith, h.falls, i.falls)) (kept_then a b c h (on b c i))
 
 -- a refusal after calls that advanced
 pub stopped_then : (f : ParseFault) (a b c : ScopedCursor) → HasStayedOrAdvanced a b → Stopped f b c → Stopped f a c

@@ -48,11 +48,7 @@ pub record SpellsStore (o : StoreOp) (t : Token) : Type 0 where
 
 pub spells_store : (o : StoreOp) (t : Token) → store_operator t ≡ Some o → SpellsStore o t
 spells_store o (token.Punctuator m) is = record { m = m; is = refl; store = is; fits = same_self m }
-spells_store o (token.Name name) is = absurd (cc)
-spells_store o (token.Keyword word) is = absurd (cc)
-spells_store o (token.Constant value) is = absurd (cc)
-spells_store o token.End is = absurd (cc)
-spells_store o (token.Fault lexical_error) is = absurd (cc)
+spells_store o t is = absurd (cc)
 
 pub store_goes_on : (o : StoreOp) (t : Token) → store_operator t ≡ Some o → is_last t ≡ false
 store_goes_on o t is = let s : SpellsStore o t = spells_store o t is in rw s.is refl

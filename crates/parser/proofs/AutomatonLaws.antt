@@ -1,6 +1,8 @@
 -- What the steps of an automaton share: where it is before and after, and how they are refused.
-use Rattle.std.proofs.Common.{◌≡◌, ℕ, zero, suc, ◌+◌, ◌-◌, ◌*◌, ◌<◌, ◌≤◌, List, [], ◌∷◌, ◌++◌, refl, sym, ◌∙◌, subst, length, append-nil, arith}
-use Rattle.std.specs.Prelude.{None, Result, Ok, Err}
+use Rattle.std.proofs.Common.{true, ◌≡◌, ℕ, zero, suc, ◌+◌, ◌-◌, ◌*◌, ◌<◌, ◌≤◌, List, [], ◌∷◌, ◌++◌, refl, sym, ◌∙◌, subst, length, append-nil, arith}
+use Rattle.std.specs.Prelude.{None, Result, Ok, Err, IsErrAnd}
+use Rattle.tokens.specs.declared.located_tokens.Keyword.{Keyword}
+use Rattle.tokens.specs.declared.located_tokens.Token.{Token}
 use Rattle.grammar.specs.declared.actions.Action.{Action}
 use Rattle.grammar.specs.declared.build.BuildFault.{BuildFault}
 use Rattle.grammar.specs.declared.build.BuildFault.TheVariants as build_fault
@@ -12,7 +14,7 @@ use Rattle.grammar.specs.Building.{AppendsAll, MayFollowAll, Refuses, Representa
 use Rattle.grammar.specs.Compiled.{diagnostic}
 use Rattle.grammar.specs.Derivation.{PartialTree, AnExpr}
 use Rattle.grammar.specs.Faults.{nested_count}
-use Rattle.grammar.specs.Grammar.{Item, Symbol, Part}
+use Rattle.grammar.specs.Grammar.{AKeyword, Item, Part, Statement, Symbol, enters, is_keyword}
 use Rattle.grammar.specs.Laws.Climbing.{operator_from}
 use Rattle.grammar.specs.Tree.{Expr}
 use Rattle.grammar_laws.specs.Emission.{and_then}
@@ -21,7 +23,7 @@ use Rattle.parser.specs.declared.frames.Frame.{Frame}
 use Rattle.parser.specs.declared.frames.Frame.TheVariants as frame
 use Rattle.parser.specs.declared.frames.Front.{Front}
 use Rattle.parser.specs.declared.frames.Front.TheVariants as front
-use Rattle.parser.specs.declared.frames.TheConstants.{MOST_FRAMES}
+use Rattle.parser.specs.declared.frames.TheConstants.{MOST_FRAMES, UNARY_LEVEL}
 use Rattle.parser.specs.Automata.{Fits, HasMore, InExpression, IsAt, IsTooDeep, Moves, OnExpr, Stands, Start, Takes, Trees, all_tails, front_items, stack_of, tails}
 use Rattle.parser.specs.Paths.{HasTold, Origin, Path, Refused}
 use Rattle.parser.specs.ScopedCursors.{ScopedCursor, next_at, taken_at, token_of}
@@ -29,6 +31,9 @@ use Rattle.parser.specs.Segment.{FailsAt}
 use Rattle.parser.specs.Stopping.{stop_with}
 use Rattle.parser.proofs.ExpressionSteps.{operators_path}
 use Rattle.parser.proofs.Operators.{none_past}
+use Rattle.parser.proofs.Parts.{Chooses as ChoosesAny}
+use Rattle.parser.proofs.Passing.{passed_on}
+use Rattle.parser.proofs.Productions.{chooses_any, token_too_deep}
 use Rattle.parser.proofs.PathLaws.{faulty, may_all}
 
 -- Before and after.
@@ -82,8 +87,8 @@ nested_tails zero floor stack = refl
 nested_tails (suc count) floor stack = nested_tails count floor stack
 
 -- at each level of nesting at most one for each level of operators
-pub few_frames : (n : ℕ) (frames : List Frame) → n ≤ 11 → Takes n frames →
-    length frames ≤ 11 * nested_count (stack_of frames) + n
+pub few_frames : (n : ℕ) (frames : List Frame) → n ≤ UNARY_LEVEL → Takes n frames →
+    length frames ≤ UNARY_LEVEL * nested_count (stack_of frames) + n
 few_frames n [] small t = absurd t
 few_frames n (frame.Operate op level floor ∷ frames) small t =
     omega (
@@ -95,11 +100,11 @@ few_frames n (frame.Operate op level floor ∷ frames) small t =
       nested_tails (level + 1 - floor) floor (stack_of frames),
     )
 few_frames n (frame.Sign sign floor ∷ frames) small t =
-    omega (arith, t.0, t.2, few_frames floor frames t.2 t.3, nested_tails (11 - floor) floor (stack_of frames))
+    omega (arith, t.0, t.2, few_frames floor frames t.2 t.3, nested_tails (UNARY_LEVEL - floor) floor (stack_of frames))
 few_frames n (frame.Bracket floor ∷ frames) small t =
-    omega (arith, t.0, t.2, few_frames floor frames t.2 t.3, nested_tails (11 - floor) floor (stack_of frames))
+    omega (arith, t.0, t.2, few_frames floor frames t.2 t.3, nested_tails (UNARY_LEVEL - floor) floor (stack_of frames))
 few_frames n (frame.Call callee floor ∷ frames) small t =
-    omega (arith, t.0, t.2, few_frames floor frames t.2 t.3, nested_tails (11 - floor) floor (stack_of frames))
+    omega (arith, t.0, t.2, few_frames floor frames t.2 t.3, nested_tails (UNARY_LEVEL - floor) floor (stack_of frames))
 few_frames n (frame.Store var op ∷ frames) small t = omega (arith, t.0, few_frames 1 frames (omega arith) t.1)
 few_frames n (frame.Evaluate ∷ frames) small t = omega (arith, t.0, few_frames 0 frames (omega arith) t.1)
 few_frames n (frame.Return ∷ frames) small t = omega (arith, t.0, few_frames 0 frames (omega arith) t.1)
@@ -112,18 +117,14 @@ few_frames n (frame.Block ∷ frames) small t = omega (arith, t.0, few_frames 0 
 few_frames n (frame.Function ∷ frames) small t = rw t.1 (omega (arith, t.0))
 
 -- there is room for one more
-pub has_place : (frames : List Frame) (n : ℕ) → n < 11 → Takes n frames →
+pub has_place : (frames : List Frame) (n : ℕ) → n < UNARY_LEVEL → Takes n frames →
     nested_count (stack_of frames) ≤ MOST_NESTED → length frames < MOST_FRAMES
-has_place frames n small t few =
-    let nested : nested_count (stack_of frames) ≤ 64 = few in
-    omega (arith, small, nested, few_frames n frames (omega (arith, small)) t)
+has_place frames n small t few = omega (arith, small, few, few_frames n frames (omega (arith, small)) t)
 
 -- so there is while fewer constructs are open than the most, whatever the level is
-pub has_room : (frames : List Frame) (n : ℕ) → n ≤ 11 → Takes n frames →
+pub has_room : (frames : List Frame) (n : ℕ) → n ≤ UNARY_LEVEL → Takes n frames →
     nested_count (stack_of frames) < MOST_NESTED → length frames < MOST_FRAMES
-has_room frames n small t few =
-    let nested : nested_count (stack_of frames) < 64 = few in
-    omega (arith, small, nested, few_frames n frames small t)
+has_room frames n small t few = omega (arith, small, few, few_frames n frames small t)
 
 -- an expression is to be derived
 pub awaits : {frames : List Frame} {trees : Type 0} → Takes 1 frames → trees → InExpression 1 frames trees
@@ -158,7 +159,7 @@ may_report {o} {began} {now} {stack} {values} {at} acts more told new path =
 -- operators below what is in front open nothing
 pub under_tails : (floor depth : ℕ) (frames : List Frame) → nested_count (stack_of frames) ≡ depth →
     nested_count (all_tails floor ++ stack_of frames) ≡ depth
-under_tails floor depth frames h = nested_tails (11 - floor) floor (stack_of frames) ∙ h
+under_tails floor depth frames h = nested_tails (UNARY_LEVEL - floor) floor (stack_of frames) ∙ h
 
 pub shallow : (floor depth : ℕ) (frames : List Frame) → nested_count (stack_of frames) ≡ depth → depth < MOST_NESTED →
     nested_count (all_tails floor ++ stack_of frames) < MOST_NESTED
@@ -168,7 +169,7 @@ shallow floor depth frames h few =
 -- the construct around them is closed
 pub closes : (floor depth : ℕ) (frames : List Frame) →
     nested_count (all_tails floor ++ stack_of frames) + 1 ≡ depth → nested_count (stack_of frames) ≡ depth - 1
-closes floor depth frames h = omega (arith, h, nested_tails (11 - floor) floor (stack_of frames))
+closes floor depth frames h = omega (arith, h, nested_tails (UNARY_LEVEL - floor) floor (stack_of frames))
 
 pub nests : {F B : Type 0} {o : Origin} {denied : Type 0} {told : List Action → Type 0} {at : Automaton F B}
     {stack : List Item} {values : List PartialTree} {acts : List Action} {f : ParseFault} {symbol : Symbol} →
@@ -179,6 +180,18 @@ pub nests : {F B : Type 0} {o : Origin} {denied : Type 0} {told : List Action �
     Refused o denied told f at.tokens
 nests {stack = stack} {symbol = symbol} h depth n fails =
     rw n.is (faulty (Part symbol ∷ []) stack h (fails (nested_count stack) (rw depth n.deep)))
+
+-- at a statement that this keyword begins
+pub word_nests : {F B : Type 0} (denied : Type 0) (stands : B → Representation) {at : Automaton F B}
+    (result : Result Front ParseFault) {f : ParseFault} (w : Keyword) (items : List Item) →
+    IsErrAnd result (λ e. e ≡ f) → IsTooDeep at f → is_keyword w (token_of at.tokens) ≡ true →
+    ChoosesAny Statement (token_of at.tokens) (AKeyword w ∷ items) →
+    ((after : Token) → enters Statement (token_of at.tokens) after ≡ true) →
+    Moves result denied stands front.Statement at at
+word_nests denied stands result w items is deep starts chosen enters = rw (passed_on result is) (λ o h.
+    nests h.path h.depth deep (λ depth.
+    token_too_deep _ _ h.path.ready.near depth Statement (AKeyword w) items (chooses_any h.path.ready.sound chosen)
+    (λ after more. enters after) starts))
 
 -- Operators.
 
@@ -201,7 +214,8 @@ pub operand_stands : {F B : Type 0} {o : Start B} {stands : B → Representation
     nested_count (stack_of new.frames) ≡ new.depth → new.depth ≤ MOST_NESTED →
     InExpression floor new.frames (OnExpr (Trees new.frames) values) → Stands o stands (front.Operators floor) new
 operand_stands {new = new} h floor path told depth few fits =
-    operators_stand h (11 - floor) floor (none_past _ (token_of new.tokens) (omega (arith, fits.most))) path told depth
+    operators_stand h (UNARY_LEVEL - floor) floor (none_past _ (token_of new.tokens) (omega (arith, fits.most))) path
+    told depth
     few fits
 
 -- an operand was derived

@@ -15,6 +15,7 @@ use Rattle.grammar.specs.Laws.Climbing.{operator_from}
 use Rattle.grammar.specs.Laws.OperatorTokens.{operator_of}
 use Rattle.grammar.specs.Operators.{operator_at}
 use Rattle.grammar_laws.specs.Emission.{and_then}
+use Rattle.parser.specs.declared.frames.TheConstants.{UNARY_LEVEL}
 use Rattle.parser.specs.Automata.{all_tails, tails, tails_to}
 use Rattle.parser.specs.Paths.{Origin, Path}
 use Rattle.parser.specs.ScopedCursors.{ScopedCursor, token_after, token_of}
@@ -27,7 +28,7 @@ use Rattle.parser.proofs.PathLaws.{chosen, opened}
 -- From a level down to an operand.
 
 levels_path : {o : Origin} {stack : List Item} {values : List PartialTree} {acts : List Action} {at : ScopedCursor}
-    (count floor : ℕ) → floor + count ≤ 11 → Path o (Part (Level floor) ∷ stack) values acts at →
+    (count floor : ℕ) → floor + count ≤ UNARY_LEVEL → Path o (Part (Level floor) ∷ stack) values acts at →
     Path o (Part (Level (floor + count)) ∷ tails count floor ++ stack) values acts at
 levels_path {o} {stack} {values} {acts} {at} zero floor most h =
     let same : floor ≡ floor + 0 = omega arith in
@@ -40,13 +41,13 @@ levels_path {o} {stack} {values} {acts} {at} (suc count) floor most h =
     (levels_path count floor (omega (arith, most)) h))
 
 pub operand_path : {o : Origin} {stack : List Item} {values : List PartialTree} {acts : List Action}
-    {at : ScopedCursor} (floor : ℕ) → floor ≤ 11 → Path o (Part (Level floor) ∷ stack) values acts at →
+    {at : ScopedCursor} (floor : ℕ) → floor ≤ UNARY_LEVEL → Path o (Part (Level floor) ∷ stack) values acts at →
     Path o (Part Unary ∷ all_tails floor ++ stack) values acts at
 operand_path {at = at} floor most h =
-    let last : 10 < floor + (11 - floor) = omega (arith, most) in
-    chosen {more = []} (Level (floor + (11 - floor))) (Part Unary ∷ [])
-    (λ after more. last_choice (floor + (11 - floor)) (token_of at) after last) (λ after more. refl) refl
-    (levels_path (11 - floor) floor (omega (arith, most)) h)
+    let last : UNARY_LEVEL ≤ floor + (UNARY_LEVEL - floor) = omega (arith, most) in
+    chosen {more = []} (Level (floor + (UNARY_LEVEL - floor))) (Part Unary ∷ [])
+    (λ after more. last_choice (floor + (UNARY_LEVEL - floor)) (token_of at) after last) (λ after more. refl) refl
+    (levels_path (UNARY_LEVEL - floor) floor (omega (arith, most)) h)
 
 -- Levels of which no operator is next end.
 

@@ -23,69 +23,46 @@ evaluates (token.Punctuator m) plain = record { chosen = λ after. refl; shallow
 evaluates (token.Keyword keyword.If) plain = absurd (cc)
 evaluates (token.Keyword keyword.While) plain = absurd (cc)
 evaluates (token.Keyword keyword.Return) plain = absurd (cc)
-evaluates (token.Keyword w) plain = record { chosen = λ after. refl; shallow = λ after. refl }
-evaluates (token.Name name) plain = record { chosen = λ after. refl; shallow = λ after. refl }
-evaluates (token.Constant value) plain = record { chosen = λ after. refl; shallow = λ after. refl }
-evaluates token.End plain = record { chosen = λ after. refl; shallow = λ after. refl }
-evaluates (token.Fault lexical_error) plain = record { chosen = λ after. refl; shallow = λ after. refl }
+evaluates t plain = record { chosen = λ after. refl; shallow = λ after. refl }
 
 -- Statements, up to the closing brace.
 
 pub more_chosen : (t : Token) → is_punctuator punctuator.CloseCurly t ≡ false →
     Chooses Statements t (Part Statement ∷ Part Statements ∷ [])
 more_chosen (token.Punctuator punctuator.CloseCurly) other = absurd (cc)
-more_chosen (token.Punctuator m) other = λ after. refl
-more_chosen (token.Name name) other = λ after. refl
-more_chosen (token.Keyword word) other = λ after. refl
-more_chosen (token.Constant value) other = λ after. refl
-more_chosen token.End other = λ after. refl
-more_chosen (token.Fault lexical_error) other = λ after. refl
+more_chosen t other = λ after. refl
 
 pub end_chosen : (t : Token) → is_punctuator punctuator.CloseCurly t ≡ true → Chooses Statements t []
-end_chosen t is after =
-    let at : t ≡ token.Punctuator punctuator.CloseCurly = punctuator_is punctuator.CloseCurly t is in rw at refl
+end_chosen t is after = rw (punctuator_is punctuator.CloseCurly t is) refl
 
 -- Second branches.
 
 pub else_chosen : (t : Token) → is_keyword keyword.Else t ≡ true →
     Chooses ElsePart t (AKeyword keyword.Else ∷ Make Empty ∷ Part Statement ∷ Make DecideElse ∷ [])
-else_chosen t is after = let at : t ≡ token.Keyword keyword.Else = word_is keyword.Else t is in rw at refl
+else_chosen t is after = rw (word_is keyword.Else t is) refl
 
 pub no_else_chosen : (t : Token) → is_keyword keyword.Else t ≡ false → Chooses ElsePart t (Make Decide ∷ [])
 no_else_chosen (token.Keyword keyword.Else) other = absurd (cc)
-no_else_chosen (token.Keyword w) other = λ after. refl
-no_else_chosen (token.Punctuator m) other = λ after. refl
-no_else_chosen (token.Name name) other = λ after. refl
-no_else_chosen (token.Constant value) other = λ after. refl
-no_else_chosen token.End other = λ after. refl
-no_else_chosen (token.Fault lexical_error) other = λ after. refl
+no_else_chosen t other = λ after. refl
 
 -- What a return returns.
 
 pub zero_chosen : (t : Token) → is_punctuator punctuator.Semicolon t ≡ true → Chooses Back t (Make Zero ∷ [])
-zero_chosen t is after =
-    let at : t ≡ token.Punctuator punctuator.Semicolon = punctuator_is punctuator.Semicolon t is in rw at refl
+zero_chosen t is after = rw (punctuator_is punctuator.Semicolon t is) refl
 
 pub value_chosen : (t : Token) → is_punctuator punctuator.Semicolon t ≡ false → Chooses Back t (Part Expression ∷ [])
 value_chosen (token.Punctuator punctuator.Semicolon) other = absurd (cc)
-value_chosen (token.Punctuator m) other = λ after. refl
-value_chosen (token.Name name) other = λ after. refl
-value_chosen (token.Keyword word) other = λ after. refl
-value_chosen (token.Constant value) other = λ after. refl
-value_chosen token.End other = λ after. refl
-value_chosen (token.Fault lexical_error) other = λ after. refl
+value_chosen t other = λ after. refl
 
 -- The forms that a punctuator or a keyword begins.
 
 pub empty_chosen : (t : Token) → is_punctuator punctuator.Semicolon t ≡ true →
     Chooses Statement t (Exactly punctuator.Semicolon ∷ [])
-empty_chosen t is after =
-    let at : t ≡ token.Punctuator punctuator.Semicolon = punctuator_is punctuator.Semicolon t is in rw at refl
+empty_chosen t is after = rw (punctuator_is punctuator.Semicolon t is) refl
 
 pub empty_shallow : (t : Token) → is_punctuator punctuator.Semicolon t ≡ true → (after : Token) →
     enters Statement t after ≡ false
-empty_shallow t is after =
-    let at : t ≡ token.Punctuator punctuator.Semicolon = punctuator_is punctuator.Semicolon t is in rw at refl
+empty_shallow t is after = rw (punctuator_is punctuator.Semicolon t is) refl
 
 -- what follows the opening brace of a block
 abbrev pub in_braces : List Item
@@ -120,22 +97,22 @@ conditioned items = Exactly punctuator.OpenRound ∷ Part Expression ∷ Exactly
 
 pub if_chosen : (t : Token) → is_keyword keyword.If t ≡ true →
     Chooses Statement t (AKeyword keyword.If ∷ conditioned behind_if)
-if_chosen t is after = let at : t ≡ token.Keyword keyword.If = word_is keyword.If t is in rw at refl
+if_chosen t is after = rw (word_is keyword.If t is) refl
 
 pub if_enters : (t : Token) → is_keyword keyword.If t ≡ true → (after : Token) → enters Statement t after ≡ true
-if_enters t is after = let at : t ≡ token.Keyword keyword.If = word_is keyword.If t is in rw at refl
+if_enters t is after = rw (word_is keyword.If t is) refl
 
 pub while_chosen : (t : Token) → is_keyword keyword.While t ≡ true →
     Chooses Statement t (AKeyword keyword.While ∷ conditioned behind_while)
-while_chosen t is after = let at : t ≡ token.Keyword keyword.While = word_is keyword.While t is in rw at refl
+while_chosen t is after = rw (word_is keyword.While t is) refl
 
 pub while_enters : (t : Token) → is_keyword keyword.While t ≡ true → (after : Token) → enters Statement t after ≡ true
-while_enters t is after = let at : t ≡ token.Keyword keyword.While = word_is keyword.While t is in rw at refl
+while_enters t is after = rw (word_is keyword.While t is) refl
 
 pub return_chosen : (t : Token) → is_keyword keyword.Return t ≡ true →
     Chooses Statement t (AKeyword keyword.Return ∷ Part Back ∷ Exactly punctuator.Semicolon ∷ Make GiveBack ∷ [])
-return_chosen t is after = let at : t ≡ token.Keyword keyword.Return = word_is keyword.Return t is in rw at refl
+return_chosen t is after = rw (word_is keyword.Return t is) refl
 
 pub return_shallow : (t : Token) → is_keyword keyword.Return t ≡ true → (after : Token) →
     enters Statement t after ≡ false
-return_shallow t is after = let at : t ≡ token.Keyword keyword.Return = word_is keyword.Return t is in rw at refl
+return_shallow t is after = rw (word_is keyword.Return t is) refl

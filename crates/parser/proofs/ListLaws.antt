@@ -14,7 +14,8 @@ use Rattle.parser.specs.Matching.{Matches}
 use Rattle.parser.specs.ScopedCursors.{UnreadPosition, ScopedCursor, next_at}
 use Rattle.parser.specs.Roles.{role_of}
 use Rattle.parser.specs.Segment.{Derives, DerivesItem, FailsAt, Refused}
-use Rattle.parser.proofs.Parts.{Chooses, free_of, part_stands}
+use Rattle.parser.proofs.Parts.{Chooses}
+use Rattle.parser.proofs.Productions.{chooses_any, chosen}
 use Rattle.parser.proofs.Segments.{fails_behind, joined, refused_map, stay}
 use Rattle.parser.specs.Declarations.{IsInFunction, declaration_items, declarations_of, names_items}
 
@@ -28,7 +29,7 @@ pub replaces : (at : UnreadPosition) (depth : ℕ) (symbol : Symbol) (items : Li
     Gives symbol (next_at at).token items →
     Derives depth (Part symbol ∷ []) items [] [] at at
 replaces at depth symbol items sound gives =
-    part_stands at depth symbol items [] sound gives.chosen (free_of depth symbol (next_at at) gives.plain)
+    chosen at depth symbol items [] (chooses_any sound gives.chosen) (λ after more. gives.plain after)
 
 -- The choices.
 

@@ -22,11 +22,7 @@ pub record IsNamed (t : Token) : Type 0 where
 
 pub is_named : (t : Token) → is_some (name_of_token t) ≡ true → IsNamed t
 is_named (token.Name name) h = record { name = name; is = refl }
-is_named (token.Punctuator m) h = absurd (cc)
-is_named (token.Keyword word) h = absurd (cc)
-is_named (token.Constant value) h = absurd (cc)
-is_named token.End h = absurd (cc)
-is_named (token.Fault lexical_error) h = absurd (cc)
+is_named t h = absurd (cc)
 
 pub named_goes_on : (t : Token) → IsNamed t → is_last t ≡ false
 named_goes_on t n = rw n.is refl

@@ -209,59 +209,32 @@ pub open_chooses : (at : UnreadPosition) → is_punctuator punctuator.OpenRound 
 open_chooses at fits = record {
   sound = punctuator_sound punctuator.OpenRound (next_at at).token fits;
   is =
-      λ after more. let t : (next_at at).token ≡
-      token.Punctuator punctuator.OpenRound = punctuator_is punctuator.OpenRound (next_at at).token fits in rw t refl;
+      λ after more. rw (punctuator_is punctuator.OpenRound (next_at at).token fits) refl;
 }
 
 pub open_enters : (at : UnreadPosition) → is_punctuator punctuator.OpenRound (next_at at).token ≡ true →
     IsNested at Primary
-open_enters at fits after more =
-    let t : (next_at at).token ≡ token.Punctuator punctuator.OpenRound =
-    punctuator_is punctuator.OpenRound (next_at at).token fits in
-    rw t refl
+open_enters at fits after more = rw (punctuator_is punctuator.OpenRound (next_at at).token fits) refl
 
 -- An operand without a unary operator is a primary.
 
 pub primary_choice : (t after : Token) → ((s : UnaryOp) → is_punctuator (unary_punctuator s) t ≡ false) →
     ((s : IncrementOp) → is_punctuator (increment_punctuator s) t ≡ false) →
     choice Unary t after ≡ Some (Part Primary ∷ [])
-primary_choice (token.Punctuator punctuator.Minus) after signs increments =
-    let e : is_punctuator (unary_punctuator unary_op.Negation) (token.Punctuator punctuator.Minus) ≡ false =
-    signs unary_op.Negation in
-    absurd (cc)
-primary_choice (token.Punctuator punctuator.Not) after signs increments =
-    let e : is_punctuator (unary_punctuator unary_op.Denial) (token.Punctuator punctuator.Not) ≡ false =
-    signs unary_op.Denial in
-    absurd (cc)
-primary_choice (token.Punctuator punctuator.Tilde) after signs increments =
-    let e : is_punctuator (unary_punctuator unary_op.Complement) (token.Punctuator punctuator.Tilde) ≡ false =
-    signs unary_op.Complement in
-    absurd (cc)
+primary_choice (token.Punctuator punctuator.Minus) after signs increments = absurd (cc (signs unary_op.Negation))
+primary_choice (token.Punctuator punctuator.Not) after signs increments = absurd (cc (signs unary_op.Denial))
+primary_choice (token.Punctuator punctuator.Tilde) after signs increments = absurd (cc (signs unary_op.Complement))
 primary_choice (token.Punctuator punctuator.PlusPlus) after signs increments =
-    let e : is_punctuator (increment_punctuator increment_op.Increment) (token.Punctuator punctuator.PlusPlus) ≡ false =
-    increments increment_op.Increment in
-    absurd (cc)
+    absurd (cc (increments increment_op.Increment))
 primary_choice (token.Punctuator punctuator.MinusMinus) after signs increments =
-    let e : is_punctuator (increment_punctuator increment_op.Decrement) (token.Punctuator punctuator.MinusMinus) ≡
-    false =
-    increments increment_op.Decrement in
-    absurd (cc)
+    absurd (cc (increments increment_op.Decrement))
 primary_choice t after signs increments = refl
 
 pub primary_enters : (t after : Token) → ((s : UnaryOp) → is_punctuator (unary_punctuator s) t ≡ false) →
     enters Unary t after ≡ false
-primary_enters (token.Punctuator punctuator.Minus) after signs =
-    let e : is_punctuator (unary_punctuator unary_op.Negation) (token.Punctuator punctuator.Minus) ≡ false =
-    signs unary_op.Negation in
-    absurd (cc)
-primary_enters (token.Punctuator punctuator.Not) after signs =
-    let e : is_punctuator (unary_punctuator unary_op.Denial) (token.Punctuator punctuator.Not) ≡ false =
-    signs unary_op.Denial in
-    absurd (cc)
-primary_enters (token.Punctuator punctuator.Tilde) after signs =
-    let e : is_punctuator (unary_punctuator unary_op.Complement) (token.Punctuator punctuator.Tilde) ≡ false =
-    signs unary_op.Complement in
-    absurd (cc)
+primary_enters (token.Punctuator punctuator.Minus) after signs = absurd (cc (signs unary_op.Negation))
+primary_enters (token.Punctuator punctuator.Not) after signs = absurd (cc (signs unary_op.Denial))
+primary_enters (token.Punctuator punctuator.Tilde) after signs = absurd (cc (signs unary_op.Complement))
 primary_enters t after signs = refl
 
 -- the next token is no unary operator
@@ -272,10 +245,7 @@ pub record NoOperator (t : Token) : Type 0 where
 
 pub primary_emits : (t : Token) (scope : Scope) → ((s : UnaryOp) → is_punctuator (unary_punctuator s) t ≡ false) →
     on_choice Unary t scope ≡ []
-primary_emits (token.Punctuator punctuator.Minus) scope signs =
-    let e : is_punctuator (unary_punctuator unary_op.Negation) (token.Punctuator punctuator.Minus) ≡ false =
-    signs unary_op.Negation in
-    absurd (cc)
+primary_emits (token.Punctuator punctuator.Minus) scope signs = absurd (cc (signs unary_op.Negation))
 primary_emits t scope signs = refl
 
 pub no_punctuator : (m : Punctuator) (t : Token) → ((n : Punctuator) → t ≡ token.Punctuator n → ⊥) →

@@ -13,16 +13,18 @@ use Rattle.grammar.specs.Grammar.{Exactly, Level, Make, Operate, Part, Tail, Una
 use Rattle.grammar.specs.Operators.{binary_of, if_at, operator_at}
 use Rattle.grammar.specs.Laws.OperatorTokens.{operator_of}
 use Rattle.grammar.specs.Laws.Climbing.{if_from, operator_from}
+use Rattle.parser.specs.declared.frames.TheConstants.{UNARY_LEVEL}
 use Rattle.parser.proofs.Productions.{same_self}
 
-at_most : (l : ℕ) (o : Op) (b : AnOperator) → l ≤ 10 → Some (record { level = l; op = o }) ≡ Some b → b.level ≤ 10
+at_most : (l : ℕ) (o : Op) (b : AnOperator) → l < UNARY_LEVEL → Some (record { level = l; op = o }) ≡ Some b →
+    b.level < UNARY_LEVEL
 at_most l o b small is = let same : b ≡ record { level = l; op = o } = cc in rw same small
 
 -- there are ten
-pub ten_levels : (t : Token) (b : AnOperator) → operator_of t ≡ Some b → b.level ≤ 10
+pub ten_levels : (t : Token) (b : AnOperator) → operator_of t ≡ Some b → b.level < UNARY_LEVEL
 ten_levels (token.Punctuator m) b is = by_punctuator m is
   where
-    by_punctuator : (m : Punctuator) → operator_of (token.Punctuator m) ≡ Some b → b.level ≤ 10
+    by_punctuator : (m : Punctuator) → operator_of (token.Punctuator m) ≡ Some b → b.level < UNARY_LEVEL
     by_punctuator punctuator.OrOr is = at_most 1 op.Or b (omega arith) is
     by_punctuator punctuator.AndAnd is = at_most 2 op.And b (omega arith) is
     by_punctuator punctuator.Or is = at_most 3 op.BitOr b (omega arith) is
@@ -42,11 +44,7 @@ ten_levels (token.Punctuator m) b is = by_punctuator m is
     by_punctuator punctuator.Slash is = at_most 10 op.Divide b (omega arith) is
     by_punctuator punctuator.Percent is = at_most 10 op.Remainder b (omega arith) is
     by_punctuator m is = absurd (cc)
-ten_levels (token.Name name) b is = absurd (cc)
-ten_levels (token.Keyword word) b is = absurd (cc)
-ten_levels (token.Constant value) b is = absurd (cc)
-ten_levels token.End b is = absurd (cc)
-ten_levels (token.Fault lexical_error) b is = absurd (cc)
+ten_levels t b is = absurd (cc)
 
 same_level : (n : ℕ) → (n == n) ≡ true
 same_level n = grind (arith, nat_tests)
@@ -67,11 +65,7 @@ is_below n k e = grind (arith, nat_tests)
 pub at_its_own : (t : Token) (b : AnOperator) → operator_of t ≡ Some b → operator_at b.level t ≡ Some b.op
 at_its_own (token.Punctuator m) b is =
     let spelled : binary_of m ≡ Some b = is in rw spelled (rw (same_level b.level) refl)
-at_its_own (token.Name name) b is = absurd (cc)
-at_its_own (token.Keyword word) b is = absurd (cc)
-at_its_own (token.Constant value) b is = absurd (cc)
-at_its_own token.End b is = absurd (cc)
-at_its_own (token.Fault lexical_error) b is = absurd (cc)
+at_its_own t b is = absurd (cc)
 
 -- the operator found from a level on is the token's, and of that level or a tighter one
 pub found : (n : ℕ) (t : Token) (b : AnOperator) → operator_from n t ≡ Some b → (operator_of t ≡ Some b) × (n ≤ b.level)
@@ -104,13 +98,13 @@ all_looser n t b none is = by (operator_of t) none is
         (subst (λ (d : AnOperator). (if nat_le n d.level then Some d else None) ≡ None) it h)
 
 -- none is of a level past the tenth
-pub none_past : (n : ℕ) (t : Token) → 10 < n → operator_from n t ≡ None
+pub none_past : (n : ℕ) (t : Token) → UNARY_LEVEL ≤ n → operator_from n t ≡ None
 none_past n t past = by (operator_of t) (ten_levels t)
   where
-    by : (o : Option AnOperator) → ((b : AnOperator) → o ≡ Some b → b.level ≤ 10) → if_from n o ≡ None
+    by : (o : Option AnOperator) → ((b : AnOperator) → o ≡ Some b → b.level < UNARY_LEVEL) → if_from n o ≡ None
     by None most = refl
     by (Some b) most =
-        let level : b.level ≤ 10 = most b refl in
+        let level : b.level < UNARY_LEVEL = most b refl in
         let less : b.level < n = omega arith in rw (looser n b.level less) refl
 
 -- if none is found from a level on, there is none of any tighter level
@@ -122,34 +116,26 @@ none_at n l (token.Punctuator m) none tighter = by (binary_of m) (λ b is. all_l
     by (Some b) looser_ =
         let less : b.level < n = looser_ b refl in
         let far : b.level < l = omega arith in rw (other_level b.level l far) refl
-none_at n l (token.Name name) none tighter = refl
-none_at n l (token.Keyword word) none tighter = refl
-none_at n l (token.Constant value) none tighter = refl
-none_at n l token.End none tighter = refl
-none_at n l (token.Fault lexical_error) none tighter = refl
+none_at n l t none tighter = refl
 
 -- What the levels are replaced by.
 
-pub level_choice : (n : ℕ) (t after : Token) → n ≤ 10 →
+pub level_choice : (n : ℕ) (t after : Token) → n < UNARY_LEVEL →
     choice (Level n) t after ≡ Some (Part (Level (n + 1)) ∷ Part (Tail n) ∷ [])
-level_choice n t after small = let test : nat_lt n 11 ≡ true = below n small in rw test refl
+level_choice n t after small = let test : nat_lt n UNARY_LEVEL ≡ true = below n small in rw test refl
   where
-    below : (n : ℕ) → n ≤ 10 → nat_lt n 11 ≡ true
+    below : (n : ℕ) → n < UNARY_LEVEL → nat_lt n UNARY_LEVEL ≡ true
     below n small = grind (arith, nat_tests)
 
-pub last_choice : (n : ℕ) (t after : Token) → 10 < n → choice (Level n) t after ≡ Some (Part Unary ∷ [])
-last_choice n t after last = let test : nat_lt n 11 ≡ false = above n last in rw test refl
+pub last_choice : (n : ℕ) (t after : Token) → UNARY_LEVEL ≤ n → choice (Level n) t after ≡ Some (Part Unary ∷ [])
+last_choice n t after last = let test : nat_lt n UNARY_LEVEL ≡ false = above n last in rw test refl
   where
-    above : (n : ℕ) → 10 < n → nat_lt n 11 ≡ false
+    above : (n : ℕ) → UNARY_LEVEL ≤ n → nat_lt n UNARY_LEVEL ≡ false
     above n last = grind (arith, nat_tests)
 
 pub no_operator : (n : ℕ) (t after : Token) → operator_at n t ≡ None → choice (Tail n) t after ≡ Some []
 no_operator n (token.Punctuator m) after none = rw none refl
-no_operator n (token.Name name) after none = refl
-no_operator n (token.Keyword word) after none = refl
-no_operator n (token.Constant value) after none = refl
-no_operator n token.End after none = refl
-no_operator n (token.Fault lexical_error) after none = refl
+no_operator n t after none = refl
 
 pub record SpellsOperator (n : ℕ) (o : Op) (t : Token) : Type 0 where
   pub m : Punctuator
@@ -160,8 +146,4 @@ pub record SpellsOperator (n : ℕ) (o : Op) (t : Token) : Type 0 where
 
 pub spells : (n : ℕ) (o : Op) (t : Token) → operator_at n t ≡ Some o → SpellsOperator n o t
 spells n o (token.Punctuator m) is = record { m = m; is = refl; choice_is = λ after. rw is refl; fits = same_self m }
-spells n o (token.Name name) is = absurd (cc)
-spells n o (token.Keyword word) is = absurd (cc)
-spells n o (token.Constant value) is = absurd (cc)
-spells n o token.End is = absurd (cc)
-spells n o (token.Fault lexical_error) is = absurd (cc)
+spells n o t is = absurd (cc)

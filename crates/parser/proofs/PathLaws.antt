@@ -3,8 +3,6 @@ use Rattle.std.proofs.Common.{◌≡◌, ℕ, zero, suc, ◌+◌, ◌<◌, List,
 use Rattle.std.specs.Prelude.{pos, Some, nat_le}
 use Rattle.tokens.specs.Tokens.{followed_by, is_last}
 use Rattle.tokens.specs.declared.located_tokens.LocatedToken.{LocatedToken}
-use Rattle.tokens.specs.declared.located_tokens.Punctuator.{Punctuator}
-use Rattle.tokens.specs.declared.located_tokens.Keyword.{Keyword}
 use Rattle.tokens.specs.declared.located_tokens.Token.TheVariants as token
 use Rattle.tokens.specs.Device.{FailureCount}
 use Rattle.grammar.specs.declared.diagnostics.Code.TheVariants as fault_code
@@ -18,7 +16,7 @@ use Rattle.grammar.specs.Beginning.{IsBeginning}
 use Rattle.grammar.specs.Building.{AppendsAll, MayFollow, MayFollowAll, Representation}
 use Rattle.grammar.specs.Derivation.{State, PartialTree, Definition, AnExpr, trees_after, scope_after_action, functions_defined, next_token, name_of_token, name_tree, derived, initial_state, stepped}
 use Rattle.grammar.specs.Faults.{item_faults, faults_at, faults_in, fault, nested_count, only_if}
-use Rattle.grammar.specs.Grammar.{External, Parameter, Typed, Local, AConstant, AKeyword, AName, Role, Close, Exactly, Item, Make, Part, SemanticAction, Symbol, Define, choice, is_punctuator, is_keyword, enters}
+use Rattle.grammar.specs.Grammar.{External, Parameter, Typed, Local, AConstant, AKeyword, AName, Role, Close, Exactly, Item, Make, Part, SemanticAction, Symbol, Define, choice, enters, is_lexical_error}
 use Rattle.grammar.specs.Laws.Naming.{LearnsName}
 use Rattle.grammar.specs.Laws.Parsing.{DerivesWithoutFault as Clean}
 use Rattle.grammar.specs.Laws.StateParts.{state}
@@ -27,6 +25,7 @@ use Rattle.grammar.specs.Profile.{Profile}
 use Rattle.grammar.specs.Scope.{Scope}
 use Rattle.grammar.specs.Tree.{Constant}
 use Rattle.grammar.proofs.Runs.{derived-add, faults_in-add}
+use Rattle.grammar.proofs.Steps.{IsWanted}
 use Rattle.grammar_laws.proofs.Emitted.{emits_a_beginning}
 use Rattle.grammar_laws.specs.Emission.{and_then, on_choice, on_name, emitted, emissions, on_rule}
 use Rattle.parser.specs.Advancing.{HasAdvanced, Stopped}
@@ -35,12 +34,12 @@ use Rattle.parser.specs.Roles.{role_of}
 use Rattle.parser.specs.declared.roles.Declared.{Declared}
 use Rattle.parser.specs.declared.roles.Declared.TheVariants as kind
 use Rattle.parser.specs.ScopedCursors.{MayContinue, UnreadPosition, ScopedCursor, next_at, scope_of, taken_at, token_of, tokens_at, with_scope}
-use Rattle.parser.specs.Segment.{FailsAt, FailsItem, GoesPast, Refused as IsRefused, StopsAt, TakesTokens, account_after}
+use Rattle.parser.specs.Segment.{FailsAt, GoesPast, Refused as IsRefused, StopsAt, TakesTokens, account_after}
 use Rattle.parser.specs.Stopping.{StopsInside, stop_with}
-use Rattle.parser.proofs.Items.{punctuator_stops, word_stops}
+use Rattle.parser.proofs.Items.{token_stops}
 use Rattle.parser.proofs.Parts.{within}
 use Rattle.parser.proofs.Productions.{EntersNone, WithAfter}
-use Rattle.parser.proofs.Segments.{Begins, IsBehind, functions_back, goes_begins, halts_here, refused_map, stops_back, told_begins, told_goes, next_behind}
+use Rattle.parser.proofs.Segments.{Begins, IsBehind, functions_back, goes_begins, halts_here, stops_back, told_begins, told_goes, next_behind}
 
 -- One step.
 
@@ -258,31 +257,24 @@ stays : (at there : ScopedCursor) → GoesPast at.position there.position →
     GoesPast (with_scope (scope_of at) at).position there.position
 stays at there goes = record { more = goes.more; next = goes.next; told = goes.told; scope = goes.scope }
 
-pub punctuator_past : {o : Origin} {stack : List Item} {values : List PartialTree} {acts : List Action}
-    {at there : ScopedCursor} (m : Punctuator) → is_punctuator m (token_of at) ≡ true →
-    GoesPast at.position there.position → HasAdvanced at there → Path o (Exactly m ∷ stack) values acts at →
-    Path o stack values acts there
-punctuator_past {o} {stack} {values} {acts} {at} {there} m fits goes went h =
-    past {made = []} {more = []} {learnt = scope_of at} (record {
-      steps = λ below rest trees functions. record {
-        leads = rw (h.ready.sound, fits) refl;
-        clean = rw (h.ready.sound, fits) refl;
-        emits = rw h.ready.sound refl;
-      };
-    }) (stays at there goes) went h
-
-pub word_past : {o : Origin} {stack : List Item} {values : List PartialTree} {acts : List Action}
-    {at there : ScopedCursor} (w : Keyword) → is_keyword w (token_of at) ≡ true →
-    GoesPast at.position there.position → HasAdvanced at there → Path o (AKeyword w ∷ stack) values acts at →
-    Path o stack values acts there
-word_past {o} {stack} {values} {acts} {at} {there} w fits goes went h =
-    past {made = []} {more = []} {learnt = scope_of at} (record {
-      steps = λ below rest trees functions. record {
-        leads = rw (h.ready.sound, fits) refl;
-        clean = rw (h.ready.sound, fits) refl;
-        emits = rw h.ready.sound refl;
-      };
-    }) (stays at there goes) went h
+pub token_past : {o : Origin} {stack : List Item} {values : List PartialTree} {acts : List Action}
+    {at there : ScopedCursor} (item : Item) → IsWanted item (token_of at) → GoesPast at.position there.position →
+    HasAdvanced at there → Path o (item ∷ stack) values acts at → Path o stack values acts there
+token_past {o} {stack} {values} {acts} {at} {there} item fits goes went h =
+    past {made = []} {more = []} {learnt = scope_of at} (takes_token item h.ready.sound fits) (stays at there goes) went
+    h
+  where
+    takes_token : (item : Item) → is_lexical_error (token_of at) ≡ false → IsWanted item (token_of at) →
+        Takes o.profile item [] [] (scope_of at) at
+    takes_token (Exactly m) sound fits = record {
+      steps = λ below rest trees functions.
+          record { leads = rw (sound, fits) refl; clean = rw (sound, fits) refl; emits = rw sound refl };
+    }
+    takes_token (AKeyword w) sound fits = record {
+      steps = λ below rest trees functions.
+          record { leads = rw (sound, fits) refl; clean = rw (sound, fits) refl; emits = rw sound refl };
+    }
+    takes_token item sound fits = absurd fits
 
 -- the cursor that is past the token has come to know a name there
 known : {at there : ScopedCursor} (learnt : Scope) → HasAdvanced (with_scope learnt at) there → HasAdvanced at there
@@ -295,14 +287,15 @@ known learnt k = record {
 }
 
 pub name_past : {o : Origin} {stack : List Item} {values : List PartialTree} {acts : List Action}
-    {at there : ScopedCursor} (role : Role) (name : List ℕ) (learnt : Scope) →
-    (next_at at.position).token ≡ token.Name name →
-    LearnsName role name (next_at at.position).line (scope_of at) learnt →
-    GoesPast (with_scope learnt at).position there.position → HasAdvanced (with_scope learnt at) there →
-    Path o (AName role ∷ stack) values acts at →
+    {at there : ScopedCursor} {next : LocatedToken} (role : Role) (name : List ℕ) (learnt : Scope) →
+    (next_at at.position).token ≡ token.Name name → next ≡ next_at at.position →
+    LearnsName role name next.line (scope_of at) learnt → GoesPast (with_scope learnt at).position there.position →
+    HasAdvanced (with_scope learnt at) there → Path o (AName role ∷ stack) values acts at →
     Path o stack (name_tree role name (scope_of at) ++ values) (and_then acts (on_name role (Some name))) there
-name_past {o} {stack} {values} {acts} {at} {there} role name learnt is knows goes went h =
+name_past {o} {stack} {values} {acts} {at} {there} role name learnt is here knows goes went h =
     let found : name_of_token (next_at at.position).token ≡ Some name = rw is refl in
+    let line = ap (λ (l : LocatedToken). l.line) here in
+    let knows = rw line at knows in
     past (record {
       steps = λ below rest trees functions. record {
         leads = rw (h.ready.sound, found, knows.behind) refl;
@@ -317,10 +310,12 @@ pub declared_past : {o : Origin} {stack : List Item} {values : List PartialTree}
     LearnsName (role_of declared) name (next_at at.position).line (scope_of at) learnt →
     GoesPast (with_scope learnt at).position there.position → HasAdvanced (with_scope learnt at) there →
     Path o (AName (role_of declared) ∷ stack) values acts at → Path o stack values acts there
-declared_past kind.Externals name learnt is knows goes went h = name_past External name learnt is knows goes went h
-declared_past kind.Parameters name learnt is knows goes went h = name_past Parameter name learnt is knows goes went h
-declared_past kind.TypedParameters name learnt is knows goes went h = name_past Typed name learnt is knows goes went h
-declared_past kind.Locals name learnt is knows goes went h = name_past Local name learnt is knows goes went h
+declared_past kind.Externals name learnt is knows goes went h = name_past External name learnt is refl knows goes went h
+declared_past kind.Parameters name learnt is knows goes went h =
+    name_past Parameter name learnt is refl knows goes went h
+declared_past kind.TypedParameters name learnt is knows goes went h =
+    name_past Typed name learnt is refl knows goes went h
+declared_past kind.Locals name learnt is knows goes went h = name_past Local name learnt is refl knows goes went h
 
 pub constant_past : {o : Origin} {stack : List Item} {values : List PartialTree} {acts : List Action}
     {at there : ScopedCursor} (value : ℕ) → (next_at at.position).token ≡ token.Constant value →
@@ -378,26 +373,13 @@ falls front stack parse_fault.Memory h t s r = absurd r.0
 
 -- The next token fits, and the one after it is a lexical error, or the device failed.
 
-pub word_falls : {o : Origin} {denied : Type 0} {told : List Action → Type 0} {stack : List Item}
-    {values : List PartialTree}
-    {acts : List Action} {at there : ScopedCursor} {f : ParseFault} (w : Keyword) → is_keyword w (token_of at) ≡ true →
-    told acts → Stopped f at there → IsRefused (StopsAt at.position) ⊥ (taken_at there.position) f →
-    Path o (AKeyword w ∷ stack) values acts at → Refused o denied told f there
-word_falls {stack = stack} {at = at} {f = f} w fits t s r h =
-    falls (AKeyword w ∷ []) stack f h t s
-    (refused_map _ _ (FailsItem (AKeyword w) at.position) ⊥ ⊥ f
-    (word_stops at.position.lookahead.cursor (scope_of at) at.position.to_come w h.ready.sound fits) (λ same. same) r)
-
-pub punctuator_falls : {o : Origin} {denied : Type 0} {told : List Action → Type 0} {stack : List Item}
-    {values : List PartialTree} {acts : List Action} {at there : ScopedCursor} {f : ParseFault} (m : Punctuator) →
-    is_punctuator m (token_of at) ≡ true → told acts → Stopped f at there →
-    IsRefused (StopsAt at.position) ⊥ (taken_at there.position) f →
-    Path o (Exactly m ∷ stack) values acts at → Refused o denied told f there
-punctuator_falls {stack = stack} {at = at} {f = f} m fits t s r h =
-    falls (Exactly m ∷ []) stack f h t s
-    (refused_map _ _ (FailsItem (Exactly m) at.position) ⊥ ⊥ f
-    (punctuator_stops at.position.lookahead.cursor (scope_of at) at.position.to_come m h.ready.sound fits)
-    (λ same. same) r)
+pub token_falls : {o : Origin} {denied : Type 0} {told : List Action → Type 0} {stack : List Item}
+    {values : List PartialTree} {acts : List Action} {at there : ScopedCursor} {f : ParseFault} (item : Item) →
+    IsWanted item (token_of at) → told acts → Stopped f at there →
+    IsRefused (StopsAt at.position) ⊥ (taken_at there.position) f → Path o (item ∷ stack) values acts at →
+    Refused o denied told f there
+token_falls {stack = stack} {at = at} {f = f} item fits t s r h =
+    falls (item ∷ []) stack f h t s (token_stops _ at.position item f h.ready.sound fits r)
 
 -- memory was refused
 pub out_of_memory : {o : Origin} {denied : Type 0} {told : List Action → Type 0} {stack : List Item}

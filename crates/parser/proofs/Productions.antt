@@ -15,15 +15,15 @@ use Rattle.grammar.specs.declared.diagnostics.ParseFault.TheVariants as parse_fa
 use Rattle.grammar.specs.Compiled.{diagnostic}
 use Rattle.grammar.specs.Derivation.{PartialTree, name_of_token, next_token}
 use Rattle.grammar.specs.Faults.{fault, nested_count, unexpected_token_code, only_if}
-use Rattle.grammar.specs.Grammar.{Item, AName, Exactly, Part, Role, Symbol, choice, is_lexical_error, is_punctuator, enters}
+use Rattle.grammar.specs.Grammar.{Item, AName, Part, Role, Symbol, choice, is_lexical_error, is_punctuator, enters}
 use Rattle.grammar.specs.declared.name_limits.TheConstants.{MOST_NESTED}
 use Rattle.grammar.specs.NameLimits.{most_nested}
 use Rattle.grammar.proofs.Firsts.{no_part, too_deep, too_deep_name}
-use Rattle.grammar.proofs.Steps.{part}
+use Rattle.grammar.proofs.Steps.{IsWanted, part}
 use Rattle.parser.specs.ScopedCursors.{UnreadPosition, after_at, next_at, scope_at}
 use Rattle.parser.specs.Stopping.{stop_with}
 use Rattle.parser.specs.Segment.{Derives, FailsAt}
-use Rattle.parser.proofs.Parts.{beyond, punctuator_is}
+use Rattle.parser.proofs.Parts.{Chooses as ChoosesAny, beyond, punctuator_is}
 use Rattle.parser.proofs.Segments.{fails_at_next, stand, next_behind}
 use Rattle.tokens.specs.Cursors.{IsNearTo}
 
@@ -49,6 +49,11 @@ pub record Chooses (at : UnreadPosition) (symbol : Symbol) (items : List Item) :
   pub sound : is_lexical_error (next_at at).token ≡ false
   pub is : WithAfter at (λ after. choice symbol (next_at at).token after ≡ Some items)
 
+-- it is, whatever follows the next token
+pub chooses_any : {at : UnreadPosition} {symbol : Symbol} {items : List Item} →
+    is_lexical_error (next_at at).token ≡ false → ChoosesAny symbol (next_at at).token items → Chooses at symbol items
+chooses_any sound any = record { sound = sound; is = λ after more. any after }
+
 -- the production isn't nested
 abbrev pub EntersNone : UnreadPosition → Symbol → Type 0
 EntersNone at symbol = WithAfter at (λ after. enters symbol (next_at at).token after ≡ false)
@@ -73,16 +78,15 @@ chosen at depth symbol items kept c none = stand at depth (Part symbol ∷ []) i
       (none (next_token tail) (next_behind at tail b)));
 })
 
--- one that would be nested too deeply, by a punctuator
-pub punctuator_too_deep : (at : UnreadPosition) (used : ℕ) (near : IsNearTo at.lookahead.cursor used) (depth : ℕ)
-    (symbol : Symbol) (m : Punctuator) (items : List Item) → Chooses at symbol (Exactly m ∷ items) →
-    IsNested at symbol →
-    is_punctuator m (next_at at).token ≡ true → MOST_NESTED ≤ depth →
+-- one that would be nested too deeply, by a punctuator or a keyword
+pub token_too_deep : (at : UnreadPosition) (used : ℕ) (near : IsNearTo at.lookahead.cursor used) (depth : ℕ)
+    (symbol : Symbol) (item : Item) (items : List Item) → Chooses at symbol (item ∷ items) → IsNested at symbol →
+    IsWanted item (next_at at).token → MOST_NESTED ≤ depth →
     FailsAt depth (Part symbol ∷ []) [] at
     (stop_with (parse_fault.Source (diagnostic (next_at at).line fault_code.NestedTooDeeply)) used)
-punctuator_too_deep at used near depth symbol m items c opened fits deep =
+token_too_deep at used near depth symbol item items c opened fits deep =
     fails_at_next depth (Part symbol ∷ []) [] at _ used near (λ tail b profile stack values functions depths.
-    too_deep profile symbol m items stack (next_at at) tail values (scope_at at) functions c.sound
+    too_deep profile symbol item items stack (next_at at) tail values (scope_at at) functions c.sound
     (c.is (next_token tail) (next_behind at tail b)) fits
     (beyond (enters symbol (next_at at).token (next_token tail)) (nested_count stack) (next_at at ∷ tail)
     (opened (next_token tail) (next_behind at tail b)) (rw depths deep)))
@@ -115,7 +119,3 @@ none_chosen at used near depth symbol sound none opened =
     (none (next_token tail) (next_behind at tail b))
     (free (nested_count stack) (enters symbol (next_at at).token (next_token tail)) (next_at at ∷ tail)
     (opened (next_token tail) (next_behind at tail b))))
-
--- The trees made.
-
--- The exits of a function that matches a symbol at any depth.

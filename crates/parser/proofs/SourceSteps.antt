@@ -28,27 +28,18 @@ source_none token.End after end type name = absurd (end refl)
 source_none (token.Keyword keyword.Type) after end type name = absurd (cc)
 source_none (token.Keyword w) after end type name = refl
 source_none (token.Name n) after end type name = absurd (name n refl)
-source_none (token.Punctuator m) after end type name = refl
-source_none (token.Constant value) after end type name = refl
-source_none (token.Fault lexical_error) after end type name = refl
+source_none t after end type name = refl
 
 external_choice : (name : List ℕ) (after : Token) → is_punctuator punctuator.OpenRound after ≡ false →
     choice Head (token.Name name) after ≡ Some (names_items kind.Externals)
 external_choice name (token.Punctuator punctuator.OpenRound) other = absurd (cc)
-external_choice name (token.Punctuator m) other = refl
-external_choice name (token.Name n) other = refl
-external_choice name (token.Keyword w) other = refl
-external_choice name (token.Constant value) other = refl
-external_choice name token.End other = refl
-external_choice name (token.Fault lexical_error) other = refl
+external_choice name t other = refl
 
 head_none : (t after : Token) → ((name : List ℕ) → t ≡ token.Name name → ⊥) → choice Head t after ≡ None
 head_none token.End after name = refl
 head_none (token.Keyword w) after name = refl
 head_none (token.Name n) after name = absurd (name n refl)
-head_none (token.Punctuator m) after name = refl
-head_none (token.Constant value) after name = refl
-head_none (token.Fault lexical_error) after name = refl
+head_none t after name = refl
 
 no_block : (t after : Token) → is_punctuator punctuator.OpenCurly t ≡ false → choice FunctionBlock t after ≡ None
 no_block (token.Punctuator punctuator.OpenCurly) after other = absurd (cc)

@@ -81,14 +81,14 @@ starts o at shows nothing borrows account took ready = record {
 }
 
 -- an automaton there, of a cursor that was opened and made
-pub begun : {F B : Type 0} (stands : B → Representation) (told left : Option (List ℕ)) (account : FailureCount)
-    (ended : Bool) (cursor : Cursor) (scope : Scope) (at : Automaton F B) → at.frames ≡ [] → at.depth ≡ 0 →
+pub begun : {F B : Type 0} (stands : B → Representation) {told left : Option (List ℕ)} {account : FailureCount}
+    {ended : Bool} {cursor : Cursor} {scope : Scope} {at : Automaton F B} → at.frames ≡ [] → at.depth ≡ 0 →
     at.tokens.position ≡ position_of (record { cursor = cursor; scope = scope }) left → at.tokens.account ≡ account →
     OpensCursor cursor told left ended → IsReadable cursor → account.failures < most_failures → scope ≡ no_names →
     (profile : Profile) → stands at.builder.now profile [] →
     Stands (record { origin = from told account at.tokens.borrows profile; builder = at.builder.now }) stands
     front.Source at
-begun stands told left account ended cursor scope at none flat position counted opens ready few nothing profile new =
+begun stands {told} {account = account} {at = at} none flat position counted opens ready few nothing profile new =
     record {
       values = [];
       acts = [];

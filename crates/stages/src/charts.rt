@@ -130,7 +130,9 @@ impl<'a> Chart<'a> {
     /// Returns the function's name.
     fn name(&self) -> &str {
         let begin = self.blocks.first().map_or(0, |block| block.begin);
-        self.robot.function_name(self.robot.function_at(begin))
+        self.robot
+            .named()
+            .function_name(self.robot.named().function(begin))
     }
 
     /// Adds the blocks as rows, for paper.
@@ -192,7 +194,7 @@ impl<'a> Chart<'a> {
         write!(text, r#"<tspan text-anchor="end">{address}</tspan>"#)?;
         let x = self.left.saturating_add(56);
         write!(text, r#"<tspan x="{x}">{instruction}</tspan>"#)?;
-        if let Some(name) = self.robot.name_at(address) {
+        if let Some(name) = self.robot.named().name_in(address) {
             let x = self.left.saturating_add(190);
             write!(text, r#"<tspan class="m" x="{x}">{name}</tspan>"#)?;
         }

@@ -1,7 +1,7 @@
 //! A program's code with its names, as an object of JSON on a line.
 
 use crate::robots::Robot;
-use crate::texts::text_of;
+use derivations::name_text;
 use grammar::{FunctionNames, Name};
 use std::alloc::AllocError;
 use tools::{Array, Draft, Object, Text};
@@ -24,7 +24,7 @@ pub fn add_code_object(text: &mut String, file: &str, robot: &Robot) -> Result<(
 fn add_names(text: &mut Draft, names: &[Name]) {
     let mut array = Array::begin(text);
     for name in names {
-        add_string(array.item(), text_of(name));
+        add_string(array.item(), name_text(name));
     }
     array.end();
 }
@@ -46,7 +46,7 @@ fn add_functions(text: &mut Draft, robot: &Robot) {
 /// Adds a function that begins at an address.
 fn add_function(text: &mut Draft, function: &FunctionNames, begin: u16) {
     let mut object = Object::begin(text);
-    object.words("name", text_of(function.name()));
+    object.words("name", name_text(function.name()));
     object.number("begin", u64::from(begin));
     add_names(object.field("variables"), function.variables());
     object.end();
@@ -67,10 +67,10 @@ fn add_instruction(text: &mut Draft, robot: &Robot, address: usize) -> Result<()
     let instruction = robot.instruction(text.alloc(), address)?;
     let mut object = Object::begin(text);
     object.number("address", address as u64);
-    object.number("function", robot.function_at(address) as u64);
+    object.number("function", robot.named().function(address) as u64);
     object.number("line", robot.origins.line(address) as u64);
     object.words("instruction", instruction.as_str());
-    match robot.name_at(address) {
+    match robot.named().name_in(address) {
         Some(name) => object.words("name", name),
         None => object.field("name").add("null"),
     }

@@ -23,7 +23,7 @@ pub fn add_listing(text: &mut String, source: &[u8], robot: &Robot) -> Result<()
 /// Adds the instruction of an address.
 fn add_instruction(text: &mut String, robot: &Robot, address: usize) -> Result<(), AllocError> {
     let instruction = robot.instruction(*text.allocator(), address)?;
-    match robot.name_at(address) {
+    match robot.named().name_in(address) {
         Some(name) => writeln!(text, "        {address:>5} {instruction:<14} ; {name}"),
         None => writeln!(text, "        {address:>5} {instruction}"),
     }

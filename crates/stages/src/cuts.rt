@@ -1,12 +1,11 @@
 //! The code of a source with too much of it, up to the limit.
 
 use crate::code_rows::add_listing;
-use crate::origins::Origins;
 use crate::robots::Robot;
-use derivations::{Derivation, Item, Located, Pending, Symbol, Walk, compile, locate};
+use derivations::{Derivation, Item, Located, Pending, Symbol, Walk, compile_source, locate};
 use grammar::Profile;
 use std::alloc::{AllocError, Global};
-use tokens::{MemoryFeed, Punctuator, Token, WINDOW_BYTES};
+use tokens::{Punctuator, Token};
 
 /// A statement before which a source may be cut off.
 #[derive(Clone, Copy)]
@@ -36,11 +35,9 @@ pub fn add_listing_to_limit(
         };
         let shown = source.get(..statement.start()).unwrap_or(source);
         let ended = ended(alloc, shown, tokens, cut)?;
-        let mut feed = MemoryFeed::new(ended.as_slice(), WINDOW_BYTES);
-        if let Ok(made) = compile(profile, &mut feed) {
-            let ended = ended.as_slice();
-            let origins = Origins::up_to(alloc, ended, &made.program, cut.instructions)?;
-            add_listing(text, shown.trim_ascii_end(), &Robot::new(made, origins))?;
+        if let Ok(made) = compile_source(profile, ended.as_slice()) {
+            let robot = Robot::new(alloc, made, cut.instructions)?;
+            add_listing(text, shown.trim_ascii_end(), &robot)?;
             return text.push_str("      | what follows is too much code\n");
         }
     }

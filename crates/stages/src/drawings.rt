@@ -3,8 +3,7 @@
 use crate::labels::{Label, Named};
 use crate::outlines::{Outline, Standing};
 use crate::robots::Robot;
-use crate::texts::text_of;
-use derivations::{Body, NodeKind, SourceTree, locate};
+use derivations::{Body, NodeKind, SourceTree, locate, name_text};
 use grammar::Profile;
 use std::alloc::{AllocError, Global};
 use std::fmt;
@@ -57,7 +56,7 @@ impl<'a> Drawing<'a> {
     fn add_file(&mut self) -> Result<(), AllocError> {
         let root = self.outline.add(None, Standing::Part, "file")?;
         for (number, name) in self.robot.names.externals().iter().enumerate() {
-            self.add(root, Named::of("external E", number, text_of(name)))?;
+            self.add(root, Named::of("external E", number, name_text(name)))?;
         }
         for body in self.tree.bodies() {
             self.add_function(root, body)?;
@@ -68,16 +67,16 @@ impl<'a> Drawing<'a> {
     /// Adds a function with its variables and its statements.
     fn add_function(&mut self, root: usize, body: &Body) -> Result<(), AllocError> {
         let number = usize::from(body.number);
-        let name = self.robot.function_name(number);
+        let name = self.robot.named().function_name(number);
         let node = self.add(root, Named::of("function ", number, name))?;
-        for (variable, name) in self.robot.variables(number).iter().enumerate() {
+        for (variable, name) in self.robot.named().variables(number).iter().enumerate() {
             let is_parameter = variable < body.parameters;
             let words = if is_parameter {
                 "parameter L"
             } else {
                 "local L"
             };
-            self.add(node, Named::of(words, variable, text_of(name)))?;
+            self.add(node, Named::of(words, variable, name_text(name)))?;
         }
         self.push(node, &[Pending::Nodes(body.first, body.end)])?;
         self.add_pending(number)

@@ -4,8 +4,8 @@ ghost use Rattle.code.specs.ReachedMachines.{IsReachable};
 
 use crate::replies::Replies;
 use crate::robots::Robot;
-use crate::texts::text_of;
 use code::{Cause, Instr, Intrinsic, Machine, Want};
+use derivations::name_text;
 use std::alloc::AllocError;
 
 /// The first line.
@@ -40,13 +40,16 @@ pub fn add_execution(
 fn add_start(text: &mut String, robot: &Robot, machine: &Machine) -> Result<(), AllocError> {
     write!(text, "{:>6}{:13}{:17}", 0, "", "start")?;
     add_stack(text, machine)?;
-    let locals = robot.variables(usize::from(robot.program.main())).iter();
+    let locals = robot
+        .named()
+        .variables(usize::from(robot.program.main()))
+        .iter();
     let externals = robot.names.externals().iter();
     let values = locals.zip(machine.words());
     let mut is_first = true;
     for (name, value) in values.chain(externals.zip(machine.externals())) {
         let mark = if is_first { "  ; " } else { ", " };
-        write!(text, "{mark}{} = {value}", text_of(name))?;
+        write!(text, "{mark}{} = {value}", name_text(name))?;
         is_first = false;
     }
     text.push('\n')
@@ -117,7 +120,7 @@ fn add_name(
     machine: &Machine,
     address: usize,
 ) -> Result<(), AllocError> {
-    let Some(name) = robot.name_at(address) else {
+    let Some(name) = robot.named().name_in(address) else {
         return text.push('\n');
     };
     match robot.program.instructions().get(address) {

@@ -50,7 +50,7 @@ impl<'a> Label<'a> {
 
     /// Returns a variable with its name.
     fn variable(&self, variable: Var) -> Named<'a> {
-        let name = self.robot.variable_name(self.function, variable);
+        let name = self.robot.named().variable_name(self.function, variable);
         match variable {
             Var::External(number) => Named::of("E", usize::from(number), name),
             Var::Local(number) => Named::of("L", usize::from(number), name),
@@ -76,7 +76,7 @@ impl<'a> fmt::Display for Label<'a> {
             NodeKind::Complement => f.write_str("operator ^"),
             NodeKind::Binary(op) => write!(f, "operator {}", operator_punctuator(op)),
             NodeKind::Call(Callee::Function(number), _) => {
-                let name = self.robot.function_name(usize::from(number));
+                let name = self.robot.named().function_name(usize::from(number));
                 write!(f, "call {number} ({name})")
             }
             NodeKind::Call(Callee::Intrinsic(intrinsic), _) => {

@@ -44,17 +44,15 @@ use crate::first_rows::add_first_rows;
 use crate::flow_rows::add_flow_rows;
 use crate::forms::{Form, OPTIONS, Request};
 use crate::operation_rows::add_operation_rows;
-use crate::origins::Origins;
 use crate::pages::Page;
 use crate::pictures::add_picture_file;
 use crate::robots::Robot;
 use crate::token_rows::add_token_rows;
-use derivations::{Compiled, compile};
+use derivations::{CompiledSource, compile_source};
 use facts::{Facts, add_rows};
 use grammar::{Code, Diagnostic, ParseFault, Profile};
 use std::alloc::{AllocError, Global};
 use std::process::ExitCode;
-use tokens::{MemoryFeed, WINDOW_BYTES};
 use tools::{
     Draft, Fault, OUTPUT_OPTIONS, Options, PROFILE_OPTIONS, Plain, ProgramFrame, Work, name_of,
     source_of, tell_diagnostic, write_to,
@@ -90,9 +88,8 @@ impl Work for Stages {
         };
         let source = source_of(rt, FRAME.name, request.file)?;
         let source = source.as_slice();
-        let mut feed = MemoryFeed::new(source, WINDOW_BYTES);
         let is_shown = source.len() <= MOST_SHOWN_BYTES;
-        match compile(request.profile, &mut feed) {
+        match compile_source(request.profile, source) {
             Ok(_) if !is_shown => {
                 let file = Plain(name_of(request.file));
                 let _ = eprintln!(rt; "{file}: over {MOST_SHOWN_BYTES} bytes: no stage is shown");
@@ -124,11 +121,10 @@ fn add_form(
     text: &mut String,
     request: &mut Request<'_>,
     source: &[u8],
-    made: Compiled,
+    made: CompiledSource,
 ) -> Result<(), Fault> {
     let (alloc, profile) = (*text.allocator(), request.profile);
-    let origins = Origins::find(alloc, source, &made.program)?;
-    let robot = Robot::new(made, origins);
+    let robot = Robot::new(alloc, made, usize::MAX)?;
     match request.form {
         Form::Tokens => add_token_rows(text, source, None)?,
         Form::Derivation => add_derivation_rows(text, source, None)?,

@@ -1,7 +1,6 @@
 //! The line of a source that each instruction of its program comes from.
 
-use code::Program;
-use derivations::{SourcePosition, positions_of};
+use derivations::{SourcePosition, SourcePositions};
 use std::alloc::{AllocError, Global};
 
 /// The lines of instructions, from 1, by address, and the addresses by line.
@@ -13,27 +12,20 @@ pub struct Origins {
 }
 
 impl Origins {
-    /// Finds the line of each instruction of a source's program.
-    pub fn find(alloc: Global, source: &[u8], program: &Program) -> Result<Origins, AllocError> {
-        Origins::up_to(alloc, source, program, usize::MAX)
-    }
-
-    /// Finds the line of each of the first instructions, at most this many, of a source's program.
-    pub fn up_to(
-        alloc: Global,
-        source: &[u8],
-        program: &Program,
-        most: usize,
-    ) -> Result<Origins, AllocError> {
-        let mut origins = Origins {
+    /// Makes those of no instruction.
+    pub fn none(alloc: Global) -> Origins {
+        Origins {
             lines: Vec::new(alloc),
             by_line: Vec::new(alloc),
             distinct: Vec::new(alloc),
-        };
-        if let Some(found) = positions_of(program, source) {
-            let positions = found.places();
-            origins.add(positions.get(..most).unwrap_or(positions))?;
         }
+    }
+
+    /// Takes the line of each of the first instructions, at most this many, from their positions.
+    pub fn of(alloc: Global, found: &SourcePositions, most: usize) -> Result<Origins, AllocError> {
+        let mut origins = Origins::none(alloc);
+        let positions = found.places();
+        origins.add(positions.get(..most).unwrap_or(positions))?;
         Ok(origins)
     }
 

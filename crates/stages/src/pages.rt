@@ -238,7 +238,7 @@ fn add_instruction(text: &mut String, robot: &Robot, address: usize) -> Result<(
     let line = robot.origins.line(address);
     let instruction = robot.instruction(*text.allocator(), address)?;
     let instruction = Escaped(instruction.as_str());
-    let name = robot.name_at(address).unwrap_or("");
+    let name = robot.named().name_in(address).unwrap_or("");
     add_colour(text, &robot.origins, line)?;
     write!(text, r##" id="c{address}"><a href="#s{line}">{line}</a>"##)?;
     write!(text, r#"<i class="n">{address}</i><b>{instruction}</b>"#)?;

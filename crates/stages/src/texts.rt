@@ -1,10 +1,9 @@
-//! Texts of sources and names, as they are shown.
+//! Texts of sources, as they are shown.
 
 ghost use Rattle.std.specs.Prelude.{◌≡◌, ◌≢◌, ◌<◌, ◌≤◌};
 
 use std::alloc::{AllocError, Global};
 use std::str;
-use tokens::Name;
 
 /// The byte that ends a source.
 const END_BYTE: u8 = 26;
@@ -45,11 +44,6 @@ fn printed(character: char) -> char
         '\0'..='\x08' | '\x0a'..='\x1f' | '\x7f'..='\u{9f}' => REPLACEMENT,
         _ => character,
     }
-}
-
-/// Returns a name as text.
-pub fn text_of(name: &Name) -> &str {
-    ascii(name.as_bytes())
 }
 
 /// Returns bytes of ASCII as text.

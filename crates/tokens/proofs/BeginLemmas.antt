@@ -8,7 +8,7 @@ use Rattle.tokens.specs.Punctuators.{longest_punctuator, spelling, punctuator_of
 use Rattle.tokens.specs.InputElement.{InputElement, token_span, comment_element, punctuator_element, up_to_close, begins_with, name_token, constant_token, input_element}
 use Rattle.tokens.specs.Tokens.{UnreadSource, ahead_after_byte, line_after, ahead_after, last_located_token, followed_by, is_last, tokens_of_element, located_tokens}
 use Rattle.tokens.specs.Cursors.{FitsToken}
-use Rattle.tokens.specs.Window.{Window, ahead, IsAtHandOrEnd}
+use Rattle.tokens.specs.Window.{Window, IsAtHandOrEnd}
 use Rattle.tokens.specs.Lexing.{to_read, followed, token_ending, in_token_span, in_name, name_going_on, in_constant, constant_going_on, in_punctuator, extended, in_comment, closed_at}
 use Rattle.tokens.specs.declared.located_tokens.Punctuator.{Punctuator}
 use Rattle.tokens.specs.declared.located_tokens.Punctuator.TheVariants.{Slash}
@@ -16,10 +16,10 @@ use Rattle.tokens.specs.declared.located_tokens.LexicalError.TheVariants.{BadCha
 use Rattle.tokens.specs.declared.located_tokens.Token.{Token}
 use Rattle.tokens.specs.declared.located_tokens.Token.TheVariants as variant
 use Rattle.tokens.specs.declared.located_tokens.LocatedToken.{LocatedToken}
-use Rattle.tokens.proofs.LocatedTokensLemmas.{located_tokens-input_element, letter-is_name_byte, here}
+use Rattle.tokens.proofs.LocatedTokensLemmas.{located_tokens-input_element, letter-is_name_byte, here, with_bytes}
 use Rattle.tokens.proofs.TokenLemmas.{chosen, other, token_span-takes, no_line}
 use Rattle.tokens.proofs.PunctuatorLemmas.{punctuator_of-spelled, punctuator_element-located_token, none-of-two, none-of-three, none-of-four}
-use Rattle.tokens.proofs.ToRead.{to_read-here, first-ahead, none-ahead}
+use Rattle.tokens.proofs.ToRead.{to_read-unless}
 
 located_tokens-by : (b : ℕ) (f : InputElement) (a : UnreadSource) (rest : List ℕ) → a.bytes ≡ b ∷ rest →
     input_element (b ∷ rest) ≡ f →
@@ -184,11 +184,9 @@ unfolding in_punctuator
 punctuator_element-begins m b h a rest e f =
     sym (located_tokens-by b (punctuator_element (longest_punctuator (b ∷ rest))) a rest e f
     ∙
-    subst
-    (λ (xs : List ℕ).
-    tokens_of_element (punctuator_element (longest_punctuator (b ∷ rest))) (here a.line a.offset xs a.too_long)
-    located_tokens ≡
-    in_punctuator m (ahead_after_byte (here a.line a.offset xs a.too_long))) (sym e)
+    with_bytes
+    (λ a. tokens_of_element (punctuator_element (longest_punctuator (b ∷ rest))) a located_tokens ≡
+    in_punctuator m (ahead_after_byte a)) a _ e
     (punctuator_element-here m b a.line a.offset rest a.too_long h))
 
 input_element-punctuator_element : (b : ℕ) (rest : List ℕ) → is_blank b ≡ false → is_letter b ≡ false →
@@ -232,11 +230,9 @@ pub bad-begins : (b : ℕ) → is_blank b ≡ false → is_letter b ≡ false �
     punctuator_of (b ∷ []) ≡ None → (a : UnreadSource) (rest : List ℕ) → a.bytes ≡ b ∷ rest →
     followed (token_ending (variant.Fault BadCharacter) (ahead_after_byte a)) (ahead_after_byte a) ≡ located_tokens a
 bad-begins b no_blank no_letter no_digit no_slash h a rest e =
-    subst
-    (λ (xs : List ℕ).
-    let x = here a.line a.offset xs a.too_long in
-    followed (token_ending (variant.Fault BadCharacter) (ahead_after_byte x)) (ahead_after_byte x) ≡
-    tokens_of_element (punctuator_element None) x located_tokens) (sym e)
+    with_bytes
+    (λ a. followed (token_ending (variant.Fault BadCharacter) (ahead_after_byte a)) (ahead_after_byte a) ≡
+    tokens_of_element (punctuator_element None) a located_tokens) a _ e
     (bad-here b a.line a.offset rest a.too_long (blank_line b no_blank))
     ∙
     sym
@@ -290,9 +286,8 @@ pub slash-begins : (line : ℕ) (a : UnreadSource) (rest : List ℕ) → a.bytes
     in_slash line (ahead_after_byte a) ≡ located_tokens a
 slash-begins line a rest e l =
     subst (λ (n : ℕ). in_slash n (ahead_after_byte a) ≡ located_tokens a) l
-    (subst
-    (λ (xs : List ℕ). in_slash a.line (ahead_after_byte (here a.line a.offset xs a.too_long)) ≡
-    located_tokens (here a.line a.offset xs a.too_long)) (sym e) (slash-here a.line a.offset rest a.too_long))
+    (with_bytes (λ a. in_slash a.line (ahead_after_byte a) ≡ located_tokens a) a _ e
+    (slash-here a.line a.offset rest a.too_long))
 
 -- a `*` after it begins a comment
 pub star-begins : (line : ℕ) (a : UnreadSource) (rest : List ℕ) → a.bytes ≡ 42 ∷ rest →
@@ -306,21 +301,7 @@ pub slash-stays : (line : ℕ) (here : Window) (to_come : Option (List ℕ)) (fi
     first ≡ slice_get here.at_hand 0 → option_eq eqb first (Some 42) ≡ false →
     to_read (in_punctuator Slash) here to_come ≡ to_read (in_slash line) here to_come
 unfolding in_slash
-slash-stays line here to_come first ready f e =
-    to_read-here (in_punctuator Slash) (in_slash line) here to_come
-    (λ to_come. sym
-    (ap
-    (λ s. cond s (in_comment line (ahead_after_byte (ahead here to_come)))
-    (in_punctuator Slash (ahead here to_come))) (by first f e to_come)))
-  where
-    by : (o : Option ℕ) → o ≡ slice_get here.at_hand 0 → option_eq eqb o (Some 42) ≡ false → (to_come : List ℕ) →
-        begins_with 42 (ahead here to_come).bytes ≡ false
-    by None f e to_come = ap (begins_with 42) (none-ahead here to_come ready (sym f))
-    by (Some b) f e to_come = let r = first-ahead here b to_come (sym f) in ap (begins_with 42) r.1 ∙ e
-
-pub star-found : (first : Option ℕ) → option_eq eqb first (Some 42) ≡ true → first ≡ Some 42
-star-found None e = absurd cc
-star-found (Some b) e = ap Some (eqb-true b 42 e)
+slash-stays line = to_read-unless 42 (λ a. in_comment line (ahead_after_byte a)) (in_punctuator Slash)
 
 pub not_true : (t : Bool) → true ≡ not t → t ≡ false
 not_true true e = absurd cc

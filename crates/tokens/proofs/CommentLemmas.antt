@@ -3,7 +3,6 @@ use Rattle.std.proofs.Common.{◌≡◌, ℕ, zero, suc, ◌+◌, ◌≤◌, Boo
 use Rattle.std.specs.Prelude.{slice_get, ◌&&◌}
 use Rattle.std.specs.List.{prefix_len}
 use Rattle.std.specs.Option.{option_map, option_eq}
-use Rattle.std.proofs.lemmas.Bool.{eqb-true}
 use Rattle.tokens.specs.InputElement.{begins_with, up_to_close}
 use Rattle.tokens.specs.Tokens.{UnreadSource, ahead_after_byte, last_located_token, located_tokens}
 use Rattle.tokens.specs.Window.{Window, ahead, window_after, window_after_byte, window_after_plain, IsAtHandOrEnd}
@@ -14,8 +13,8 @@ use Rattle.tokens.specs.declared.windows.Beyond.{Beyond}
 use Rattle.tokens.specs.declared.windows.Beyond.TheVariants.{Unread}
 use Rattle.tokens.specs.declared.located_tokens.LocatedToken.{LocatedToken}
 use Rattle.tokens.proofs.WindowLemmas.{held}
-use Rattle.tokens.proofs.ToRead.{to_read-here, to_read-pass, first-ahead, none-ahead}
-use Rattle.tokens.proofs.LocatedTokensLemmas.{here}
+use Rattle.tokens.proofs.ToRead.{to_read-here, to_read-pass, to_read-unless, none-ahead}
+use Rattle.tokens.proofs.LocatedTokensLemmas.{here, with_bytes}
 
 -- after a `*` inside a comment
 unfoldable pub in_star : ℕ → UnreadSource → List LocatedToken
@@ -45,9 +44,7 @@ pub comment_element-passes : (began b : ℕ) → eqb b 42 ≡ false → (a : Unr
     a.bytes ≡ b ∷ rest →
     in_comment began (ahead_after_byte a) ≡ in_comment began a
 comment_element-passes began b h a rest e =
-    subst
-    (λ (xs : List ℕ). in_comment began (ahead_after_byte (here a.line a.offset xs a.too_long)) ≡
-    in_comment began (here a.line a.offset xs a.too_long)) (sym e)
+    with_bytes (λ a. in_comment began (ahead_after_byte a) ≡ in_comment began a) a _ e
     (comment_element-passes-here began a.line a.offset b rest a.too_long h)
 
 star-passes-here : (began line offset : ℕ) (rest : List ℕ) (too_long : Bool) →
@@ -66,9 +63,7 @@ star-passes-here began line offset rest t = by (begins_with 47 rest)
 pub star-passes : (began : ℕ) (a : UnreadSource) (rest : List ℕ) → a.bytes ≡ 42 ∷ rest →
     in_star began (ahead_after_byte a) ≡ in_comment began a
 star-passes began a rest e =
-    subst
-    (λ (xs : List ℕ). in_star began (ahead_after_byte (here a.line a.offset xs a.too_long)) ≡
-    in_comment began (here a.line a.offset xs a.too_long)) (sym e)
+    with_bytes (λ a. in_star began (ahead_after_byte a) ≡ in_comment began a) a _ e
     (star-passes-here began a.line a.offset rest a.too_long)
 
 -- a `/` after the `*` closes the comment
@@ -83,20 +78,7 @@ pub star-open : (began : ℕ) (here : Window) (to_come : Option (List ℕ)) (fir
     first ≡ slice_get here.at_hand 0 → option_eq eqb first (Some 47) ≡ false →
     to_read (in_comment began) here to_come ≡ to_read (in_star began) here to_come
 unfolding in_star
-star-open began here to_come first ready f e =
-    to_read-here (in_comment began) (in_star began) here to_come
-    (λ to_come. sym
-    (ap (λ s. cond s (located_tokens (ahead_after_byte (ahead here to_come))) (in_comment began (ahead here to_come)))
-    (by first f e to_come)))
-  where
-    by : (o : Option ℕ) → o ≡ slice_get here.at_hand 0 → option_eq eqb o (Some 47) ≡ false → (to_come : List ℕ) →
-        begins_with 47 (ahead here to_come).bytes ≡ false
-    by None f e to_come = ap (begins_with 47) (none-ahead here to_come ready (sym f))
-    by (Some b) f e to_come = let r = first-ahead here b to_come (sym f) in ap (begins_with 47) r.1 ∙ e
-
-pub slash-found : (first : Option ℕ) → option_eq eqb first (Some 47) ≡ true → first ≡ Some 47
-slash-found None e = absurd cc
-slash-found (Some b) e = ap Some (eqb-true b 47 e)
+star-open began = to_read-unless 47 (λ a. located_tokens (ahead_after_byte a)) (in_comment began)
 
 -- plain bytes leave the comment as it is
 plain-here : (began : ℕ) (to_come : Option (List ℕ)) (n line offset taken : ℕ) (xs : List ℕ) (beyond : Beyond) →

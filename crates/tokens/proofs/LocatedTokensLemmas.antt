@@ -1,5 +1,5 @@
 -- The laws of the tokens of what lies ahead: a blank or a comment is skipped, a token is given.
-use Rattle.std.proofs.Common.{◌≡◌, ℕ, zero, suc, ◌+◌, ◌-◌, ◌<◌, Bool, true, false, cond, Option, Some, None, List, [], ◌∷◌, length, drop, refl, ap, arith, lit<}
+use Rattle.std.proofs.Common.{◌≡◌, ℕ, zero, suc, ◌+◌, ◌-◌, ◌<◌, Bool, true, false, cond, Option, Some, None, List, [], ◌∷◌, length, drop, refl, sym, ap, subst, arith, lit<}
 use Rattle.std.specs.Prelude.{◌||◌}
 use Rattle.std.specs.List.{prefix_len}
 use Rattle.tokens.specs.Characters.{is_blank, is_letter, is_digit, is_name_byte}
@@ -13,6 +13,11 @@ use Rattle.tokens.proofs.PunctuatorLemmas.{spelling-nonempty}
 
 abbrev pub here : ℕ → ℕ → List ℕ → Bool → UnreadSource
 here line offset bytes too_long = record { line = line; offset = offset; bytes = bytes; too_long = too_long }
+
+-- what is true of a source of these bytes
+pub with_bytes : (P : UnreadSource → Type 0) (a : UnreadSource) (xs : List ℕ) → a.bytes ≡ xs →
+    P (here a.line a.offset xs a.too_long) → P a
+with_bytes P a xs e p = subst (λ (ys : List ℕ). P (here a.line a.offset ys a.too_long)) (sym e) p
 
 -- an input element has at least one byte
 abbrev pub IsPiece : InputElement → Type 0

@@ -32,184 +32,70 @@ pub punctuator_of-spelled : (bytes : List ℕ) (punctuator : Punctuator) → pun
 unfolding punctuator_of
 punctuator_of-spelled bytes punctuator e = find-spelled bytes punctuator all_punctuators e
 
+-- a punctuator has one byte to three, and its first byte is a punctuator, and its first two bytes are
+spelled : (m : Punctuator) →
+    (0 < length (spelling m))
+    × (length (spelling m) ≤ 3)
+    × (is_some (punctuator_of (take 1 (spelling m))) ≡ true)
+    × (is_some (punctuator_of (take 2 (spelling m))) ≡ true)
+unfolding punctuator_of
+spelled Plus = (lit< tt, lit≤ tt, refl, refl)
+spelled Minus = (lit< tt, lit≤ tt, refl, refl)
+spelled Star = (lit< tt, lit≤ tt, refl, refl)
+spelled Slash = (lit< tt, lit≤ tt, refl, refl)
+spelled Percent = (lit< tt, lit≤ tt, refl, refl)
+spelled And = (lit< tt, lit≤ tt, refl, refl)
+spelled Or = (lit< tt, lit≤ tt, refl, refl)
+spelled Xor = (lit< tt, lit≤ tt, refl, refl)
+spelled Tilde = (lit< tt, lit≤ tt, refl, refl)
+spelled Not = (lit< tt, lit≤ tt, refl, refl)
+spelled Less = (lit< tt, lit≤ tt, refl, refl)
+spelled Greater = (lit< tt, lit≤ tt, refl, refl)
+spelled Equals = (lit< tt, lit≤ tt, refl, refl)
+spelled ShiftLeft = (lit< tt, lit≤ tt, refl, refl)
+spelled ShiftRight = (lit< tt, lit≤ tt, refl, refl)
+spelled LessEquals = (lit< tt, lit≤ tt, refl, refl)
+spelled GreaterEquals = (lit< tt, lit≤ tt, refl, refl)
+spelled EqualsEquals = (lit< tt, lit≤ tt, refl, refl)
+spelled NotEquals = (lit< tt, lit≤ tt, refl, refl)
+spelled AndAnd = (lit< tt, lit≤ tt, refl, refl)
+spelled OrOr = (lit< tt, lit≤ tt, refl, refl)
+spelled PlusPlus = (lit< tt, lit≤ tt, refl, refl)
+spelled MinusMinus = (lit< tt, lit≤ tt, refl, refl)
+spelled PlusEquals = (lit< tt, lit≤ tt, refl, refl)
+spelled MinusEquals = (lit< tt, lit≤ tt, refl, refl)
+spelled StarEquals = (lit< tt, lit≤ tt, refl, refl)
+spelled SlashEquals = (lit< tt, lit≤ tt, refl, refl)
+spelled PercentEquals = (lit< tt, lit≤ tt, refl, refl)
+spelled ShiftLeftEquals = (lit< tt, lit≤ tt, refl, refl)
+spelled ShiftRightEquals = (lit< tt, lit≤ tt, refl, refl)
+spelled AndEquals = (lit< tt, lit≤ tt, refl, refl)
+spelled XorEquals = (lit< tt, lit≤ tt, refl, refl)
+spelled OrEquals = (lit< tt, lit≤ tt, refl, refl)
+spelled OpenRound = (lit< tt, lit≤ tt, refl, refl)
+spelled CloseRound = (lit< tt, lit≤ tt, refl, refl)
+spelled OpenCurly = (lit< tt, lit≤ tt, refl, refl)
+spelled CloseCurly = (lit< tt, lit≤ tt, refl, refl)
+spelled Comma = (lit< tt, lit≤ tt, refl, refl)
+spelled Semicolon = (lit< tt, lit≤ tt, refl, refl)
+
 pub spelling-nonempty : (m : Punctuator) → 0 < length (spelling m)
-spelling-nonempty Plus = lit< tt
-spelling-nonempty Minus = lit< tt
-spelling-nonempty Star = lit< tt
-spelling-nonempty Slash = lit< tt
-spelling-nonempty Percent = lit< tt
-spelling-nonempty And = lit< tt
-spelling-nonempty Or = lit< tt
-spelling-nonempty Xor = lit< tt
-spelling-nonempty Tilde = lit< tt
-spelling-nonempty Not = lit< tt
-spelling-nonempty Less = lit< tt
-spelling-nonempty Greater = lit< tt
-spelling-nonempty Equals = lit< tt
-spelling-nonempty ShiftLeft = lit< tt
-spelling-nonempty ShiftRight = lit< tt
-spelling-nonempty LessEquals = lit< tt
-spelling-nonempty GreaterEquals = lit< tt
-spelling-nonempty EqualsEquals = lit< tt
-spelling-nonempty NotEquals = lit< tt
-spelling-nonempty AndAnd = lit< tt
-spelling-nonempty OrOr = lit< tt
-spelling-nonempty PlusPlus = lit< tt
-spelling-nonempty MinusMinus = lit< tt
-spelling-nonempty PlusEquals = lit< tt
-spelling-nonempty MinusEquals = lit< tt
-spelling-nonempty StarEquals = lit< tt
-spelling-nonempty SlashEquals = lit< tt
-spelling-nonempty PercentEquals = lit< tt
-spelling-nonempty ShiftLeftEquals = lit< tt
-spelling-nonempty ShiftRightEquals = lit< tt
-spelling-nonempty AndEquals = lit< tt
-spelling-nonempty XorEquals = lit< tt
-spelling-nonempty OrEquals = lit< tt
-spelling-nonempty OpenRound = lit< tt
-spelling-nonempty CloseRound = lit< tt
-spelling-nonempty OpenCurly = lit< tt
-spelling-nonempty CloseCurly = lit< tt
-spelling-nonempty Comma = lit< tt
-spelling-nonempty Semicolon = lit< tt
+spelling-nonempty m = (spelled m).0
 
 pub spelling-short : (m : Punctuator) → length (spelling m) ≤ 3
-spelling-short Plus = lit≤ tt
-spelling-short Minus = lit≤ tt
-spelling-short Star = lit≤ tt
-spelling-short Slash = lit≤ tt
-spelling-short Percent = lit≤ tt
-spelling-short And = lit≤ tt
-spelling-short Or = lit≤ tt
-spelling-short Xor = lit≤ tt
-spelling-short Tilde = lit≤ tt
-spelling-short Not = lit≤ tt
-spelling-short Less = lit≤ tt
-spelling-short Greater = lit≤ tt
-spelling-short Equals = lit≤ tt
-spelling-short ShiftLeft = lit≤ tt
-spelling-short ShiftRight = lit≤ tt
-spelling-short LessEquals = lit≤ tt
-spelling-short GreaterEquals = lit≤ tt
-spelling-short EqualsEquals = lit≤ tt
-spelling-short NotEquals = lit≤ tt
-spelling-short AndAnd = lit≤ tt
-spelling-short OrOr = lit≤ tt
-spelling-short PlusPlus = lit≤ tt
-spelling-short MinusMinus = lit≤ tt
-spelling-short PlusEquals = lit≤ tt
-spelling-short MinusEquals = lit≤ tt
-spelling-short StarEquals = lit≤ tt
-spelling-short SlashEquals = lit≤ tt
-spelling-short PercentEquals = lit≤ tt
-spelling-short ShiftLeftEquals = lit≤ tt
-spelling-short ShiftRightEquals = lit≤ tt
-spelling-short AndEquals = lit≤ tt
-spelling-short XorEquals = lit≤ tt
-spelling-short OrEquals = lit≤ tt
-spelling-short OpenRound = lit≤ tt
-spelling-short CloseRound = lit≤ tt
-spelling-short OpenCurly = lit≤ tt
-spelling-short CloseCurly = lit≤ tt
-spelling-short Comma = lit≤ tt
-spelling-short Semicolon = lit≤ tt
+spelling-short m = (spelled m).1
 
 is-none : (o : Option Punctuator) → is_some o ≡ true → o ≡ None → ⊥
 is-none None s e = absurd cc
 is-none (Some m) s e = absurd cc
 
--- the first byte of a punctuator is a punctuator, and its first two bytes are
-one-begins : (m : Punctuator) → is_some (punctuator_of (take 1 (spelling m))) ≡ true
-unfolding punctuator_of
-one-begins Plus = refl
-one-begins Minus = refl
-one-begins Star = refl
-one-begins Slash = refl
-one-begins Percent = refl
-one-begins And = refl
-one-begins Or = refl
-one-begins Xor = refl
-one-begins Tilde = refl
-one-begins Not = refl
-one-begins Less = refl
-one-begins Greater = refl
-one-begins Equals = refl
-one-begins ShiftLeft = refl
-one-begins ShiftRight = refl
-one-begins LessEquals = refl
-one-begins GreaterEquals = refl
-one-begins EqualsEquals = refl
-one-begins NotEquals = refl
-one-begins AndAnd = refl
-one-begins OrOr = refl
-one-begins PlusPlus = refl
-one-begins MinusMinus = refl
-one-begins PlusEquals = refl
-one-begins MinusEquals = refl
-one-begins StarEquals = refl
-one-begins SlashEquals = refl
-one-begins PercentEquals = refl
-one-begins ShiftLeftEquals = refl
-one-begins ShiftRightEquals = refl
-one-begins AndEquals = refl
-one-begins XorEquals = refl
-one-begins OrEquals = refl
-one-begins OpenRound = refl
-one-begins CloseRound = refl
-one-begins OpenCurly = refl
-one-begins CloseCurly = refl
-one-begins Comma = refl
-one-begins Semicolon = refl
-
-two-begin : (m : Punctuator) → is_some (punctuator_of (take 2 (spelling m))) ≡ true
-unfolding punctuator_of
-two-begin Plus = refl
-two-begin Minus = refl
-two-begin Star = refl
-two-begin Slash = refl
-two-begin Percent = refl
-two-begin And = refl
-two-begin Or = refl
-two-begin Xor = refl
-two-begin Tilde = refl
-two-begin Not = refl
-two-begin Less = refl
-two-begin Greater = refl
-two-begin Equals = refl
-two-begin ShiftLeft = refl
-two-begin ShiftRight = refl
-two-begin LessEquals = refl
-two-begin GreaterEquals = refl
-two-begin EqualsEquals = refl
-two-begin NotEquals = refl
-two-begin AndAnd = refl
-two-begin OrOr = refl
-two-begin PlusPlus = refl
-two-begin MinusMinus = refl
-two-begin PlusEquals = refl
-two-begin MinusEquals = refl
-two-begin StarEquals = refl
-two-begin SlashEquals = refl
-two-begin PercentEquals = refl
-two-begin ShiftLeftEquals = refl
-two-begin ShiftRightEquals = refl
-two-begin AndEquals = refl
-two-begin XorEquals = refl
-two-begin OrEquals = refl
-two-begin OpenRound = refl
-two-begin CloseRound = refl
-two-begin OpenCurly = refl
-two-begin CloseCurly = refl
-two-begin Comma = refl
-two-begin Semicolon = refl
-
 first-of-two : (m : Punctuator) (b c : ℕ) → b ∷ c ∷ [] ≡ spelling m → punctuator_of (b ∷ []) ≡ None → ⊥
 first-of-two m b c e h =
-    is-none (punctuator_of (b ∷ [])) (ap (λ xs. is_some (punctuator_of (take 1 xs))) e ∙ one-begins m) h
+    is-none (punctuator_of (b ∷ [])) (ap (λ xs. is_some (punctuator_of (take 1 xs))) e ∙ (spelled m).2) h
 
 two-of-three : (m : Punctuator) (b c d : ℕ) → b ∷ c ∷ d ∷ [] ≡ spelling m → punctuator_of (b ∷ c ∷ []) ≡ None → ⊥
 two-of-three m b c d e h =
-    is-none (punctuator_of (b ∷ c ∷ [])) (ap (λ xs. is_some (punctuator_of (take 2 xs))) e ∙ two-begin m) h
+    is-none (punctuator_of (b ∷ c ∷ [])) (ap (λ xs. is_some (punctuator_of (take 2 xs))) e ∙ (spelled m).3) h
 
 pub none-of-two : (b c : ℕ) → punctuator_of (b ∷ []) ≡ None → punctuator_of (b ∷ c ∷ []) ≡ None
 none-of-two b c h = by (punctuator_of (b ∷ c ∷ [])) refl
@@ -316,113 +202,19 @@ punctuator_element-located_token m a rest e =
     (located_token-here m a.line a.offset rest a.too_long)
 
 -- the punctuator of a byte, by its kind
-of_kind : (kind c : ℕ) (o : Option Punctuator) → nat_le kind 2 ≡ false → slice_index punctuator_bytes kind ≡ c →
-    punctuator_of (c ∷ []) ≡ o → (b : ℕ) → b < 256 → slice_index kinds b ≡ kind → o ≡ punctuator_of (b ∷ [])
-of_kind kind c o high at is b h e = sym (ap (λ x. punctuator_of (x ∷ [])) (by_kind kind c high at b h e) ∙ is)
+pub of_kind : (kind : ℕ) (o : Option Punctuator) → nat_le kind 2 ≡ false →
+    punctuator_of (slice_index punctuator_bytes kind ∷ []) ≡ o → (b : ℕ) → b < 256 → (i : ℕ) → i ≡ b →
+    slice_index kinds i ≡ kind → o ≡ punctuator_of (b ∷ [])
+of_kind kind o high is b h i same e =
+    sym (ap (λ x. punctuator_of (x ∷ [])) (by_kind kind _ high refl b h (ap (slice_index kinds) (sym same) ∙ e)) ∙ is)
 
-as_whole : (b : ℕ) (m : Punctuator) → Some m ≡ punctuator_of (b ∷ []) →
-    ((n : ℕ) → punctuator_of (spelling m ++ n ∷ []) ≡ None) → IsOfSingleByte b m
-as_whole b m is ends = record { is = sym is; ends = ends }
-
-pub kind-open_round : (b : ℕ) → b < 256 → slice_index kinds b ≡ 3 → Some OpenRound ≡ punctuator_of (b ∷ [])
-unfolding punctuator_of
-kind-open_round = of_kind 3 40 (Some OpenRound) refl refl refl
-
-pub kind-close_round : (b : ℕ) → b < 256 → slice_index kinds b ≡ 4 → Some CloseRound ≡ punctuator_of (b ∷ [])
-unfolding punctuator_of
-kind-close_round = of_kind 4 41 (Some CloseRound) refl refl refl
-
-pub kind-open_curly : (b : ℕ) → b < 256 → slice_index kinds b ≡ 5 → Some OpenCurly ≡ punctuator_of (b ∷ [])
-unfolding punctuator_of
-kind-open_curly = of_kind 5 123 (Some OpenCurly) refl refl refl
-
-pub kind-close_curly : (b : ℕ) → b < 256 → slice_index kinds b ≡ 6 → Some CloseCurly ≡ punctuator_of (b ∷ [])
-unfolding punctuator_of
-kind-close_curly = of_kind 6 125 (Some CloseCurly) refl refl refl
-
-pub kind-comma : (b : ℕ) → b < 256 → slice_index kinds b ≡ 7 → Some Comma ≡ punctuator_of (b ∷ [])
-unfolding punctuator_of
-kind-comma = of_kind 7 44 (Some Comma) refl refl refl
-
-pub kind-semicolon : (b : ℕ) → b < 256 → slice_index kinds b ≡ 8 → Some Semicolon ≡ punctuator_of (b ∷ [])
-unfolding punctuator_of
-kind-semicolon = of_kind 8 59 (Some Semicolon) refl refl refl
-
-pub kind-plus : (b : ℕ) → b < 256 → slice_index kinds b ≡ 9 → Some Plus ≡ punctuator_of (b ∷ [])
-unfolding punctuator_of
-kind-plus = of_kind 9 43 (Some Plus) refl refl refl
-
-pub kind-minus : (b : ℕ) → b < 256 → slice_index kinds b ≡ 10 → Some Minus ≡ punctuator_of (b ∷ [])
-unfolding punctuator_of
-kind-minus = of_kind 10 45 (Some Minus) refl refl refl
-
-pub kind-star : (b : ℕ) → b < 256 → slice_index kinds b ≡ 11 → Some Star ≡ punctuator_of (b ∷ [])
-unfolding punctuator_of
-kind-star = of_kind 11 42 (Some Star) refl refl refl
-
-pub kind-slash : (b : ℕ) → b < 256 → slice_index kinds b ≡ 12 → Some Slash ≡ punctuator_of (b ∷ [])
-unfolding punctuator_of
-kind-slash = of_kind 12 47 (Some Slash) refl refl refl
-
-pub kind-percent : (b : ℕ) → b < 256 → slice_index kinds b ≡ 13 → Some Percent ≡ punctuator_of (b ∷ [])
-unfolding punctuator_of
-kind-percent = of_kind 13 37 (Some Percent) refl refl refl
-
-pub kind-and : (b : ℕ) → b < 256 → slice_index kinds b ≡ 14 → Some And ≡ punctuator_of (b ∷ [])
-unfolding punctuator_of
-kind-and = of_kind 14 38 (Some And) refl refl refl
-
-pub kind-or : (b : ℕ) → b < 256 → slice_index kinds b ≡ 15 → Some Or ≡ punctuator_of (b ∷ [])
-unfolding punctuator_of
-kind-or = of_kind 15 124 (Some Or) refl refl refl
-
-pub kind-xor : (b : ℕ) → b < 256 → slice_index kinds b ≡ 16 → Some Xor ≡ punctuator_of (b ∷ [])
-unfolding punctuator_of
-kind-xor = of_kind 16 94 (Some Xor) refl refl refl
-
-pub kind-tilde : (b : ℕ) → b < 256 → slice_index kinds b ≡ 17 → Some Tilde ≡ punctuator_of (b ∷ [])
-unfolding punctuator_of
-kind-tilde = of_kind 17 126 (Some Tilde) refl refl refl
-
-pub kind-not : (b : ℕ) → b < 256 → slice_index kinds b ≡ 18 → Some Not ≡ punctuator_of (b ∷ [])
-unfolding punctuator_of
-kind-not = of_kind 18 33 (Some Not) refl refl refl
-
-pub kind-less : (b : ℕ) → b < 256 → slice_index kinds b ≡ 19 → Some Less ≡ punctuator_of (b ∷ [])
-unfolding punctuator_of
-kind-less = of_kind 19 60 (Some Less) refl refl refl
-
-pub kind-greater : (b : ℕ) → b < 256 → slice_index kinds b ≡ 20 → Some Greater ≡ punctuator_of (b ∷ [])
-unfolding punctuator_of
-kind-greater = of_kind 20 62 (Some Greater) refl refl refl
-
-pub kind-equals : (b : ℕ) → b < 256 → slice_index kinds b ≡ 21 → Some Equals ≡ punctuator_of (b ∷ [])
-unfolding punctuator_of
-kind-equals = of_kind 21 61 (Some Equals) refl refl refl
-
-pub whole-open_round : (b : ℕ) → b < 256 → slice_index kinds b ≡ 3 → IsOfSingleByte b OpenRound
-unfolding punctuator_of
-whole-open_round b h e = as_whole b OpenRound (kind-open_round b h e) (λ n. refl)
-
-pub whole-close_round : (b : ℕ) → b < 256 → slice_index kinds b ≡ 4 → IsOfSingleByte b CloseRound
-unfolding punctuator_of
-whole-close_round b h e = as_whole b CloseRound (kind-close_round b h e) (λ n. refl)
-
-pub whole-open_curly : (b : ℕ) → b < 256 → slice_index kinds b ≡ 5 → IsOfSingleByte b OpenCurly
-unfolding punctuator_of
-whole-open_curly b h e = as_whole b OpenCurly (kind-open_curly b h e) (λ n. refl)
-
-pub whole-close_curly : (b : ℕ) → b < 256 → slice_index kinds b ≡ 6 → IsOfSingleByte b CloseCurly
-unfolding punctuator_of
-whole-close_curly b h e = as_whole b CloseCurly (kind-close_curly b h e) (λ n. refl)
-
-pub whole-comma : (b : ℕ) → b < 256 → slice_index kinds b ≡ 7 → IsOfSingleByte b Comma
-unfolding punctuator_of
-whole-comma b h e = as_whole b Comma (kind-comma b h e) (λ n. refl)
-
-pub whole-semicolon : (b : ℕ) → b < 256 → slice_index kinds b ≡ 8 → IsOfSingleByte b Semicolon
-unfolding punctuator_of
-whole-semicolon b h e = as_whole b Semicolon (kind-semicolon b h e) (λ n. refl)
+-- and if no longer one begins with it
+pub whole_of_kind : (kind : ℕ) (m : Punctuator) → nat_le kind 2 ≡ false →
+    punctuator_of (slice_index punctuator_bytes kind ∷ []) ≡ Some m →
+    ((n : ℕ) → punctuator_of (spelling m ++ n ∷ []) ≡ None) → (b : ℕ) → b < 256 → (i : ℕ) → i ≡ b →
+    slice_index kinds i ≡ kind → IsOfSingleByte b m
+whole_of_kind kind m high is ends b h i same e =
+    record { is = sym (of_kind kind (Some m) high is b h i same e); ends = ends }
 
 -- no punctuator begins with a byte of another kind
 pub kind-none : (b : ℕ) → b < 256 → slice_index kinds b < 3 → None ≡ punctuator_of (b ∷ [])

@@ -33,25 +33,18 @@ pub ones_whole : (test : ℕ → Bool) (v : List ℕ) {m : ℕ} → length v ≡
 ones_whole test v long e =
     ap count_ones e ∙ ones-mask_l test v ∙ ap (count_by test) (sym (take_all 32 v (omega (arith, long))))
 
+low_block : (x y m n : ℕ) → x < 2 → y < 2 → bit_and (x + 2 * m) (y + 2 * n) ≡ bit_and x y + 2 * bit_and m n
+low_block x y m n hx hy =
+    let e : x + 2 * m ≡ m * 2 + x = omega arith in
+    let f : y + 2 * n ≡ n * 2 + y = omega arith in rw (e, f) (and_block 1 m n x y hx hy ∙ omega arith)
+
 -- the lowest bits of two numbers, and the others
 low_apart : (c d : Bool) (m n : ℕ) →
     bit_and (cond c 1 0 + 2 * m) (cond d 1 0 + 2 * n) ≡ cond (c && d) 1 0 + 2 * bit_and m n
-low_apart true true m n =
-    let h = and_block 1 m n 1 1 (omega arith) (omega arith) in
-    let e : 1 + 2 * m ≡ m * 2 + 1 = omega arith in
-    let f : 1 + 2 * n ≡ n * 2 + 1 = omega arith in rw (e, f) (h ∙ omega arith)
-low_apart true false m n =
-    let h = and_block 1 m n 1 0 (omega arith) (omega arith) in
-    let e : 1 + 2 * m ≡ m * 2 + 1 = omega arith in
-    let f : 0 + 2 * n ≡ n * 2 + 0 = omega arith in rw (e, f) (h ∙ omega arith)
-low_apart false true m n =
-    let h = and_block 1 m n 0 1 (omega arith) (omega arith) in
-    let e : 0 + 2 * m ≡ m * 2 + 0 = omega arith in
-    let f : 1 + 2 * n ≡ n * 2 + 1 = omega arith in rw (e, f) (h ∙ omega arith)
-low_apart false false m n =
-    let h = and_block 1 m n 0 0 (omega arith) (omega arith) in
-    let e : 0 + 2 * m ≡ m * 2 + 0 = omega arith in
-    let f : 0 + 2 * n ≡ n * 2 + 0 = omega arith in rw (e, f) (h ∙ omega arith)
+low_apart true true m n = low_block 1 1 m n (omega arith) (omega arith)
+low_apart true false m n = low_block 1 0 m n (omega arith) (omega arith)
+low_apart false true m n = low_block 0 1 m n (omega arith) (omega arith)
+low_apart false false m n = low_block 0 0 m n (omega arith) (omega arith)
 
 -- two tests of which no byte passes both share no bit
 apart : (p q : ℕ → Bool) → ((b : ℕ) → (p b && q b) ≡ false) → (xs : List ℕ) →

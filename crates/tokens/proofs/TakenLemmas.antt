@@ -11,7 +11,7 @@ use Rattle.tokens.specs.Ends.{is_decided_by_last_byte, undecided_until}
 use Rattle.tokens.specs.InputElement.{InputElement, Nothing, Space, Unclosed, Lexeme, input_element, up_to_close, begins_with, name_or}
 use Rattle.tokens.specs.Tokens.{UnreadSource, ahead_after_byte, ahead_after, at_end, located, last_located_token, tokens_within, tokens_of_element, located_tokens}
 use Rattle.tokens.specs.Cursors.{FitsToken}
-use Rattle.tokens.specs.Window.{LeavesAsked, Window, TakesBytes, HasReadOn, ahead}
+use Rattle.tokens.specs.Window.{LeavesAsked, Window, TakesBytes, HasReadOn, KnowsEnd, SkipsBytes, ahead}
 use Rattle.tokens.specs.Lexing.{to_read, followed, token_ending, in_token_span, name_going_on, constant_going_on, value_token, in_punctuator, extended, in_comment, closed_at, LeavesUnread, StopsWithin, FindsToken, IsFound, IsRead, ReadsToken}
 use Rattle.tokens.specs.declared.devices.DeviceFault.{DeviceFault}
 use Rattle.tokens.specs.declared.located_tokens.Punctuator.{Punctuator}
@@ -37,14 +37,48 @@ pub TakesBytes-pass : {old mid new : ℕ} {to_come to_come' : Option (List ℕ)}
 TakesBytes-pass {old} {mid} {new} {to_come} {to_come'} e f =
     subst (λ (n : ℕ). TakesBytes old n to_come to_come') (sym e) f
 
+-- a window went on, or stayed, as in `HasReadOn`: but for what is true of every window
+pub record HasGoneOn (old new : Window) (before after : Device) : Type 0 where
+  pub took : TakesBytes old.taken new.taken before.to_come after.to_come
+  pub forward : old.offset ≤ new.offset
+  pub count : after.account ≡ before.account
+  pub known : KnowsEnd new.beyond after.ended
+
+-- over bytes at hand
+pub HasGoneOn-skip : {old mid new : Window} {before after : Device} → SkipsBytes mid new →
+    HasGoneOn old mid before after → HasGoneOn old new before after
+HasGoneOn-skip skips on = record {
+  took = TakesBytes-pass skips.taken on.took;
+  forward = omega (arith, on.forward, skips.forward);
+  count = on.count;
+  known = λ e. on.known (sym skips.beyond ∙ e);
+}
+
+pub HasGoneOn-first : {old new : Window} {device : Device} → SkipsBytes old new → KnowsEnd old.beyond device.ended →
+    HasGoneOn old new device device
+HasGoneOn-first skips known =
+    HasGoneOn-skip skips
+    (record { took = record { rest = λ total e. e }; forward = omega arith; count = refl; known = known })
+
+-- by a call that may have asked
+pub HasGoneOn-then : {old mid new : Window} {before between after : Device} →
+    HasReadOn mid new between.to_come after.to_come between.account after.account after.ended →
+    HasGoneOn old mid before between → HasGoneOn old new before after
+HasGoneOn-then asks on = record {
+  took = TakesBytes-then on.took asks.took;
+  forward = omega (arith, on.forward, asks.forward);
+  count = asks.count ∙ on.count;
+  known = asks.known;
+}
+
 -- a window that went on goes on
-goes_on : (counted counted' : FailureCount) (old mid new : Window) (to_come to_come' to_come'' : Option (List ℕ))
-    (after : FailureCount)
-    (ended : Bool) → TakesBytes old.taken mid.taken to_come to_come' → old.offset ≤ mid.offset → counted' ≡ counted →
-    HasReadOn mid new to_come' to_come'' counted' after ended → HasReadOn old new to_come to_come'' counted after ended
-goes_on counted counted' old mid new to_come to_come' to_come'' after ended took forward count asks = record {
-  took = TakesBytes-then took asks.took;
-  forward = omega (arith, forward, asks.forward);
+goes_on : {old mid new : Window} {before between : Device} {to_come : Option (List ℕ)}
+    {counted counted' account : FailureCount} {ended : Bool} → HasGoneOn old mid before between → counted' ≡ counted →
+    HasReadOn mid new between.to_come to_come counted' account ended →
+    HasReadOn old new before.to_come to_come counted account ended
+goes_on on count asks = record {
+  took = TakesBytes-then on.took asks.took;
+  forward = omega (arith, on.forward, asks.forward);
   near = asks.near;
   limited = asks.limited;
   within = asks.within;
@@ -52,35 +86,21 @@ goes_on counted counted' old mid new to_come to_come' to_come'' after ended took
   known = asks.known;
 }
 
-pub then-asks : {T : Type 0} (r : Result T DeviceFault) (old mid new : Window)
-    (to_come to_come' to_come'' : Option (List ℕ))
-    (before between after : FailureCount) (ended : Bool) → TakesBytes old.taken mid.taken to_come to_come' →
-    old.offset ≤ mid.offset → between ≡ before → LeavesAsked r mid new to_come' to_come'' between after ended →
-    LeavesAsked r old new to_come to_come'' before after ended
-then-asks (Ok x) old mid new to_come to_come' to_come'' before between after ended took forward count asks =
-    goes_on before between old mid new to_come to_come' to_come'' after ended took forward count asks
-then-asks (Err x) old mid new to_come to_come' to_come'' before between after ended took forward count asks =
-    goes_on (failed_again before) (failed_again between) old mid new to_come to_come' to_come'' after ended took forward
-    (ap failed_again count) asks
+pub then-asks : {T : Type 0} (r : Result T DeviceFault) {old mid : Window} {before between : Device} (new : Window)
+    (to_come : Option (List ℕ)) (account : FailureCount) (ended : Bool) → HasGoneOn old mid before between →
+    LeavesAsked r mid new between.to_come to_come between.account account ended →
+    LeavesAsked r old new before.to_come to_come before.account account ended
+then-asks (Ok x) new to_come account ended on asks = goes_on on on.count asks
+then-asks (Err x) new to_come account ended on asks = goes_on on (ap failed_again on.count) asks
 
 -- and may fail then
 pub then-fails : {T : Type 0} (r : Result T DeviceFault) (P : DeviceFault → Type 0) → IsErrAnd r P →
-    (old mid new : Window) (to_come to_come' to_come'' : Option (List ℕ)) (before between after : FailureCount)
-    (ended : Bool) →
-    TakesBytes old.taken mid.taken to_come to_come' → old.offset ≤ mid.offset → between ≡ before →
-    HasReadOn mid new to_come' to_come'' (failed_again between) after ended →
-    LeavesAsked r old new to_come to_come'' before after ended
-then-fails (Ok x) P h old mid new to_come to_come' to_come'' before between after ended took forward count asks =
-    absurd h
-then-fails (Err x) P h old mid new to_come to_come' to_come'' before between after ended took forward count asks =
-    goes_on (failed_again before) (failed_again between) old mid new to_come to_come' to_come'' after ended took forward
-    (ap failed_again count) asks
-
--- nothing was taken before the window went on
-pub TakesBytes-from : {old mid new : ℕ} {to_come to_come' : Option (List ℕ)} → mid ≡ old →
-    TakesBytes mid new to_come to_come' →
-    TakesBytes old new to_come to_come'
-TakesBytes-from {old} {mid} {new} {to_come} {to_come'} e f = subst (λ (n : ℕ). TakesBytes n new to_come to_come') e f
+    {old mid new : Window} {before between : Device} {to_come : Option (List ℕ)} {account : FailureCount}
+    {ended : Bool} → HasGoneOn old mid before between →
+    HasReadOn mid new between.to_come to_come (failed_again between.account) account ended →
+    LeavesAsked r old new before.to_come to_come before.account account ended
+then-fails (Ok x) P h on asks = absurd h
+then-fails (Err x) P h on asks = goes_on on (ap failed_again on.count) asks
 
 -- what a call that failed leaves
 pub on_err-from : {T E P : Type 0} (r : Result T E) → P → OnErr r P
@@ -355,6 +375,19 @@ pub fails-finds : {T : Type 0} (r : Result T DeviceFault) (P : DeviceFault → T
     LeavesUnread inside old new before.to_come here here' → FindsToken r inside old new before after here here'
 fails-finds (Ok x) P h inside old new before after here here' left = absurd h
 fails-finds (Err x) P h inside old new before after here here' left = left
+
+-- as one that asked in vain
+pub asks-in-vain : {T : Type 0} (r : Result T DeviceFault) (P : DeviceFault → Type 0) → IsErrAnd r P →
+    (inside now : UnreadSource → List LocatedToken) → EndsBehind now → (old mid new : Window)
+    (before between after : Device) (here here' : LocatedToken) →
+    to_read now mid between.to_come ≡ to_read inside old before.to_come → new.taken ≡ new.offset →
+    new.offset ≡ mid.offset → here' ≡ here → FindsToken r inside old new before after here here'
+asks-in-vain r P h inside now ends old mid new before between after here here' same taken stays unread =
+    fails-finds r P h inside old new before after here here' (record {
+      within = stops-from now inside mid old new before.to_come between.to_come same
+          (stops now ends mid new between.to_come taken stays);
+      unread = unread;
+    })
 
 pub fails-reads : {T : Type 0} (r : Result T DeviceFault) (P : DeviceFault → Type 0) → IsErrAnd r P →
     (old new : Window) (before after : Device) (here here' : LocatedToken) →

@@ -1,7 +1,9 @@
 -- What is still to be read, as a window goes on.
-use Rattle.std.proofs.Common.{◌≡◌, ℕ, Option, Some, None, List, [], ◌∷◌, ◌++◌, refl, sym, ap, ◌∙◌, ◌≢◌}
+use Rattle.std.proofs.Common.{◌≡◌, ℕ, true, false, cond, eqb, Option, Some, None, List, [], ◌∷◌, ◌++◌, refl, sym, ap, ◌∙◌, ◌≢◌}
 use Rattle.std.specs.Prelude.{slice_get}
-use Rattle.std.specs.List.{prefix_len}
+use Rattle.std.specs.Option.{option_eq}
+use Rattle.std.proofs.lemmas.Bool.{eqb-true}
+use Rattle.tokens.specs.InputElement.{begins_with}
 use Rattle.tokens.specs.Tokens.{UnreadSource, ahead_after_byte}
 use Rattle.tokens.specs.Window.{Window, seen, ahead, window_after_byte, later, IsAtHandOrEnd}
 use Rattle.tokens.specs.Lexing.{to_read}
@@ -46,6 +48,24 @@ none-ahead here to_come h e = by here.at_hand here.beyond h e
     by [] Nothing h e = refl
     by [] TooMuch h e = refl
     by (x ∷ xs) beyond h e = absurd cc
+
+-- where another byte is next, or none, all is read that this one would decide
+pub to_read-unless : (c : ℕ) (made made' : UnreadSource → List LocatedToken) (here : Window)
+    (to_come : Option (List ℕ)) (first : Option ℕ) → IsAtHandOrEnd here → first ≡ slice_get here.at_hand 0 →
+    option_eq eqb first (Some c) ≡ false →
+    to_read made' here to_come ≡ to_read (λ a. cond (begins_with c a.bytes) (made a) (made' a)) here to_come
+to_read-unless c made made' here to_come first ready f e =
+    to_read-here made' (λ a. cond (begins_with c a.bytes) (made a) (made' a)) here to_come (λ to_come.
+    sym (ap (λ s. cond s (made (ahead here to_come)) (made' (ahead here to_come))) (by first f e to_come)))
+  where
+    by : (o : Option ℕ) → o ≡ slice_get here.at_hand 0 → option_eq eqb o (Some c) ≡ false → (to_come : List ℕ) →
+        begins_with c (ahead here to_come).bytes ≡ false
+    by None f e to_come = ap (begins_with c) (none-ahead here to_come ready (sym f))
+    by (Some b) f e to_come = let r = first-ahead here b to_come (sym f) in ap (begins_with c) r.1 ∙ e
+
+pub byte-found : (c : ℕ) (first : Option ℕ) → option_eq eqb first (Some c) ≡ true → first ≡ Some c
+byte-found c None e = absurd cc
+byte-found c (Some b) e = ap Some (eqb-true b c e)
 
 -- a byte is at hand
 pub is-at_hand : (here : Window) (b : ℕ) → Some b ≡ slice_get here.at_hand 0 → IsAtHandOrEnd here

@@ -16,7 +16,7 @@ use Rattle.tokens.specs.declared.located_tokens.Token.{Token}
 use Rattle.tokens.specs.declared.located_tokens.Token.TheVariants as variant
 use Rattle.tokens.specs.declared.located_tokens.LocatedToken.{LocatedToken}
 use Rattle.tokens.specs.declared.windows.Beyond.{Beyond}
-use Rattle.tokens.proofs.LocatedTokensLemmas.{located_tokens-input_element, here}
+use Rattle.tokens.proofs.LocatedTokensLemmas.{located_tokens-input_element, here, with_bytes}
 use Rattle.tokens.proofs.WindowLemmas.{held}
 use Rattle.tokens.proofs.ToRead.{to_read-here, to_read-pass, first-ahead, none-ahead}
 
@@ -116,10 +116,8 @@ pub token_span-goes_on : (test : ℕ → Bool) (token_of : List ℕ → Token) (
     (a : UnreadSource) (rest : List ℕ) → a.bytes ≡ b ∷ rest →
     in_token_span test (λ more. token_of (b ∷ more)) (ahead_after_byte a) ≡ in_token_span test token_of a
 token_span-goes_on test token_of b passes no_line a rest e =
-    subst
-    (λ (xs : List ℕ). in_token_span test (λ more. token_of (b ∷ more))
-    (ahead_after_byte (here a.line a.offset xs a.too_long)) ≡
-    in_token_span test token_of (here a.line a.offset xs a.too_long)) (sym e)
+    with_bytes
+    (λ a. in_token_span test (λ more. token_of (b ∷ more)) (ahead_after_byte a) ≡ in_token_span test token_of a) a _ e
     (token_span-goes_on-here test token_of a.line a.offset b rest a.too_long passes no_line)
 
 -- a span ends
@@ -267,9 +265,7 @@ pub punctuator_element-grows : (old longer : Punctuator) (b : ℕ) →
     (a : UnreadSource) (rest : List ℕ) → a.bytes ≡ b ∷ rest →
     in_punctuator longer (ahead_after_byte a) ≡ in_punctuator old a
 punctuator_element-grows old longer b h a rest e =
-    subst
-    (λ (xs : List ℕ). in_punctuator longer (ahead_after_byte (here a.line a.offset xs a.too_long)) ≡
-    in_punctuator old (here a.line a.offset xs a.too_long)) (sym e)
+    with_bytes (λ a. in_punctuator longer (ahead_after_byte a) ≡ in_punctuator old a) a _ e
     (punctuator_element-grows-here old longer a.line a.offset b rest a.too_long h)
 
 punctuator_element-ends-none : (old : Punctuator) (a : UnreadSource) → a.bytes ≡ [] →

@@ -48,7 +48,10 @@ fn add_row(
     let mut row = Draft::new(rows.alloc());
     write!(row, "{:>7}", part.line);
     add_taken(&mut row, taken);
-    let name = subject.noted.note.function_name(usize::from(part.number));
+    let name = subject
+        .noted
+        .named()
+        .function_name(usize::from(part.number));
     write!(row, "  {:<11} a {what} of {name}", proved.finish()?);
     let width = subject.columns.saturating_sub(1);
     writeln!(rows, "{:.width$}", row.finish()?);

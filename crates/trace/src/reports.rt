@@ -236,7 +236,7 @@ fn add_functions(text: &mut Draft, subject: &Subject<'_>) -> Result<(), AllocErr
     let counts = cycles_by_function(text.alloc(), subject)?;
     let (all, functions) = (subject.tally.cycles(), counts.len());
     for (number, cycles) in &largest_first(counts, functions)? {
-        let name = subject.noted.note.function_name(*number);
+        let name = subject.noted.named().function_name(*number);
         let share = percent(*cycles, all);
         write!(items.begin(), "{cycles} {name} ({share}%)");
     }
@@ -248,7 +248,11 @@ pub fn cycles_by_function(alloc: Global, subject: &Subject<'_>) -> Result<Vec<u6
     let noted = subject.noted;
     let mut counts = vec![in alloc; 0; noted.program.addresses().len()]?;
     for (address, spot) in subject.tally.spots.iter().enumerate() {
-        add(counts.as_mut_slice(), noted.function(address), spot.cycles);
+        add(
+            counts.as_mut_slice(),
+            noted.named().function(address),
+            spot.cycles,
+        );
     }
     Ok(counts)
 }
@@ -278,7 +282,7 @@ fn cycles_by_line(
     let mut lines = Vec::new(alloc);
     let mut counts = Vec::new(alloc);
     for (address, spot) in tally.spots.iter().enumerate() {
-        let line = note.line(address);
+        let line = note.positions.line(address);
         let n = position(lines.as_slice(), line);
         if n == lines.len() {
             lines.push(line)?;

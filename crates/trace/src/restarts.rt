@@ -90,7 +90,8 @@ fn position_and_cause(address: usize, subject: &Subject<'_>) -> (u32, usize, Opt
         None => None,
     };
     let noted = subject.noted;
-    (noted.note.line(address), noted.function(address), cause)
+    let function = noted.named().function(address);
+    (noted.note.positions.line(address), function, cause)
 }
 
 /// Adds the given number of restarts at an address, and how many of the open calls were from one line.
@@ -107,7 +108,7 @@ fn add_restart(item: &mut Draft, address: usize, count: u64, subject: &Subject<'
     };
     write!(item, "{count} in line {line} of {function}: {reason}");
     if let Some(crowd) = spot.crowd {
-        let line = subject.noted.note.line(crowd.address);
+        let line = subject.noted.note.positions.line(crowd.address);
         write!(item, ", {} {from} line {line}", crowd.calls);
     }
 }

@@ -109,7 +109,7 @@ fn add_functions(text: &mut Draft, subject: &Subject<'_>, counts: &[u64]) {
     let mut array = Array::begin(text);
     for (number, cycles) in counts.iter().enumerate() {
         let mut object = Object::begin(array.item());
-        object.words("name", subject.noted.note.function_name(number));
+        object.words("name", subject.noted.named().function_name(number));
         object.number("cycles", *cycles);
         object.end();
     }

@@ -116,8 +116,9 @@ impl Robot<'_> {
         match variable {
             Variable::External(_) => true,
             Variable::Local(function, _) => {
-                self.noted.function(self.address) == function
-                    && self.noted.function(machine.address()) == function
+                let named = self.noted.named();
+                named.function(self.address) == function
+                    && named.function(machine.address()) == function
                     && machine.home() == self.home
             }
         }

@@ -20,21 +20,10 @@ none_more H after count none here n behind within happens = elim (cases_eq n cou
   | inr other ↦ none n behind (omega (arith, within, other)) happens
 ]
 
--- the next cycle is found, or the match is over
-pub next_found : (H : ℕ → Type 0) (after count last cycle : ℕ) → NoneIn H after count → after < cycle
-    → cycle ≡ count + 1 → count < last → H count → IsNext H after last (Some cycle)
-next_found H after count last cycle none behind is within happens =
-    (count, is, omega (arith, behind, is), within, happens, none)
-
+-- the match is over
 pub next_none : (H : ℕ → Type 0) (after count last : ℕ) → NoneIn H after count → last ≤ count → IsNext H after last None
 next_none H after count last none over n behind within happens =
     none n behind (omega (arith, over, within)) happens
-
-pub found_next : (H : ℕ → Type 0) (n after last : ℕ) (found : Option ℕ) → IsFound H n after found
-    → is_some found ≡ true → NoneIn H after n → n < last → IsNext H after last found
-found_next H n after last None is some none within = absurd (cc)
-found_next H n after last (Some cycle) (here, behind, happens) some none within =
-    next_found H after n last cycle none behind here within happens
 
 pub found_none : (H : ℕ → Type 0) (n after : ℕ) (found : Option ℕ) → IsFound H n after found
     → is_some found ≡ false → NoneIn H after n → NoneIn H after (n + 1)

@@ -15,6 +15,8 @@ use Rattle.watching.specs.Pilot.{Pilot}
 use Rattle.watching.specs.declared.sought.Glance.{Glance}
 use Rattle.watching.specs.declared.sought.Sought.{Sought}
 use Rattle.watching.specs.declared.sought.Sought.TheVariants.{Address, Question, Restart, Hurt, Hit, Change, Value, LocalChange, LocalValue}
+use Rattle.watching.specs.declared.searches.SoughtCycle.{SoughtCycle}
+use Rattle.watching.specs.declared.searches.SoughtCycle.TheVariants.{After, Before}
 use Rattle.watching.specs.Hits.{hits}
 use Rattle.watching.specs.Moments.{last_of, replies_of, wanted}
 
@@ -71,6 +73,11 @@ abbrev pub IsLast : (ℕ → Type 0) → (limit last : ℕ) → Option ℕ → T
 IsLast H limit last None = (n : ℕ) → n + 1 < limit → n < last → H n → ⊥
 IsLast H limit last (Some cycle) = (before : ℕ) × (cycle ≡ before + 1) × (cycle < limit) × (before < last) × H before
     × ((n : ℕ) → before < n → n + 1 < limit → n < last → H n → ⊥)
+
+-- the one of both that is looked for
+abbrev pub IsSoughtCycle : SoughtCycle → (ℕ → Type 0) → (last : ℕ) → Option ℕ → Type 0
+IsSoughtCycle (After cycle) H last found = IsNext H cycle last found
+IsSoughtCycle (Before cycle) H last found = IsLast H cycle last found
 
 -- it happens in the cycle after n, which is later than another one, or isn't found there
 abbrev pub IsFound : (ℕ → Type 0) → (n after : ℕ) → Option ℕ → Type 0

@@ -1,6 +1,6 @@
-//! The largest of some counts, and the function of an address.
+//! The largest of some counts.
 
-ghost use Rattle.std.specs.Prelude.{◌≡◌, ℕ, ◌<◌, ◌≤◌, ◌⊎◌, ◌↔◌, IfSome, IsTrue, None, length, slice_index};
+ghost use Rattle.std.specs.Prelude.{◌≡◌, ℕ, ◌<◌, ◌≤◌, IfSome, None, length, slice_index};
 
 /// Returns which count is the largest, the first of several: none if all are 0.
 pub fn largest(counts: &[u64]) -> Option<usize>
@@ -32,34 +32,4 @@ fn greatest(counts: &[u64]) -> usize
         }
     }
     found
-}
-
-/// Returns the number of the function that holds an address: of those that begin there or before, the last. The
-/// functions begin at these addresses.
-pub fn function_at(addresses: &[u16], address: usize) -> usize
-    ensures inside { 0 < length addresses.now → result < length addresses.now }
-    ensures before { (k : ℕ) → k < length addresses.now → slice_index addresses.now k ≤ address
-        → slice_index addresses.now result ≤ address }
-    ensures last { (k : ℕ) → k < length addresses.now → slice_index addresses.now k ≤ address
-        → slice_index addresses.now k ≤ slice_index addresses.now result }
-{
-    let mut found = 0;
-    for k in 0..addresses.len() {
-        if is_nearer(
-            usize::from(addresses[k]),
-            usize::from(addresses[found]),
-            address,
-        ) {
-            found = k;
-        }
-    }
-    found
-}
-
-/// Reports whether a function that begins at `begin` is nearer to an address than another one: it begins there or
-/// before, and the other one begins earlier, or after the address.
-fn is_nearer(begin: usize, other: usize, address: usize) -> bool
-    ensures { IsTrue result ↔ ((begin ≤ address) × ((other < begin) ⊎ (address < other))) }
-{
-    begin <= address && (other < begin || address < other)
 }

@@ -47,7 +47,7 @@ mod directions;
 mod shares;
 mod streaks;
 
-pub use counts::{function_at, largest};
+pub use counts::largest;
 pub use directions::{DIRECTION_DEGREES, DIRECTIONS, direction_of};
 pub use shares::{Purpose, Shares, percent, purpose_of};
 pub use streaks::{Call, Streak};
@@ -61,5 +61,5 @@ mod sought;
 
 pub use asked::Asked;
 pub use moment::{Moment, moment_at};
-pub use searches::{next_cycle, previous_cycle};
+pub use searches::{SoughtCycle, sought_cycle};
 pub use sought::{Sought, happens};

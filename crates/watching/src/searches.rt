@@ -6,7 +6,7 @@ ghost use Rattle.battles.specs.Carrying.{AreRobotsOf};
 ghost use Rattle.code.specs.Generation.{Program};
 ghost use Rattle.watching.specs.Games.{GoesOn, HasCome};
 ghost use Rattle.watching.specs.Played.{codes_of, exes_of};
-ghost use Rattle.watching.specs.Searches.{Happens, IsFound, IsLast, IsNext};
+ghost use Rattle.watching.specs.Searches.{Happens, IsFound, IsLast, IsNext, IsSoughtCycle};
 
 use crate::games::Game;
 use crate::pilot::Pilot;
@@ -14,37 +14,22 @@ use crate::sought::{Sought, happens};
 use arena::MOST_ROBOTS;
 use settings::MOST_CYCLES;
 
-/// Returns the first cycle later than `after` in which what is sought happens to a robot, in the match of this number
-/// and seed of at most `limit` cycles. `None` if it happens in none.
-pub fn next_cycle(
-    pilots: &mut [Pilot<'_>],
-    robot: usize,
-    sought: &Sought<'_>,
-    after: u32,
-    seed: u64,
-    number: u32,
-    limit: u32,
-) -> Option<u32>
-    requires some { 2 ≤ length pilots.old }
-    requires most { length pilots.old ≤ MOST_ROBOTS }
-    requires limit { limit ≤ MOST_CYCLES }
-    requires inside { robot < length pilots.old }
-    ensures next { (robots : List Behaviour) (code : Program) → AreRobotsOf (exes_of (codes_of pilots.old)) robots
-        → slice_get (codes_of pilots.old) robot ≡ Some code → IsNext (Happens robots code
-        (first_state (length robots) seed number) robot sought.now) after
-        (last_cycle robots (first_state (length robots) seed number) limit) result }
-{
-    let mut game = Game::new(pilots, seed, number, limit);
-    next_in(&mut game, pilots, robot, sought, after, limit)
+/// Which of the cycles is looked for in which something happens.
+#[derive(Clone, Copy)]
+pub enum SoughtCycle {
+    /// The first one later than this cycle.
+    After(u32),
+    /// The last one before this cycle.
+    Before(u32),
 }
 
-/// Returns the last cycle before `before` in which what is sought happens to a robot, in the match of this number and
-/// seed of at most `limit` cycles. `None` if it happens in none.
-pub fn previous_cycle(
+/// Returns the cycle that is looked for, of those in which what is sought happens to a robot, in the match of this number
+/// and seed of at most `limit` cycles. `None` if there is none.
+pub fn sought_cycle(
     pilots: &mut [Pilot<'_>],
     robot: usize,
     sought: &Sought<'_>,
-    before: u32,
+    which: SoughtCycle,
     seed: u64,
     number: u32,
     limit: u32,
@@ -53,13 +38,16 @@ pub fn previous_cycle(
     requires most { length pilots.old ≤ MOST_ROBOTS }
     requires limit { limit ≤ MOST_CYCLES }
     requires inside { robot < length pilots.old }
-    ensures last { (robots : List Behaviour) (code : Program) → AreRobotsOf (exes_of (codes_of pilots.old)) robots
-        → slice_get (codes_of pilots.old) robot ≡ Some code → IsLast (Happens robots code
-        (first_state (length robots) seed number) robot sought.now) before
+    ensures { (robots : List Behaviour) (code : Program) → AreRobotsOf (exes_of (codes_of pilots.old)) robots
+        → slice_get (codes_of pilots.old) robot ≡ Some code → IsSoughtCycle which (Happens robots code
+        (first_state (length robots) seed number) robot sought.now)
         (last_cycle robots (first_state (length robots) seed number) limit) result }
 {
     let mut game = Game::new(pilots, seed, number, limit);
-    last_in(&mut game, pilots, robot, sought, before)
+    match which {
+        SoughtCycle::After(cycle) => next_in(&mut game, pilots, robot, sought, cycle, limit),
+        SoughtCycle::Before(cycle) => last_in(&mut game, pilots, robot, sought, cycle),
+    }
 }
 
 /// Plays a match that has begun on to the first cycle later than `after` in which what is sought happens, and returns

@@ -17,42 +17,19 @@ abbrev robot_at_place : ℤ × ℤ → FieldRobot
 robot_at_place place = robot_at_rest (clamped last_place place.0) (clamped last_place place.1)
 
 -- the place that is read
-given : (places items : List (ℤ × ℤ)) (i : ℕ) → items ≡ places → All IsPlace places → i < length items →
+given : {places items : List (ℤ × ℤ)} (i : ℕ) → items ≡ places → All IsPlace places → i < length items →
     IsPlace (get_or items i (pos 0, pos 0))
-given places items i e all inside =
-    let P = λ (l : List (ℤ × ℤ)). All IsPlace l in subst P (sym e) all i (pos 0, pos 0) inside
+given i e all inside = subst (λ (l : List (ℤ × ℤ)). All IsPlace l) (sym e) all i (pos 0, pos 0) inside
 
-pub coordinate-requires-clause-least : goal.coordinate-requires-clause-least
-coordinate-requires-clause-least c =
-    let items = c.as_slice-place-items.result.now in
-    let i = c.loop-place.place-index in
-    let is =
-    given c.args.places.now.items items i c.as_slice-place-items.ensures.value c.requires c.loop-place-test.true in
-    rw (coordinate_back (get_or items i (pos 0, pos 0)).0 is.0 is.1) is.0
+pub coordinate-requires : goal.coordinate-requires
+coordinate-requires c =
+    let is = given c.loop-place.place-index c.as_slice-place-items.ensures.value c.requires c.loop-place-test.true in
+    record { least = rw (coordinate_back _ is.0 is.1) is.0; most = rw (coordinate_back _ is.0 is.1) is.1 }
 
-pub coordinate-requires-clause-most : goal.coordinate-requires-clause-most
-coordinate-requires-clause-most c =
-    let items = c.as_slice-place-items.result.now in
-    let i = c.loop-place.place-index in
-    let is =
-    given c.args.places.now.items items i c.as_slice-place-items.ensures.value c.requires c.loop-place-test.true in
-    rw (coordinate_back (get_or items i (pos 0, pos 0)).0 is.0 is.1) is.1
-
-pub coordinate-requires-in-loop-place-clause-least : goal.coordinate-requires-in-loop-place-clause-least
-coordinate-requires-in-loop-place-clause-least c =
-    let items = c.as_slice-place-items.result.now in
-    let i = c.loop-place.place-index in
-    let is =
-    given c.args.places.now.items items i c.as_slice-place-items.ensures.value c.requires c.loop-place-test.true in
-    rw (coordinate_back (get_or items i (pos 0, pos 0)).1 is.2 is.3) is.2
-
-pub coordinate-requires-in-loop-place-clause-most : goal.coordinate-requires-in-loop-place-clause-most
-coordinate-requires-in-loop-place-clause-most c =
-    let items = c.as_slice-place-items.result.now in
-    let i = c.loop-place.place-index in
-    let is =
-    given c.args.places.now.items items i c.as_slice-place-items.ensures.value c.requires c.loop-place-test.true in
-    rw (coordinate_back (get_or items i (pos 0, pos 0)).1 is.2 is.3) is.3
+pub coordinate-requires-in-loop-place : goal.coordinate-requires-in-loop-place
+coordinate-requires-in-loop-place c =
+    let is = given c.loop-place.place-index c.as_slice-place-items.ensures.value c.requires c.loop-place-test.true in
+    record { least = rw (coordinate_back _ is.2 is.3) is.2; most = rw (coordinate_back _ is.2 is.3) is.3 }
 
 pub loop-place-preserved : goal.loop-place-preserved
 loop-place-preserved c = record {

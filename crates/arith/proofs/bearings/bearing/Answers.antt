@@ -1,29 +1,36 @@
 -- Each turn rules a chunk out, or finds the bearing in it.
-use Rattle.std.proofs.Common.{◌*◌, ◌+◌, FitsSigned, rules, arith}
+use Rattle.std.proofs.Common.{◌*◌, ◌+◌, ◌<◌, ◌<ℤ◌, ℕ, FitsSigned, rules, arith}
 use Rattle.std.specs.Int.{w32}
 use Rattle.std.proofs.lemmas.Int.{to_z-of_z}
 use Rattle.arith.specs.Bearing.{projection_of, projections}
 use Rattle.arith.specs.Furthest.{IsGreatest}
 use Rattle.arith.proofs.BearingLemmas.{IsFirstGreatest, first_of_chunk, none_in_chunk, some_reaches, bearing_is_first, bearing_of_is_first}
+use Rattle.arith.proofs.bearings.bearing.Goals.{At-loop-chunk}
 use Rattle.arith.proofs.bearings.bearing.Goals as goal
 
 -- the numbers that the calls were given are those of the caller
+so_far : (c : At-loop-chunk) →
+    IsGreatest (projections c.args.dx c.args.dy) c.greatest_projection-furthest.result ×
+    ((degree : ℕ) → degree < 8 * c.loop-chunk.chunk →
+    projection_of c.args.dx c.args.dy degree <ℤ c.greatest_projection-furthest.result)
+so_far c =
+    let most = c.greatest_projection-furthest.result in
+    let fits : FitsSigned w32 most = search (rules, c.greatest_projection-furthest.type_inv) in (
+      rw (to_z-of_z w32 c.args.dx c.ranges.dx, to_z-of_z w32 c.args.dy c.ranges.dy) at
+          c.greatest_projection-furthest.ensures,
+      rw (to_z-of_z w32 c.args.dx c.ranges.dx, to_z-of_z w32 c.args.dy c.ranges.dy, to_z-of_z w32 most fits) at
+          c.loop-chunk.invariant,
+    )
+
 found : (c : goal.In-Some) →
     IsFirstGreatest (projection_of c.args.dx c.args.dy) 360 (8 * c.loop-chunk.chunk + c.in-Some.lane)
 found c =
     let most = c.greatest_projection-furthest.result in
     let fits : FitsSigned w32 most = search (rules, c.greatest_projection-furthest.type_inv) in
-    let is : IsGreatest (projections c.args.dx c.args.dy) most =
-    rw (to_z-of_z w32 c.args.dx c.ranges.dx, to_z-of_z w32 c.args.dy c.ranges.dy) at
-    c.greatest_projection-furthest.ensures
-    in
-    let before =
-    rw (to_z-of_z w32 c.args.dx c.ranges.dx, to_z-of_z w32 c.args.dy c.ranges.dy, to_z-of_z w32 most fits) at
-    c.loop-chunk.invariant in
-    let lane =
-    rw (to_z-of_z w32 c.args.dx c.ranges.dx, to_z-of_z w32 c.args.dy c.ranges.dy, to_z-of_z w32 most fits) at
-    c.in-Some.ensures in
-    first_of_chunk c.args.dx c.args.dy most c.loop-chunk.chunk c.in-Some.lane c.loop-chunk-test.true is before lane
+    let so = so_far (goal.at.overflow_add-result c).At-loop-chunk in
+    first_of_chunk c.args.dx c.args.dy most c.loop-chunk.chunk c.in-Some.lane c.loop-chunk-test.true so.0 so.1
+    (rw (to_z-of_z w32 c.args.dx c.ranges.dx, to_z-of_z w32 c.args.dy c.ranges.dy, to_z-of_z w32 most fits) at
+    c.in-Some.ensures)
 
 pub overflow_add-result : goal.overflow_add-result
 overflow_add-result c = let within = (found c).within in search (rules, within)
@@ -40,32 +47,18 @@ pub loop-chunk-preserved : goal.loop-chunk-preserved
 loop-chunk-preserved c =
     let most = c.greatest_projection-furthest.result in
     let fits : FitsSigned w32 most = search (rules, c.greatest_projection-furthest.type_inv) in
-    let is : IsGreatest (projections c.args.dx c.args.dy) most =
-    rw (to_z-of_z w32 c.args.dx c.ranges.dx, to_z-of_z w32 c.args.dy c.ranges.dy) at
-    c.greatest_projection-furthest.ensures
-    in
-    let before =
-    rw (to_z-of_z w32 c.args.dx c.ranges.dx, to_z-of_z w32 c.args.dy c.ranges.dy, to_z-of_z w32 most fits) at
-    c.loop-chunk.invariant in
+    let so = so_far (goal.at.loop-chunk-preserved c).At-loop-chunk in
     let none =
     rw (to_z-of_z w32 c.args.dx c.ranges.dx, to_z-of_z w32 c.args.dy c.ranges.dy, to_z-of_z w32 most fits) at
     c.in_default.ensures in
     rw (to_z-of_z w32 c.args.dx c.ranges.dx, to_z-of_z w32 c.args.dy c.ranges.dy, to_z-of_z w32 most fits)
-    (none_in_chunk c.args.dx c.args.dy most c.loop-chunk.chunk c.loop-chunk-test.true is before none)
+    (none_in_chunk c.args.dx c.args.dy most c.loop-chunk.chunk c.loop-chunk-test.true so.0 so.1 none)
 
 -- the last chunk ends the round
 past_all : (c : goal.After-loop-chunk) → ⊥
 past_all c =
-    let most = c.greatest_projection-furthest.result in
-    let fits : FitsSigned w32 most = search (rules, c.greatest_projection-furthest.type_inv) in
-    let is : IsGreatest (projections c.args.dx c.args.dy) most =
-    rw (to_z-of_z w32 c.args.dx c.ranges.dx, to_z-of_z w32 c.args.dy c.ranges.dy) at
-    c.greatest_projection-furthest.ensures
-    in
-    let before =
-    rw (to_z-of_z w32 c.args.dx c.ranges.dx, to_z-of_z w32 c.args.dy c.ranges.dy, to_z-of_z w32 most fits) at
-    c.loop-chunk.invariant in
-    some_reaches c.args.dx c.args.dy most is (λ degree l. before degree (omega arith))
+    let so = so_far (goal.at.returns-clause-furthest c).At-loop-chunk in
+    some_reaches c.args.dx c.args.dy c.greatest_projection-furthest.result so.0 (λ degree l. so.1 degree (omega arith))
 
 pub returns-clause-furthest : goal.returns-clause-furthest
 returns-clause-furthest c = absurd (past_all c)

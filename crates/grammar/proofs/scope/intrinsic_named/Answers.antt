@@ -19,30 +19,14 @@ or_two true b i j = refl
 or_two false true i j = refl
 or_two false false i j = refl
 
--- names that begin with one byte
-with_c : (name : List ℕ) → slice_get name 0 ≡ Some 99 →
-    option_or (named name Cannon) (named name Cos) ≡ intrinsic_named name
-unfolding intrinsic_named intrinsic_name
-with_c [] h = absurd (cc)
-with_c (x ∷ xs) h =
-    let e : x ≡ 99 = cc in
-    rw e (or_two (bytes_eq (99 ∷ xs) (codes "cannon")) (bytes_eq (99 ∷ xs) (codes "cos")) Cannon Cos)
-
-with_d : (name : List ℕ) → slice_get name 0 ≡ Some 100 →
-    option_or (named name Drive) (named name Damage) ≡ intrinsic_named name
-unfolding intrinsic_named intrinsic_name
-with_d [] h = absurd (cc)
-with_d (x ∷ xs) h =
-    let e : x ≡ 100 = cc in
-    rw e (or_two (bytes_eq (100 ∷ xs) (codes "drive")) (bytes_eq (100 ∷ xs) (codes "damage")) Drive Damage)
-
-with_l : (name : List ℕ) → slice_get name 0 ≡ Some 108 →
-    option_or (named name LocX) (named name LocY) ≡ intrinsic_named name
-unfolding intrinsic_named intrinsic_name
-with_l [] h = absurd (cc)
-with_l (x ∷ xs) h =
-    let e : x ≡ 108 = cc in
-    rw e (or_two (bytes_eq (108 ∷ xs) (codes "loc_x")) (bytes_eq (108 ∷ xs) (codes "loc_y")) LocX LocY)
+-- names that begin with one byte, with which two functions begin
+with_two : (first : ℕ) (i j : Intrinsic) →
+    ((xs : List ℕ) → intrinsic_named (first ∷ xs) ≡
+    cond (bytes_eq (first ∷ xs) (intrinsic_name i)) (Some i)
+    (cond (bytes_eq (first ∷ xs) (intrinsic_name j)) (Some j) None)) →
+    (name : List ℕ) → slice_get name 0 ≡ Some first → option_or (named name i) (named name j) ≡ intrinsic_named name
+with_two first i j is [] h = absurd (cc)
+with_two first i j is (x ∷ xs) h = let e : x ≡ first = cc in rw (e, is xs) (or_two _ _ i j)
 
 with_s : (name : List ℕ) → slice_get name 0 ≡ Some 115
     →
@@ -66,27 +50,25 @@ with_s (x ∷ xs) h = let e : x ≡ 115 = cc in rw e
     by false false false false = refl
 
 pub returns-in-99 : goal.returns-in-99
+unfolding intrinsic_named intrinsic_name
 returns-in-99 c =
-    c.or.ensures ∙ ap₂ option_or c.if_named-in-99.ensures c.if_named-in-99-2.ensures ∙ with_c c.args.name.now first
-  where
-    first : slice_get c.args.name.now 0 ≡ Some 99
-    first = cc (c.in_ok-first.ensures.value, c.as_bytes.ensures.value, c.in-99.is)
+    c.or.ensures ∙ ap₂ option_or c.if_named-in-99.ensures c.if_named-in-99-2.ensures ∙
+    with_two 99 Cannon Cos (λ xs. refl)
+    c.args.name.now (cc (c.in_ok-first.ensures.value, c.as_bytes.ensures.value, c.in-99.is))
 
 pub returns-in-100 : goal.returns-in-100
+unfolding intrinsic_named intrinsic_name
 returns-in-100 c =
     c.or-in-100.ensures ∙ ap₂ option_or c.if_named-in-100.ensures c.if_named-in-100-2.ensures ∙
-    with_d c.args.name.now first
-  where
-    first : slice_get c.args.name.now 0 ≡ Some 100
-    first = cc (c.in_ok-first.ensures.value, c.as_bytes.ensures.value, c.in-100.is)
+    with_two 100 Drive Damage (λ xs. refl)
+    c.args.name.now (cc (c.in_ok-first.ensures.value, c.as_bytes.ensures.value, c.in-100.is))
 
 pub returns-in-108 : goal.returns-in-108
+unfolding intrinsic_named intrinsic_name
 returns-in-108 c =
     c.or-in-108.ensures ∙ ap₂ option_or c.if_named-in-108.ensures c.if_named-in-108-2.ensures ∙
-    with_l c.args.name.now first
-  where
-    first : slice_get c.args.name.now 0 ≡ Some 108
-    first = cc (c.in_ok-first.ensures.value, c.as_bytes.ensures.value, c.in-108.is)
+    with_two 108 LocX LocY (λ xs. refl)
+    c.args.name.now (cc (c.in_ok-first.ensures.value, c.as_bytes.ensures.value, c.in-108.is))
 
 pub returns-in-115 : goal.returns-in-115
 returns-in-115 c = c.or-in-115-3.ensures

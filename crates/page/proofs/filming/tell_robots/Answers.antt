@@ -1,4 +1,4 @@
-use Rattle.std.proofs.Common.{List, Ok, Err, Some, refl}
+use Rattle.std.proofs.Common.{List, Ok, Err, Some, inl, refl}
 use Rattle.series.specs.Compiling.{SourceFile}
 use Rattle.series.specs.CompiledFiles.{CompilesAll}
 use Rattle.series.specs.Pieces.{Taken}
@@ -12,8 +12,8 @@ use Rattle.page.proofs.FilmLemmas.{codes_good, has_compiled, has_shown}
 use Rattle.page.proofs.RunningLemmas.{by_robots, only_full}
 use Rattle.page.proofs.filming.tell_robots.Goals as goal
 
-pub returns-in-Ok-Done : goal.returns-in-Ok-Done
-returns-in-Ok-Done c =
+pub returns-else-is_full : goal.returns-else-is_full
+returns-else-is_full c =
     let order = c.args.order.now in
     let robots = c.args.robots.now in
     let programs = c.compile_all.new.keeper.programs.items in
@@ -26,13 +26,17 @@ returns-in-Ok-Done c =
     (rw c.as_mut_slice.ensures.value c.feeds_of-feeds.ensures.bytes)
     c.clear.ensures.text c.clear-2.ensures.text
     (λ sources are. rw c.in-Ok-Done.field-0-is at (c.in-Ok-Done.ensures.over.output sources are)) in
-    has_shown order robots (stretch_in c.args.subject.now) c.tell.result c.tell.new.sheet c.compile_all.new.err
+    has_shown order robots (stretch_in c.args.subject.now) c.tell_subject-ending.result c.tell_subject-ending.new.sheet
+    c.compile_all.new.err
     (has_compiled order robots status.Done c.compile_all.new.out c.compile_all.new.err (c.in-Some.ensures.refused refl)
     made.output)
-    c.tell.ensures.may_end c.tell.ensures.full c.tell.ensures.room
+    c.tell_subject-ending.ensures.may_end c.tell_subject-ending.ensures.full (c.is_full.ensures.room c.if-is_full.false)
     (λ files good.
     let are = codes_good c.resolved_files.ensures order robots programs files made.programs good in
-    rw c.in-Some.ensures.value at (c.tell.ensures.shows files (rw c.in-Some.ensures.value are)))
+    rw c.in-Some.ensures.value at (c.tell_subject-ending.ensures.shows files (rw c.in-Some.ensures.value are)))
+
+pub returns-then-is_full : goal.returns-then-is_full
+returns-then-is_full c = (c.in-Some.ensures.refused refl, inl (c.is_full.ensures.full c.if-is_full.true))
 
 pub returns-in-Ok-Faulty : goal.returns-in-Ok-Faulty
 returns-in-Ok-Faulty c =

@@ -1,9 +1,7 @@
 use Rattle.std.proofs.Common.{◌≤◌, List, ap, subst, sym, ◌∙◌, length, arith}
-use Rattle.std.specs.List.{All}
 use Rattle.arena.specs.Arena.{Missile}
 use Rattle.arena.specs.Still.{NoBurstBefore}
-use Rattle.arena.specs.Representing.{HoldsShots}
-use Rattle.arena.proofs.Represents.{refill_is}
+use Rattle.arena.proofs.Represents.{refill_is, refill_same}
 use Rattle.arena.proofs.SlotLaws.{sooner_all}
 use Rattle.arena.proofs.missiles.Missiles.fire.Goals as goal
 
@@ -22,12 +20,8 @@ invariant_of-self c =
 
 pub returns-clause-shots : goal.returns-clause-shots
 returns-clause-shots c = λ updates shots flies holds.
-    let len = c.fire_from_slot.auto.slots ∙ ap length c.as_mut_slice.ensures.value in
-    let held : HoldsShots updates c.as_mut_slice.result.now shots =
-    subst (λ (slots : List (List Missile)). HoldsShots updates slots shots)
-    (sym (c.as_mut_slice.ensures.value ∙ c.self.view_is)) holds in
-    rw (refill_is c.self.inside.slots.items c.fire_from_slot.new.slots len)
-    (c.fire_from_slot.ensures.shots updates shots flies held)
+    rw (refill_same c.fire_from_slot.auto.slots c.as_mut_slice.ensures.value)
+    (c.fire_from_slot.ensures.shots updates shots flies (rw (c.as_mut_slice.ensures.value ∙ c.self.view_is) holds))
 
 pub fire_from_slot-requires-clause-inside : goal.fire_from_slot-requires-clause-inside
 fire_from_slot-requires-clause-inside c =
@@ -40,12 +34,10 @@ fire_from_slot-requires-clause-free c = rw (c.as_mut_slice.ensures.value ∙ c.s
 
 pub returns-clause-two : goal.returns-clause-two
 returns-clause-two c = λ two.
-    let len = c.fire_from_slot.auto.slots ∙ ap length c.as_mut_slice.ensures.value in
-    let P : List (List Missile) → Type 0 = λ slots. All (λ (own : List Missile). length own ≤ 2) slots in
-    rw (refill_is c.self.inside.slots.items c.fire_from_slot.new.slots len)
-    (c.fire_from_slot.ensures.two (subst P (sym (c.as_mut_slice.ensures.value ∙ c.self.view_is)) two))
+    rw (refill_same c.fire_from_slot.auto.slots c.as_mut_slice.ensures.value)
+    (c.fire_from_slot.ensures.two (rw (c.as_mut_slice.ensures.value ∙ c.self.view_is) two))
 
 pub returns-clause-count : goal.returns-clause-count
 returns-clause-count c =
-    let len = c.fire_from_slot.auto.slots ∙ ap length c.as_mut_slice.ensures.value in
-    rw (refill_is c.self.inside.slots.items c.fire_from_slot.new.slots len) (len ∙ ap length c.self.view_is)
+    rw (refill_same c.fire_from_slot.auto.slots c.as_mut_slice.ensures.value)
+    (c.fire_from_slot.auto.slots ∙ ap length (c.as_mut_slice.ensures.value ∙ c.self.view_is))

@@ -1,13 +1,14 @@
 use Rattle.std.proofs.Common.{◌≡◌, ◌+◌, ◌-◌, ◌≤◌, ◌++◌, refl, true, false, arith}
 use Rattle.tokens.specs.declared.located_tokens.Punctuator.TheVariants as punctuator
-use Rattle.grammar.specs.Grammar.{AddArgument, is_punctuator}
+use Rattle.grammar.specs.Grammar.{AddArgument, Exactly, is_punctuator}
 use Rattle.grammar.specs.Faults.{nested_count}
+use Rattle.parser.specs.declared.frames.TheConstants.{UNARY_LEVEL}
 use Rattle.parser.specs.Automata.{all_tails, stack_of}
 use Rattle.parser.specs.ScopedCursors.{token_of}
 use Rattle.parser.proofs.Passing.{passed_on}
 use Rattle.parser.proofs.AutomatonLaws.{awaits, closes, comes_to, has_room, moves_from, nested_tails}
 use Rattle.parser.proofs.OperandSteps.{last_argument_path, next_argument_path}
-use Rattle.parser.proofs.PathLaws.{made, punctuator_falls, punctuator_past}
+use Rattle.parser.proofs.PathLaws.{made, token_falls, token_past}
 use Rattle.parser.proofs.TreeLaws.{done_at, has_call, has_expr, on_both, valued}
 use Rattle.parser.proofs.automaton.Automaton.argument.Goals as goal
 
@@ -44,7 +45,7 @@ returns-in_err-advance-clause-moves g c =
     rw (passed_on c.from_residual.result c.from_residual.ensures.1) (λ o h.
     let x = has_expr _ h.values (done_at 0 h.fits h.fits.takes.0).1 in
     let y = has_call c.args.callee _ x.rest x.below in
-    punctuator_falls punctuator.Comma is h.told c.in_err-advance.ensures.kept c.in_err-advance.ensures.consumes
+    token_falls (Exactly punctuator.Comma) is h.told c.in_err-advance.ensures.kept c.in_err-advance.ensures.consumes
     (next_argument_path is (made AddArgument tt (valued (on_both x.is y.is) h.path))))
 
 pub push-requires : goal.push-requires
@@ -53,8 +54,7 @@ push-requires g c =
     has_room _ c.args.floor h.fits.takes.2 h.fits.takes.3
     (let few : nested_count (all_tails c.args.floor ++ stack_of c.args.self.now.frames) + 1 ≡ c.args.self.now.depth =
     h.depth in
-    let most : c.args.self.now.depth ≤ 64 = h.few in
-    omega (arith, few, most, nested_tails (11 - c.args.floor) c.args.floor (stack_of c.args.self.now.frames)))
+    omega (arith, few, h.few, nested_tails (UNARY_LEVEL - c.args.floor) c.args.floor (stack_of c.args.self.now.frames)))
 
 pub returns-clause-moves : goal.returns-clause-moves
 returns-clause-moves g c =
@@ -63,6 +63,6 @@ returns-clause-moves g c =
     let x = has_expr _ h.values (done_at 0 h.fits h.fits.takes.0).1 in
     let y = has_call c.args.callee _ x.rest x.below in
     rw c.push.ensures (comes_to h
-    (punctuator_past punctuator.Comma is c.in_ok-advance.ensures.consumes c.in_ok-advance.ensures.kept
+    (token_past (Exactly punctuator.Comma) is c.in_ok-advance.ensures.consumes c.in_ok-advance.ensures.kept
     (next_argument_path is (made AddArgument tt (valued (on_both x.is y.is) h.path)))) h.told h.depth h.few
     (awaits (refl, h.fits.takes.1, h.fits.takes.2, h.fits.takes.3) (refl, y.below)))

@@ -5,7 +5,7 @@ use Rattle.parser.proofs.AssignmentForms.{sign_fits, sign_goes_on, sign_of, stor
 use Rattle.parser.proofs.AutomatonLaws.{awaits, comes_to, has_room, nests}
 use Rattle.parser.proofs.ExpressionSteps.{assigned, store_path}
 use Rattle.parser.proofs.NameLaws.{named_found}
-use Rattle.parser.proofs.PathLaws.{falls, punctuator_falls, punctuator_past}
+use Rattle.parser.proofs.PathLaws.{falls, token_falls, token_past}
 use Rattle.parser.proofs.Productions.{name_too_deep}
 use Rattle.parser.proofs.automaton.Automaton.assignment.Goals as goal
 
@@ -41,7 +41,7 @@ returns-in_err-advance-clause-moves g c =
     let a = assigned c.args.op c.requires.starts in
     let s = sign_of _ c.args.op a in
     rw (passed_on c.from_residual-in_err-advance.result c.from_residual-in_err-advance.ensures.1) (λ o h.
-    punctuator_falls s.m (sign_fits _ _ c.args.op c.in_ok-var.var a c.in_ok-var.ensures.matches s) h.told
+    token_falls (Exactly s.m) (sign_fits _ _ c.args.op c.in_ok-var.var a c.in_ok-var.ensures.matches s) h.told
     c.in_err-advance.ensures.kept c.in_err-advance.ensures.consumes
     (c.in_ok-var.ensures.passes _ _ _ _
     (store_path c.args.op a s (rw h.depth c.in_ok-check_nesting.ensures.ok) h.path)))
@@ -56,7 +56,7 @@ returns-clause-moves g c =
     let s = sign_of _ c.args.op a in
     λ o h.
     rw c.push.ensures (comes_to h
-    (punctuator_past s.m (sign_fits _ _ c.args.op c.in_ok-var.var a c.in_ok-var.ensures.matches s)
+    (token_past (Exactly s.m) (sign_fits _ _ c.args.op c.in_ok-var.var a c.in_ok-var.ensures.matches s)
     c.in_ok-advance.ensures.consumes c.in_ok-advance.ensures.kept (c.in_ok-var.ensures.passes _ _ _ _
     (store_path c.args.op a s (rw h.depth c.in_ok-check_nesting.ensures.ok) h.path))) h.told
     (ap (λ n. n + 1) h.depth) (omega (arith, c.in_ok-check_nesting.ensures.ok))

@@ -1,12 +1,12 @@
 use Rattle.std.proofs.Common.{◌+◌, [], ◌∷◌, refl, ap, arith}
 use Rattle.tokens.specs.declared.located_tokens.Punctuator.TheVariants as punctuator
-use Rattle.grammar.specs.Grammar.{Part, Block, Declarations}
+use Rattle.grammar.specs.Grammar.{Block, Declarations, Exactly, Part}
 use Rattle.parser.specs.ScopedCursors.{token_of}
 use Rattle.parser.proofs.Passing.{passed_on}
 use Rattle.parser.proofs.AutomatonLaws.{comes_to, has_place, nests}
 use Rattle.parser.proofs.Forms.{begins_block, in_braces}
-use Rattle.parser.proofs.Parts.{punctuator_too_deep}
-use Rattle.parser.proofs.PathLaws.{falls, punctuator_falls, punctuator_past}
+use Rattle.parser.proofs.Productions.{chooses_any, token_too_deep}
+use Rattle.parser.proofs.PathLaws.{falls, token_falls, token_past}
 use Rattle.parser.proofs.StatementSteps.{block_path, braces_path}
 use Rattle.parser.proofs.automaton.Automaton.begin_block.Goals as goal
 
@@ -15,13 +15,13 @@ returns-in_err-check_nesting-clause-moves g c =
     let b = begins_block (token_of c.args.self.now.tokens) c.requires.starts in
     rw (passed_on c.from_residual.result c.from_residual.ensures.1) (λ o h.
     nests (block_path c.requires.starts h.path) h.depth c.in_err-check_nesting.ensures.refused (λ depth.
-    punctuator_too_deep _ _ h.path.ready.near depth Block punctuator.OpenCurly in_braces [] h.path.ready.sound
-    b.chosen c.requires.starts b.opened))
+    token_too_deep _ _ h.path.ready.near depth Block (Exactly punctuator.OpenCurly) in_braces
+    (chooses_any h.path.ready.sound b.chosen) (λ after more. b.opened after) c.requires.starts))
 
 pub returns-in_err-advance-clause-moves : goal.returns-in_err-advance-clause-moves
 returns-in_err-advance-clause-moves g c =
     rw (passed_on c.from_residual-in_err-advance.result c.from_residual-in_err-advance.ensures.1) (λ o h.
-    punctuator_falls punctuator.OpenCurly c.requires.starts h.told c.in_err-advance.ensures.kept
+    token_falls (Exactly punctuator.OpenCurly) c.requires.starts h.told c.in_err-advance.ensures.kept
     c.in_err-advance.ensures.consumes (braces_path c.requires.starts (rw h.depth c.in_ok-check_nesting.ensures.ok)
     (block_path c.requires.starts h.path)))
 
@@ -29,7 +29,7 @@ pub returns-in_err-declarations-clause-moves : goal.returns-in_err-declarations-
 returns-in_err-declarations-clause-moves g c =
     rw (passed_on c.from_residual-in_err-declarations.result c.from_residual-in_err-declarations.ensures.1) (λ o h.
     falls (Part Declarations ∷ []) _ c.in_err-declarations.field-0.0
-    (punctuator_past punctuator.OpenCurly c.requires.starts c.in_ok-advance.ensures.consumes
+    (token_past (Exactly punctuator.OpenCurly) c.requires.starts c.in_ok-advance.ensures.consumes
     c.in_ok-advance.ensures.kept (braces_path c.requires.starts (rw h.depth c.in_ok-check_nesting.ensures.ok)
     (block_path c.requires.starts h.path))) h.told c.in_err-declarations.ensures.kept
     c.in_err-declarations.ensures.matches)
@@ -41,7 +41,7 @@ pub returns-clause-moves : goal.returns-clause-moves
 returns-clause-moves g c = λ o h.
     rw c.push.ensures (comes_to h
     (c.in_ok-declarations.ensures.passes _ _ _ _
-    (punctuator_past punctuator.OpenCurly c.requires.starts c.in_ok-advance.ensures.consumes
+    (token_past (Exactly punctuator.OpenCurly) c.requires.starts c.in_ok-advance.ensures.consumes
     c.in_ok-advance.ensures.kept (braces_path c.requires.starts (rw h.depth c.in_ok-check_nesting.ensures.ok)
     (block_path c.requires.starts h.path)))) h.told (ap (λ n. n + 1) h.depth)
     (omega (arith, c.in_ok-check_nesting.ensures.ok)) (record { level = 0; takes = (refl, h.fits); ends = tt }))

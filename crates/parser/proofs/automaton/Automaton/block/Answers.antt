@@ -1,10 +1,10 @@
 use Rattle.std.proofs.Common.{◌≡◌, refl, true, false, arith}
 use Rattle.tokens.specs.declared.located_tokens.Punctuator.TheVariants as punctuator
-use Rattle.grammar.specs.Grammar.{is_punctuator}
+use Rattle.grammar.specs.Grammar.{Exactly, is_punctuator}
 use Rattle.parser.specs.ScopedCursors.{token_of}
 use Rattle.parser.proofs.Passing.{passed_on}
 use Rattle.parser.proofs.AutomatonLaws.{comes_to, has_place}
-use Rattle.parser.proofs.PathLaws.{closed, punctuator_falls, punctuator_past}
+use Rattle.parser.proofs.PathLaws.{closed, token_falls, token_past}
 use Rattle.parser.proofs.StatementSteps.{no_statement_path, statement_path}
 use Rattle.parser.proofs.automaton.Automaton.block.Goals as goal
 
@@ -22,7 +22,8 @@ pub returns-in_err-advance-clause-moves : goal.returns-in_err-advance-clause-mov
 returns-in_err-advance-clause-moves g c =
     let is : is_punctuator punctuator.CloseCurly (token_of c.args.self.now.tokens) ≡ true = cc in
     rw (passed_on c.from_residual.result c.from_residual.ensures.1) (λ o h.
-    punctuator_falls punctuator.CloseCurly is h.told c.in_err-advance.ensures.kept c.in_err-advance.ensures.consumes
+    token_falls (Exactly punctuator.CloseCurly) is h.told c.in_err-advance.ensures.kept
+    c.in_err-advance.ensures.consumes
     (no_statement_path is h.path))
 
 pub returns-clause-moves : goal.returns-clause-moves
@@ -30,6 +31,6 @@ returns-clause-moves g c =
     let is : is_punctuator punctuator.CloseCurly (token_of c.args.self.now.tokens) ≡ true = cc in
     λ o h.
     comes_to h
-    (closed (punctuator_past punctuator.CloseCurly is c.in_ok-advance.ensures.consumes c.in_ok-advance.ensures.kept
+    (closed (token_past (Exactly punctuator.CloseCurly) is c.in_ok-advance.ensures.consumes c.in_ok-advance.ensures.kept
     (no_statement_path is h.path))) h.told (omega (arith, h.depth)) (omega (arith, h.few))
     (record { level = 0; takes = h.fits.takes.1; ends = tt })

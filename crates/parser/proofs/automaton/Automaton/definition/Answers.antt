@@ -1,11 +1,11 @@
 use Rattle.std.proofs.Common.{◌≡◌, ◌+◌, [], ◌∷◌, refl, ap, sym, true, false, arith}
 use Rattle.tokens.specs.declared.located_tokens.Punctuator.TheVariants as punctuator
-use Rattle.grammar.specs.Grammar.{Declarations, Empty, Part, is_punctuator}
+use Rattle.grammar.specs.Grammar.{Declarations, Empty, Exactly, Part, is_punctuator}
 use Rattle.parser.specs.Declarations.{header_items}
 use Rattle.parser.specs.ScopedCursors.{token_of}
 use Rattle.parser.proofs.Passing.{passed_on}
 use Rattle.parser.proofs.AutomatonLaws.{comes_to}
-use Rattle.parser.proofs.PathLaws.{falls, made, may, out_of_memory, punctuator_falls, punctuator_past, told_more}
+use Rattle.parser.proofs.PathLaws.{falls, made, may, out_of_memory, token_falls, token_past, told_more}
 use Rattle.parser.proofs.AutomatonLaws.{refuses}
 use Rattle.parser.proofs.SourceSteps.{block_misfits, function_block_path}
 use Rattle.parser.proofs.automaton.Automaton.definition.Goals as goal
@@ -44,7 +44,7 @@ returns-in_err-advance-clause-moves g c =
     let is : is_punctuator punctuator.OpenCurly (token_of c.function_header.new.parser) ≡ true = cc in
     let added = rw (sym c.in_ok-number.ensures.begun.is, c.parameter_count.ensures.count) at c.in_ok-act.ensures.ok in
     rw (passed_on c.from_residual-in_err-advance.result c.from_residual-in_err-advance.ensures.1) (λ o h.
-    punctuator_falls punctuator.OpenCurly is (told_more _ _ added h.told) c.in_err-advance.ensures.kept
+    token_falls (Exactly punctuator.OpenCurly) is (told_more _ _ added h.told) c.in_err-advance.ensures.kept
     c.in_err-advance.ensures.consumes
     (function_block_path is (rw h.fits.0 (omega arith)) (c.in_ok-number.ensures.passes _ _ _ _ h.path)))
 
@@ -53,8 +53,8 @@ returns-in_err-declarations-clause-moves g c =
     let is : is_punctuator punctuator.OpenCurly (token_of c.function_header.new.parser) ≡ true = cc in
     let added = rw (sym c.in_ok-number.ensures.begun.is, c.parameter_count.ensures.count) at c.in_ok-act.ensures.ok in
     rw (passed_on c.from_residual-in_err-declarations.result c.from_residual-in_err-declarations.ensures.1) (λ o h.
-    falls (Part Declarations ∷ []) _ c.in_err-declarations.field-0.0 (made Empty tt (punctuator_past
-    punctuator.OpenCurly is c.in_ok-advance.ensures.consumes c.in_ok-advance.ensures.kept
+    falls (Part Declarations ∷ []) _ c.in_err-declarations.field-0.0 (made Empty tt (token_past
+    (Exactly punctuator.OpenCurly) is c.in_ok-advance.ensures.consumes c.in_ok-advance.ensures.kept
     (function_block_path is (rw h.fits.0 (omega arith)) (c.in_ok-number.ensures.passes _ _ _ _ h.path))))
     (told_more _ _ added h.told) c.in_err-declarations.ensures.kept
     c.in_err-declarations.ensures.matches)
@@ -67,8 +67,8 @@ returns-clause-moves g c =
     let is : is_punctuator punctuator.OpenCurly (token_of c.function_header.new.parser) ≡ true = cc in
     let added = rw (sym c.in_ok-number.ensures.begun.is, c.parameter_count.ensures.count) at c.in_ok-act.ensures.ok in
     λ o h.
-    rw c.push.ensures (comes_to h (c.in_ok-declarations.ensures.passes _ _ _ _ (made Empty tt (punctuator_past
-    punctuator.OpenCurly is c.in_ok-advance.ensures.consumes c.in_ok-advance.ensures.kept
+    rw c.push.ensures (comes_to h (c.in_ok-declarations.ensures.passes _ _ _ _ (made Empty tt (token_past
+    (Exactly punctuator.OpenCurly) is c.in_ok-advance.ensures.consumes c.in_ok-advance.ensures.kept
     (function_block_path is (rw h.fits.0 (omega arith)) (c.in_ok-number.ensures.passes _ _ _ _ h.path)))))
     (told_more _ _ added h.told) (ap (λ n. n + 1) h.depth)
     (rw (sym h.depth, h.fits.0) (omega arith)) (record { level = 0; takes = (refl, h.fits.0); ends = tt }))

@@ -9,7 +9,7 @@ use Rattle.parser.proofs.AutomatonLaws.{comes_to}
 use Rattle.parser.specs.Automata.{stack_of}
 use Rattle.parser.specs.Paths.{Path}
 use Rattle.parser.proofs.FunctionEnds.{end_follows, end_refused, function_ends}
-use Rattle.parser.proofs.PathLaws.{closed, punctuator_falls, punctuator_past, told_more}
+use Rattle.parser.proofs.PathLaws.{closed, token_falls, token_past, told_more}
 use Rattle.parser.proofs.StatementSteps.{no_statement_path}
 use Rattle.parser.proofs.automaton.Automaton.end_function.Goals as goal
 
@@ -39,7 +39,7 @@ returns-in_err-advance-clause-moves g c =
     subst (λ (t : ScopedCursor). is_punctuator punctuator.CloseCurly (token_of t) ≡ true) (sym same) c.requires.starts
     in
     rw (passed_on c.from_residual-in_err-advance.result c.from_residual-in_err-advance.ensures.1) (λ o h.
-    punctuator_falls punctuator.CloseCurly fits (told_more _ _ closes.added h.told) c.in_err-advance.ensures.kept
+    token_falls (Exactly punctuator.CloseCurly) fits (told_more _ _ closes.added h.told) c.in_err-advance.ensures.kept
     c.in_err-advance.ensures.consumes (subst (λ (t : ScopedCursor). Path o.origin
     (Exactly punctuator.CloseCurly ∷ Close ∷ Part Source ∷ stack_of c.args.self.now.frames) []
     (h.acts ++ end_actions (length (scope_of c.args.self.now.tokens).current.variables)) t) (sym same)
@@ -56,7 +56,8 @@ returns-clause-moves g c =
     in
     λ o h.
     rw (c.in_ok-report_end.ensures.kept.frames, c.in_ok-report_end.ensures.kept.depth) (comes_to h
-    (closed (punctuator_past punctuator.CloseCurly fits c.in_ok-advance.ensures.consumes c.in_ok-advance.ensures.kept
+    (closed (token_past (Exactly punctuator.CloseCurly) fits c.in_ok-advance.ensures.consumes
+    c.in_ok-advance.ensures.kept
     (subst (λ (t : ScopedCursor). Path o.origin
     (Exactly punctuator.CloseCurly ∷ Close ∷ Part Source ∷ stack_of c.args.self.now.frames) []
     (h.acts ++ end_actions (length (scope_of c.args.self.now.tokens).current.variables)) t) (sym same)

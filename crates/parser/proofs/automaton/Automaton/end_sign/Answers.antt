@@ -1,4 +1,5 @@
-use Rattle.std.proofs.Common.{arith}
+use Rattle.std.proofs.Common.{◌-◌, arith}
+use Rattle.parser.specs.declared.frames.TheConstants.{UNARY_LEVEL}
 use Rattle.parser.specs.UnaryOps.{actions_after_operand}
 use Rattle.parser.proofs.Passing.{passed_on}
 use Rattle.parser.proofs.AutomatonLaws.{closes, may_report, operand_stands, refuses, told_all}
@@ -10,7 +11,7 @@ use Rattle.parser.proofs.automaton.Automaton.end_sign.Goals as goal
 pub report_after_operand-requires : goal.report_after_operand-requires
 report_after_operand-requires g c =
     let h = c.requires.at.is in
-    let x = has_expr _ h.values (done_at 10 h.fits h.fits.takes.0).1 in
+    let x = has_expr _ h.values (done_at (UNARY_LEVEL - 1) h.fits h.fits.takes.0).1 in
     record {
       follow =
           may_report h.acts (actions_after_operand c.args.sign) h.told h.new
@@ -25,7 +26,7 @@ returns-in_err-report_after_operand-clause-moves g c =
 
 pub returns-clause-moves : goal.returns-clause-moves
 returns-clause-moves g c = λ o h.
-    let x = has_expr _ h.values (done_at 10 h.fits h.fits.takes.0).1 in
+    let x = has_expr _ h.values (done_at (UNARY_LEVEL - 1) h.fits h.fits.takes.0).1 in
     operand_stands h c.args.floor (closed (signed_path c.args.sign (valued x.is h.path)))
     (told_all _ _ (actions_after_operand c.args.sign) c.in_ok-report_after_operand.ensures.reported h.told)
     (closes c.args.floor _ c.args.self.now.frames h.depth) (omega (arith, h.few))

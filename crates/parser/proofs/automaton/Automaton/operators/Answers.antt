@@ -2,13 +2,14 @@ use Rattle.std.proofs.Common.{◌≡◌, ◌+◌, ◌-◌, ◌∙◌, refl, arit
 use Rattle.std.specs.Prelude.{Some, None}
 use Rattle.grammar.specs.Actions.{middle}
 use Rattle.grammar.specs.Laws.Climbing.{operator_from}
+use Rattle.grammar.specs.Grammar.{Exactly}
 use Rattle.parser.specs.Automata.{stack_of}
 use Rattle.parser.specs.ScopedCursors.{token_of}
 use Rattle.parser.proofs.Passing.{passed_on}
 use Rattle.parser.proofs.AutomatonLaws.{comes_to, has_place, may_report, moves_from, nested_tails, refuses, told_all}
 use Rattle.parser.proofs.ExpressionSteps.{operand_path, operator_path}
 use Rattle.parser.proofs.Operators.{at_its_own, found, spells, ten_levels}
-use Rattle.parser.proofs.PathLaws.{out_of_memory, punctuator_falls, punctuator_past}
+use Rattle.parser.proofs.PathLaws.{out_of_memory, token_falls, token_past}
 use Rattle.parser.proofs.TreeLaws.{ends_at}
 use Rattle.parser.proofs.automaton.Automaton.operators.Goals as goal
 
@@ -73,7 +74,7 @@ returns-in_err-advance-clause-moves g c =
     spells c.in-Some.binary.level c.in-Some.binary.op _
     (at_its_own _ c.in-Some.binary (found c.args.floor _ c.in-Some.binary is).0) in
     rw (passed_on c.from_residual-in_err-advance.result c.from_residual-in_err-advance.ensures.1) (λ o h.
-    punctuator_falls s.m s.fits
+    token_falls (Exactly s.m) s.fits
     (told_all _ _ (middle c.in-Some.binary.op) c.in_ok-report_middle.ensures.reported h.told)
     c.in_err-advance.ensures.kept c.in_err-advance.ensures.consumes
     (operator_path _ c.in-Some.binary c.args.floor s is h.path))
@@ -106,7 +107,7 @@ returns-clause-moves g c =
     λ o h.
     rw c.push.ensures (comes_to h
     (operand_path (c.in-Some.binary.level + 1) (omega (arith, most))
-    (punctuator_past s.m s.fits c.in_ok-advance.ensures.consumes c.in_ok-advance.ensures.kept
+    (token_past (Exactly s.m) s.fits c.in_ok-advance.ensures.consumes c.in_ok-advance.ensures.kept
     (operator_path _ c.in-Some.binary c.args.floor s is h.path)))
     (told_all _ _ (middle c.in-Some.binary.op) c.in_ok-report_middle.ensures.reported h.told)
     (nested_tails (c.in-Some.binary.level + 1 - c.args.floor) c.args.floor (stack_of c.args.self.now.frames) ∙ h.depth)

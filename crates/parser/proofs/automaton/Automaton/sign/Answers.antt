@@ -1,12 +1,12 @@
 use Rattle.std.proofs.Common.{◌+◌, [], ◌∷◌, refl, ap, arith}
-use Rattle.grammar.specs.Grammar.{Close, Make, Part, Unary}
+use Rattle.grammar.specs.Grammar.{Close, Exactly, Make, Part, Unary}
 use Rattle.parser.specs.UnaryOps.{actions_before_operand, unary_action, unary_punctuator}
 use Rattle.parser.proofs.Passing.{passed_on}
 use Rattle.parser.proofs.AutomatonLaws.{comes_to, has_room, may_report, nests, refuses, shallow, told_all, under_tails}
 use Rattle.parser.proofs.OperandForms.{sign_chooses, sign_is_nested}
 use Rattle.parser.proofs.OperandSteps.{sign_path}
-use Rattle.parser.proofs.PathLaws.{out_of_memory, punctuator_falls, punctuator_past}
-use Rattle.parser.proofs.Productions.{punctuator_too_deep}
+use Rattle.parser.proofs.PathLaws.{out_of_memory, token_falls, token_past}
+use Rattle.parser.proofs.Productions.{token_too_deep}
 use Rattle.parser.proofs.automaton.Automaton.sign.Goals as goal
 
 pub returns-in_err-check_nesting-clause-moves : goal.returns-in_err-check_nesting-clause-moves
@@ -14,7 +14,8 @@ returns-in_err-check_nesting-clause-moves g c =
     rw (passed_on c.from_residual.result c.from_residual.ensures.1) (λ o h.
     nests h.path (under_tails c.args.floor _ c.args.self.now.frames h.depth) c.in_err-check_nesting.ensures.refused (λ
     depth.
-    punctuator_too_deep c.args.self.now.tokens.position _ h.path.ready.near depth Unary (unary_punctuator c.args.sign)
+    token_too_deep c.args.self.now.tokens.position _ h.path.ready.near depth Unary
+    (Exactly (unary_punctuator c.args.sign))
     (Part Unary ∷ Make (unary_action c.args.sign) ∷ Close ∷ [])
     (sign_chooses c.args.self.now.tokens.position c.args.sign c.requires.starts)
     (sign_is_nested c.args.self.now.tokens.position c.args.sign c.requires.starts) c.requires.starts))
@@ -40,7 +41,7 @@ returns-in_err-report_before_operand-clause-moves g c =
 pub returns-in_err-advance-clause-moves : goal.returns-in_err-advance-clause-moves
 returns-in_err-advance-clause-moves g c =
     rw (passed_on c.from_residual-in_err-advance.result c.from_residual-in_err-advance.ensures.1) (λ o h.
-    punctuator_falls (unary_punctuator c.args.sign) c.requires.starts
+    token_falls (Exactly (unary_punctuator c.args.sign)) c.requires.starts
     (told_all _ _ (actions_before_operand c.args.sign) c.in_ok-report_before_operand.ensures.reported h.told)
     c.in_err-advance.ensures.kept c.in_err-advance.ensures.consumes
     (sign_path c.args.sign c.requires.starts
@@ -54,7 +55,7 @@ push-requires g c =
 pub returns-clause-moves : goal.returns-clause-moves
 returns-clause-moves g c = λ o h.
     rw c.push.ensures (comes_to h
-    (punctuator_past (unary_punctuator c.args.sign) c.requires.starts c.in_ok-advance.ensures.consumes
+    (token_past (Exactly (unary_punctuator c.args.sign)) c.requires.starts c.in_ok-advance.ensures.consumes
     c.in_ok-advance.ensures.kept
     (sign_path c.args.sign c.requires.starts
     (shallow c.args.floor _ c.args.self.now.frames h.depth c.in_ok-check_nesting.ensures.ok) h.path))

@@ -1,21 +1,19 @@
 use Rattle.std.proofs.Common.{◌+◌, [], ◌∷◌, refl, ap, arith}
 use Rattle.tokens.specs.declared.located_tokens.Punctuator.TheVariants as punctuator
 use Rattle.tokens.specs.declared.located_tokens.Keyword.TheVariants as keyword
-use Rattle.grammar.specs.Grammar.{Exactly, Statement}
+use Rattle.grammar.specs.Grammar.{AKeyword, Exactly}
 use Rattle.parser.proofs.Passing.{passed_on}
-use Rattle.parser.proofs.AutomatonLaws.{awaits, comes_to, has_place, nests, refuses}
+use Rattle.parser.proofs.AutomatonLaws.{awaits, comes_to, has_place, refuses, word_nests}
 use Rattle.parser.proofs.Forms.{behind_while, conditioned, while_chosen, while_enters}
-use Rattle.parser.proofs.Parts.{word_too_deep}
-use Rattle.parser.proofs.PathLaws.{falls, may, told_more, out_of_memory, word_falls, word_past}
+use Rattle.parser.proofs.PathLaws.{falls, may, out_of_memory, token_falls, token_past, told_more}
 use Rattle.parser.proofs.StatementSteps.{while_path}
 use Rattle.parser.proofs.automaton.Automaton.while_statement.Goals as goal
 
 pub returns-in_err-check_nesting-clause-moves : goal.returns-in_err-check_nesting-clause-moves
 returns-in_err-check_nesting-clause-moves g c =
-    rw (passed_on c.from_residual.result c.from_residual.ensures.1) (λ o h.
-    nests h.path h.depth c.in_err-check_nesting.ensures.refused (λ depth.
-    word_too_deep _ _ h.path.ready.near depth Statement keyword.While (conditioned behind_while) [] h.path.ready.sound
-    (while_chosen _ c.requires.starts) c.requires.starts (while_enters _ c.requires.starts)))
+    word_nests _ _ c.from_residual.result keyword.While (conditioned behind_while) c.from_residual.ensures.1
+    c.in_err-check_nesting.ensures.refused c.requires.starts (while_chosen _ c.requires.starts)
+    (while_enters _ c.requires.starts)
 
 pub act-requires : goal.act-requires
 act-requires g c =
@@ -33,7 +31,7 @@ returns-in_err-act-clause-moves g c =
 pub returns-in_err-advance-clause-moves : goal.returns-in_err-advance-clause-moves
 returns-in_err-advance-clause-moves g c =
     rw (passed_on c.from_residual-in_err-advance.result c.from_residual-in_err-advance.ensures.1) (λ o h.
-    word_falls keyword.While c.requires.starts (told_more _ _ c.in_ok-act.ensures.ok h.told)
+    token_falls (AKeyword keyword.While) c.requires.starts (told_more _ _ c.in_ok-act.ensures.ok h.told)
     c.in_err-advance.ensures.kept c.in_err-advance.ensures.consumes
     (while_path c.requires.starts (rw h.depth c.in_ok-check_nesting.ensures.ok) h.path))
 
@@ -41,7 +39,7 @@ pub returns-in_err-expect-clause-moves : goal.returns-in_err-expect-clause-moves
 returns-in_err-expect-clause-moves g c =
     rw (passed_on c.from_residual-in_err-expect.result c.from_residual-in_err-expect.ensures.1) (λ o h.
     falls (Exactly punctuator.OpenRound ∷ []) _ c.in_err-expect.field-0.0
-    (word_past keyword.While c.requires.starts c.in_ok-advance.ensures.consumes c.in_ok-advance.ensures.kept
+    (token_past (AKeyword keyword.While) c.requires.starts c.in_ok-advance.ensures.consumes c.in_ok-advance.ensures.kept
     (while_path c.requires.starts (rw h.depth c.in_ok-check_nesting.ensures.ok) h.path))
     (told_more _ _ c.in_ok-act.ensures.ok h.told) c.in_err-expect.ensures.kept c.in_err-expect.ensures.matches)
 
@@ -52,7 +50,7 @@ pub returns-clause-moves : goal.returns-clause-moves
 returns-clause-moves g c = λ o h.
     rw c.push.ensures (comes_to h
     (c.in_ok-expect.ensures.passes _ _ _ _
-    (word_past keyword.While c.requires.starts c.in_ok-advance.ensures.consumes c.in_ok-advance.ensures.kept
+    (token_past (AKeyword keyword.While) c.requires.starts c.in_ok-advance.ensures.consumes c.in_ok-advance.ensures.kept
     (while_path c.requires.starts (rw h.depth c.in_ok-check_nesting.ensures.ok) h.path)))
     (told_more _ _ c.in_ok-act.ensures.ok h.told) (ap (λ n. n + 1) h.depth)
     (omega (arith, c.in_ok-check_nesting.ensures.ok)) (awaits (refl, h.fits) tt))

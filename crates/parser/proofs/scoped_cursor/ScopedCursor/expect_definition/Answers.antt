@@ -1,63 +1,38 @@
-use Rattle.std.proofs.Common.{◌≡◌, subst, refl, sym, ap}
-use Rattle.std.proofs.lemmas.Result.{err_from_is_err_and}
-use Rattle.tokens.specs.declared.located_tokens.LocatedToken.{LocatedToken}
-use Rattle.tokens.specs.Cursors.{IsNear}
+use Rattle.std.proofs.Common.{◌≡◌, refl, sym}
 use Rattle.grammar.specs.Grammar.{Defined}
 use Rattle.grammar.specs.Laws.Naming.{LearnsName}
 use Rattle.grammar.specs.Scope.{number_or_next}
-use Rattle.parser.specs.Segment.{IsNoName}
-use Rattle.parser.specs.ScopedCursors.{ScopedCursor, scope_of}
+use Rattle.parser.specs.ScopedCursors.{scope_of}
 use Rattle.parser.proofs.Passing.{passed_on}
 use Rattle.parser.proofs.Items.{name_derives, name_misfits, name_refused, name_stops}
 use Rattle.parser.proofs.Names.{begins}
-use Rattle.parser.proofs.Segments.{refused_map}
 use Rattle.parser.proofs.PathLaws.{name_past}
 use Rattle.parser.proofs.scoped_cursor.ScopedCursor.expect_definition.Goals as goal
 
 pub returns-in_err-name-clause-matches : goal.returns-in_err-name-clause-matches
 returns-in_err-name-clause-matches g c =
     rw (passed_on c.from_residual.result c.from_residual.ensures.1)
-    (name_misfits _ _ Defined c.in_err-name.field-0.0 c.requires.ready.near
-    (subst (λ (p : ScopedCursor). IsNoName p.position.lookahead.cursor.next c.in_err-name.field-0.0) c.self.view_is
-    c.in_err-name.ensures.other))
+    (name_misfits _ Defined c.self.view_is c.requires.ready.near c.in_err-name.ensures.other)
 
 pub returns-in_err-number-clause-matches : goal.returns-in_err-number-clause-matches
 returns-in_err-number-clause-matches g c =
-    let near : IsNear c.self.inside.cursor =
-    subst (λ (p : ScopedCursor). IsNear p.position.lookahead.cursor) (sym c.self.view_is) c.requires.ready.near in
-    let line : c.peek-next.result.now.line ≡ c.self.inside.cursor.next.line =
-    ap (λ (l : LocatedToken). l.line) c.peek-next.ensures.value in
-    let refused = c.in_err-number.ensures.refused in
-    rw (
-      passed_on c.from_residual-in_err-number.result c.from_residual-in_err-number.ensures.1,
-      refused.is,
-      line,
-      sym c.self.view_is,
-    )
-    (name_refused _ Defined _ refused.code near c.in_ok-name.ensures.found
-    (rw refused.answered at c.begin_definition.ensures.refused))
+    rw (passed_on c.from_residual-in_err-number.result c.from_residual-in_err-number.ensures.1)
+    (name_refused _ Defined c.self.view_is c.requires.ready.near refl
+    c.in_ok-name.ensures.found c.peek-next.ensures.value c.in_err-number.ensures.refused
+    c.begin_definition.ensures.refused)
 
 pub returns-in_err-advance-clause-matches : goal.returns-in_err-advance-clause-matches
 returns-in_err-advance-clause-matches g c =
-    let line : c.peek-next.result.now.line ≡ c.self.inside.cursor.next.line =
-    ap (λ (l : LocatedToken). l.line) c.peek-next.ensures.value in
-    let p = err_from_is_err_and c.from_residual-in_err-advance.result c.from_residual-in_err-advance.ensures.1 in
-    rw (p.1, p.2, sym c.self.view_is)
-    (refused_map _ _ _ ⊥ ⊥ c.in_err-advance.field-0.0
-    (name_stops c.self.inside.cursor c.self.inside.scope.now _ _ Defined c.in_ok-name.name.now
-    c.in_ok-name.ensures.found
-    (rw line at (rw c.in_ok-number.ensures.ok at c.begin_definition.ensures.learned))) (λ same. same)
+    rw (passed_on c.from_residual-in_err-advance.result c.from_residual-in_err-advance.ensures.1)
+    (name_stops _ _ Defined c.self.view_is c.in_ok-name.ensures.found
+    c.peek-next.ensures.value (rw c.in_ok-number.ensures.ok at c.begin_definition.ensures.learned)
     c.in_err-advance.ensures.consumes)
 
 pub returns-clause-matches : goal.returns-clause-matches
 returns-clause-matches g c =
-    let line : c.peek-next.result.now.line ≡ c.self.inside.cursor.next.line =
-    ap (λ (l : LocatedToken). l.line) c.peek-next.ensures.value in
-    rw (sym c.self.view_is)
-    (name_derives c.self.inside.cursor c.self.inside.scope.now _ _ _ Defined c.in_ok-name.name.now _
-    c.in_ok-name.ensures.found
-    (rw line at (rw c.in_ok-number.ensures.ok at c.begin_definition.ensures.learned)) (refl)
-    c.in_ok-advance.ensures.consumes)
+    name_derives Defined c.self.view_is c.in_ok-name.ensures.found c.peek-next.ensures.value
+    (rw c.in_ok-number.ensures.ok at c.begin_definition.ensures.learned) refl
+    c.in_ok-advance.ensures.consumes
 
 pub returns-clause-begun : goal.returns-clause-begun
 returns-clause-begun g c =
@@ -73,10 +48,7 @@ returns-clause-begun g c =
     (rw c.in_ok-number.ensures.ok at c.begin_definition.ensures.number).1
 
 pub returns-clause-passes : goal.returns-clause-passes
-returns-clause-passes g c =
-    let line : c.peek-next.result.now.line ≡ c.self.inside.cursor.next.line =
-    ap (λ (l : LocatedToken). l.line) c.peek-next.ensures.value in
-    rw (sym c.self.view_is) (λ o below values acts path.
+returns-clause-passes g c = rw (sym c.self.view_is) (λ o below values acts path.
     name_past Defined c.in_ok-name.name.now c.begin_definition.new.self c.in_ok-name.ensures.found
-    (rw line at (rw c.in_ok-number.ensures.ok at c.begin_definition.ensures.learned)) c.in_ok-advance.ensures.consumes
-    c.in_ok-advance.ensures.kept path)
+    c.peek-next.ensures.value (rw c.in_ok-number.ensures.ok at c.begin_definition.ensures.learned)
+    c.in_ok-advance.ensures.consumes c.in_ok-advance.ensures.kept path)

@@ -7,7 +7,7 @@ use Rattle.tokens.specs.declared.located_tokens.Token.TheVariants as token
 use Rattle.tokens.proofs.ToRead.{to_read-here, none-ahead}
 use Rattle.tokens.proofs.TokenLemmas.{nothing-left}
 use Rattle.tokens.proofs.BeginLemmas.{last-is_last, last-fits}
-use Rattle.tokens.proofs.TakenLemmas.{TakesBytes-then, fails-from, fails-reads, found-reads, stops-from, then-fails, then-asks, then-reads}
+use Rattle.tokens.proofs.TakenLemmas.{HasGoneOn-then, fails-from, fails-reads, found-reads, stops-from, then-fails, then-asks, then-reads}
 use Rattle.tokens.proofs.lexer.Lexer.read_after_blanks.Goals as goal
 
 pub returns-in-None-clause-reads : goal.returns-in-None-clause-reads
@@ -46,7 +46,7 @@ returns-then-branch-clause-reads g c =
           (λ found. to_read (after_slash found here) window (g.F.Feed.device c.read_slash_or_comment.new.feed).to_come)
           (sym c.if-branch.true)
           ∙ slash.past.tokens ∙ blanks.tokens ∙ now.tokens;
-      read = found-reads here _ window (omega (arith, now.forward, blanks.kept.forward, slash.forward))
+      read = found-reads here _ window (omega (arith, now.kept.forward, blanks.kept.forward, slash.forward))
           (slash.past.token c.if-branch.true);
     }
 
@@ -63,17 +63,13 @@ loop-self-preserved g c =
           (λ found. to_read (after_slash found c.read_slash_or_comment.new.here) c.read_slash_or_comment.new.self.window
           (g.F.Feed.device c.read_slash_or_comment.new.feed).to_come) (sym c.if-branch.false)
           ∙ slash.past.tokens ∙ blanks.tokens ∙ c.loop-self.invariant.tokens;
-      took = TakesBytes-then (TakesBytes-then c.loop-self.invariant.took blanks.kept.took) slash.kept.took;
-      forward = omega (arith, blanks.kept.forward, slash.forward);
-      count = slash.kept.count ∙ blanks.kept.count ∙ c.loop-self.invariant.count;
       here = slash.past.unread c.if-branch.false ∙ c.loop-self.invariant.here;
-      known = slash.kept.known;
+      kept = HasGoneOn-then slash.kept (HasGoneOn-then blanks.kept c.loop-self.invariant.kept);
     }
 
 pub returns-in_err-skip_blanks-clause-kept : goal.returns-in_err-skip_blanks-clause-kept
 returns-in_err-skip_blanks-clause-kept g c =
-    let now = c.loop-self.invariant in
-    then-fails c.from_residual.result _ c.from_residual.ensures.1 _ _ _ _ _ _ _ _ _ _ now.took now.forward now.count
+    then-fails c.from_residual.result _ c.from_residual.ensures.1 c.loop-self.invariant.kept
     c.in_err-skip_blanks.ensures.kept
 
 pub put_source_end-requires : goal.put_source_end-requires
@@ -84,21 +80,15 @@ put_source_end-requires g c =
 pub returns-in_err-read_slash_or_comment-in-Some-eq47-clause-kept :
     goal.returns-in_err-read_slash_or_comment-in-Some-eq47-clause-kept
 returns-in_err-read_slash_or_comment-in-Some-eq47-clause-kept g c =
-    let now = c.loop-self.invariant in
-    let blanks = c.in_ok-skip_blanks.ensures.kept in
     then-fails c.from_residual-in_err-read_slash_or_comment-in-Some-eq47.result _
-    c.from_residual-in_err-read_slash_or_comment-in-Some-eq47.ensures.1 _
-    c.skip_blanks.new.self.window _ _ _ _ _ _ _ _ (TakesBytes-then now.took blanks.took)
-    (omega (arith, now.forward, blanks.forward)) (blanks.count ∙ now.count)
+    c.from_residual-in_err-read_slash_or_comment-in-Some-eq47.ensures.1
+    (HasGoneOn-then c.in_ok-skip_blanks.ensures.kept c.loop-self.invariant.kept)
     c.in_err-read_slash_or_comment-in-Some-eq47.ensures.kept
 
 pub returns-in-Some-clause-kept : goal.returns-in-Some-clause-kept
 returns-in-Some-clause-kept g c =
-    let now = c.loop-self.invariant in
-    let blanks = c.in_ok-skip_blanks.ensures.kept in
-    then-asks c.read_begun_token.result _ c.skip_blanks.new.self.window _ _ _ _ _ _ _ _
-    (TakesBytes-then now.took blanks.took)
-    (omega (arith, now.forward, blanks.forward)) (blanks.count ∙ now.count) c.read_begun_token.ensures.kept
+    then-asks c.read_begun_token.result _ _ _ _
+    (HasGoneOn-then c.in_ok-skip_blanks.ensures.kept c.loop-self.invariant.kept) c.read_begun_token.ensures.kept
 
 pub returns-in_err-skip_blanks-clause-reads : goal.returns-in_err-skip_blanks-clause-reads
 returns-in_err-skip_blanks-clause-reads g c =
@@ -128,5 +118,5 @@ returns-in-Some-clause-reads g c =
     then-reads c.read_begun_token.result c.args.self.now.window c.skip_blanks.new.self.window
     c.read_begun_token.new.self.window (g.F.Feed.device c.args.feed.now) (g.F.Feed.device c.skip_blanks.new.feed) _ _ _
     _
-    (blanks.tokens ∙ now.tokens) (omega (arith, now.forward, blanks.kept.forward)) now.here
+    (blanks.tokens ∙ now.tokens) (omega (arith, now.kept.forward, blanks.kept.forward)) now.here
     c.read_begun_token.ensures.reads

@@ -3,7 +3,7 @@ use Rattle.tokens.specs.Characters.{is_digit}
 use Rattle.tokens.specs.Lexing.{to_read, in_constant, constant_going_on}
 use Rattle.tokens.proofs.ToRead.{to_read-pass, to_read-seen}
 use Rattle.tokens.proofs.TokenLemmas.{constant-takes, token_span-stops, StopsAt}
-use Rattle.tokens.proofs.TakenLemmas.{fails-finds, found-here, stops, stops-from, in_token_span-ends, constant-undecided, TakesBytes-pass, TakesBytes-then, then-fails}
+use Rattle.tokens.proofs.TakenLemmas.{asks-in-vain, found-here, in_token_span-ends, constant-undecided, HasGoneOn-skip, HasGoneOn-then, then-fails}
 use Rattle.tokens.proofs.lexer.Lexer.read_constant_bytewise.Goals as goal
 use Rattle.tokens.proofs.lexer.Lexer.read_constant_bytewise.Goals.{in_default-via-in-Some+else-is_digit, in_default-via-in_default}
 
@@ -20,11 +20,8 @@ loop-b-preserved g c =
           (constant-takes c.loop-b.value c.in-Some.b (sym c.if-is_digit.ensures))
           ∙ to_read-seen now _ _ _ _ seen.seen ∙ c.loop-b.invariant.tokens;
       bounded = omega (arith, value);
-      took = TakesBytes-pass c.skip_byte.ensures.kept.taken (TakesBytes-then c.loop-b.invariant.took seen.kept.took);
-      forward = omega (arith, seen.offset.offset);
-      count = seen.kept.count ∙ c.loop-b.invariant.count;
       here = c.loop-b.invariant.here;
-      known = λ e. seen.kept.known (sym c.skip_byte.ensures.kept.beyond ∙ e);
+      kept = HasGoneOn-skip c.skip_byte.ensures.kept (HasGoneOn-then seen.kept c.loop-b.invariant.kept);
     }
 
 pub returns-in_default-clause-finds : goal.returns-in_default-clause-finds
@@ -52,23 +49,14 @@ returns-in_default-clause-finds g c =
 pub returns-in_err-b-clause-finds : goal.returns-in_err-b-clause-finds
 returns-in_err-b-clause-finds g c =
     let seen = c.in_err-b.ensures in
-    let now = in_constant c.loop-b.value in
-    let chain =
-    c.loop-b.invariant.tokens ∙
+    asks-in-vain c.from_residual.result _ c.from_residual.ensures.1 _ _
+    (in_token_span-ends is_digit _ (constant-undecided c.loop-b.value)) _ c.loop-b.self.window _
+    (g.F.Feed.device c.args.feed.now) (g.F.Feed.device c.loop-b.feed) _ _ _
+    (c.loop-b.invariant.tokens ∙
     ap (λ v. to_read (in_constant v) c.args.self.now.window (g.F.Feed.device c.args.feed.now).to_come)
-    c.from-value.ensures
-    in
-    fails-finds c.from_residual.result _ c.from_residual.ensures.1 (in_constant (c.args.first - 48)) _ _
-    (g.F.Feed.device c.args.feed.now) (g.F.Feed.device c.peek.new.feed) _ _ (record {
-      within = stops-from now (in_constant (c.args.first - 48)) _ _ c.peek.new.self _ _ chain
-          (stops now
-          (in_token_span-ends is_digit (constant_going_on c.loop-b.value) (constant-undecided c.loop-b.value))
-          c.loop-b.self.window c.peek.new.self _ seen.failed seen.offset.offset);
-      unread = c.loop-b.invariant.here;
-    })
+    c.from-value.ensures)
+    seen.failed seen.offset.offset c.loop-b.invariant.here
 
 pub returns-in_err-b-clause-kept : goal.returns-in_err-b-clause-kept
 returns-in_err-b-clause-kept g c =
-    let now = c.loop-b.invariant in
-    then-fails c.from_residual.result _ c.from_residual.ensures.1 _ _ _ _ _ _ _ _ _ _ now.took now.forward now.count
-    c.in_err-b.ensures.kept
+    then-fails c.from_residual.result _ c.from_residual.ensures.1 c.loop-b.invariant.kept c.in_err-b.ensures.kept

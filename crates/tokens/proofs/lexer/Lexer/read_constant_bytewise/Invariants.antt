@@ -1,6 +1,6 @@
 use Rattle.std.proofs.Common.{◌≡◌, ◌-◌, ◌≤◌}
-use Rattle.tokens.specs.Window.{KnowsEnd, TakesBytes}
 use Rattle.tokens.specs.Lexing.{to_read, in_constant}
+use Rattle.tokens.proofs.TakenLemmas.{HasGoneOn}
 use Rattle.tokens.proofs.lexer.Lexer.read_constant_bytewise.Given as goal
 
 abbrev pub invariant-loop-b : goal.invariant-loop-b
@@ -8,12 +8,8 @@ invariant-loop-b g l = record {
   tokens : to_read (in_constant l.value) l.self.window (g.F.Feed.device l.feed).to_come ≡
       to_read (in_constant l.initial.value) l.initial.self.window (g.F.Feed.device l.initial.feed).to_come;
   bounded : l.value ≤ 2147483648;
-  took : TakesBytes l.initial.self.window.taken l.self.window.taken (g.F.Feed.device l.initial.feed).to_come
-      (g.F.Feed.device l.feed).to_come;
-  forward : l.initial.self.window.offset ≤ l.self.window.offset;
-  count : (g.F.Feed.device l.feed).account ≡ (g.F.Feed.device l.initial.feed).account;
   here : l.here ≡ l.initial.here;
-  known : KnowsEnd l.self.window.beyond (g.F.Feed.device l.feed).ended;
+  kept : HasGoneOn l.initial.self.window l.self.window (g.F.Feed.device l.initial.feed) (g.F.Feed.device l.feed);
 }
 
 abbrev pub decreases-loop-b : goal.decreases-loop-b

@@ -1,9 +1,9 @@
-use Rattle.std.proofs.Common.{◌≡◌, ◌∙◌, ◌++◌, ◌∷◌, sym, arith, false, [], ap, refl, subst}
+use Rattle.std.proofs.Common.{◌≡◌, ◌∙◌, ◌++◌, ◌∷◌, sym, false, [], ap, refl, subst}
 use Rattle.tokens.specs.Characters.{is_name_byte}
 use Rattle.tokens.specs.Lexing.{to_read, in_name, name_going_on}
 use Rattle.tokens.proofs.ToRead.{to_read-pass, to_read-seen}
 use Rattle.tokens.proofs.TokenLemmas.{name-takes, name-overflows, token_span-stops, StopsAt}
-use Rattle.tokens.proofs.TakenLemmas.{fails-finds, name-found, stops, stops-from, in_token_span-ends, name-undecided, TakesBytes-pass, TakesBytes-then, then-fails}
+use Rattle.tokens.proofs.TakenLemmas.{asks-in-vain, name-found, in_token_span-ends, name-undecided, HasGoneOn-skip, HasGoneOn-then, then-fails}
 use Rattle.tokens.proofs.lexer.Lexer.read_name_bytewise.Goals as goal
 use Rattle.tokens.proofs.lexer.Lexer.read_name_bytewise.Goals.{then-is_full, else-is_full, in_default-via-in-Some+else-is_name_byte, in_default-via-in_default}
 
@@ -27,11 +27,8 @@ loop-b-preserved g c =
     ] in
     record {
       tokens = step ∙ to_read-seen now _ _ _ _ seen.seen ∙ c.loop-b.invariant.tokens;
-      took = TakesBytes-pass c.skip_byte.ensures.kept.taken (TakesBytes-then c.loop-b.invariant.took seen.kept.took);
-      forward = omega (arith, seen.offset.offset);
-      count = seen.kept.count ∙ c.loop-b.invariant.count;
       here = c.loop-b.invariant.here;
-      known = λ e. seen.kept.known (sym c.skip_byte.ensures.kept.beyond ∙ e);
+      kept = HasGoneOn-skip c.skip_byte.ensures.kept (HasGoneOn-then seen.kept c.loop-b.invariant.kept);
     }
 
 pub returns-in_default-clause-finds : goal.returns-in_default-clause-finds
@@ -58,23 +55,14 @@ returns-in_default-clause-finds g c =
 pub returns-in_err-b-clause-finds : goal.returns-in_err-b-clause-finds
 returns-in_err-b-clause-finds g c =
     let seen = c.in_err-b.ensures in
-    let now = in_name c.loop-b.name c.loop-b.too_long in
-    let begun = c.push.ensures ∙ ap (λ name. name ++ c.args.first ∷ []) c.new-name.ensures in
-    let chain =
-    c.loop-b.invariant.tokens ∙
-    ap (λ name. to_read (in_name name false) c.args.self.now.window (g.F.Feed.device c.args.feed.now).to_come) begun in
-    fails-finds c.from_residual.result _ c.from_residual.ensures.1 (in_name (c.args.first ∷ []) false) _ _
-    (g.F.Feed.device c.args.feed.now) (g.F.Feed.device c.peek.new.feed) _ _ (record {
-      within = stops-from now (in_name (c.args.first ∷ []) false) _ _ c.peek.new.self _ _ chain
-          (stops now
-          (in_token_span-ends is_name_byte (name_going_on c.loop-b.name c.loop-b.too_long)
-          (name-undecided c.loop-b.name c.loop-b.too_long)) c.loop-b.self.window c.peek.new.self _ seen.failed
-          seen.offset.offset);
-      unread = c.loop-b.invariant.here;
-    })
+    asks-in-vain c.from_residual.result _ c.from_residual.ensures.1 _ _
+    (in_token_span-ends is_name_byte _ (name-undecided c.loop-b.name c.loop-b.too_long)) _ c.loop-b.self.window _
+    (g.F.Feed.device c.args.feed.now) (g.F.Feed.device c.loop-b.feed) _ _ _
+    (c.loop-b.invariant.tokens ∙
+    ap (λ name. to_read (in_name name false) c.args.self.now.window (g.F.Feed.device c.args.feed.now).to_come)
+    (c.push.ensures ∙ ap (λ name. name ++ c.args.first ∷ []) c.new-name.ensures))
+    seen.failed seen.offset.offset c.loop-b.invariant.here
 
 pub returns-in_err-b-clause-kept : goal.returns-in_err-b-clause-kept
 returns-in_err-b-clause-kept g c =
-    let now = c.loop-b.invariant in
-    then-fails c.from_residual.result _ c.from_residual.ensures.1 _ _ _ _ _ _ _ _ _ _ now.took now.forward now.count
-    c.in_err-b.ensures.kept
+    then-fails c.from_residual.result _ c.from_residual.ensures.1 c.loop-b.invariant.kept c.in_err-b.ensures.kept

@@ -1,8 +1,8 @@
-use Rattle.std.proofs.Common.{◌∙◌, sym, arith}
+use Rattle.std.proofs.Common.{◌∙◌, sym}
 use Rattle.tokens.specs.Lexing.{in_punctuator}
 use Rattle.tokens.proofs.ToRead.{to_read-seen}
 use Rattle.tokens.proofs.TokenLemmas.{punctuator_element-passes, punctuator_element-stops}
-use Rattle.tokens.proofs.TakenLemmas.{fails-finds, found-here, stops, stops-from, in_punctuator-ends, TakesBytes-pass, TakesBytes-then, then-fails}
+use Rattle.tokens.proofs.TakenLemmas.{asks-in-vain, found-here, in_punctuator-ends, HasGoneOn-skip, HasGoneOn-then, then-fails}
 use Rattle.tokens.proofs.lexer.Lexer.read_punctuator.Goals as goal
 
 pub loop-next-preserved : goal.loop-next-preserved
@@ -15,11 +15,8 @@ loop-next-preserved g c =
           c.skip_byte.ensures.value
           seen.next.first (sym c.in-Some.ensures)
           ∙ to_read-seen now _ _ _ _ seen.seen ∙ c.loop-next.invariant.tokens;
-      took = TakesBytes-pass c.skip_byte.ensures.kept.taken (TakesBytes-then c.loop-next.invariant.took seen.kept.took);
-      forward = omega (arith, seen.offset.offset);
-      count = seen.kept.count ∙ c.loop-next.invariant.count;
       here = c.loop-next.invariant.here;
-      known = λ e. seen.kept.known (sym c.skip_byte.ensures.kept.beyond ∙ e);
+      kept = HasGoneOn-skip c.skip_byte.ensures.kept (HasGoneOn-then seen.kept c.loop-next.invariant.kept);
     }
 
 pub returns-in-None-clause-finds : goal.returns-in-None-clause-finds
@@ -39,17 +36,10 @@ returns-in-None-clause-finds g c =
 pub returns-in_err-next-clause-finds : goal.returns-in_err-next-clause-finds
 returns-in_err-next-clause-finds g c =
     let seen = c.in_err-next.ensures in
-    let now = in_punctuator c.loop-next.punctuator in
-    fails-finds c.from_residual.result _ c.from_residual.ensures.1 (in_punctuator c.args.punctuator) _ _
-    (g.F.Feed.device c.args.feed.now) (g.F.Feed.device c.peek.new.feed) _ _ (record {
-      within = stops-from now (in_punctuator c.args.punctuator) _ _ c.peek.new.self _ _ c.loop-next.invariant.tokens
-          (stops now (in_punctuator-ends c.loop-next.punctuator) c.loop-next.self.window c.peek.new.self _ seen.failed
-          seen.offset.offset);
-      unread = c.loop-next.invariant.here;
-    })
+    asks-in-vain c.from_residual.result _ c.from_residual.ensures.1 _ _ (in_punctuator-ends c.loop-next.punctuator) _
+    c.loop-next.self.window _ (g.F.Feed.device c.args.feed.now) (g.F.Feed.device c.loop-next.feed) _ _ _
+    c.loop-next.invariant.tokens seen.failed seen.offset.offset c.loop-next.invariant.here
 
 pub returns-in_err-next-clause-kept : goal.returns-in_err-next-clause-kept
 returns-in_err-next-clause-kept g c =
-    let now = c.loop-next.invariant in
-    then-fails c.from_residual.result _ c.from_residual.ensures.1 _ _ _ _ _ _ _ _ _ _ now.took now.forward now.count
-    c.in_err-next.ensures.kept
+    then-fails c.from_residual.result _ c.from_residual.ensures.1 c.loop-next.invariant.kept c.in_err-next.ensures.kept

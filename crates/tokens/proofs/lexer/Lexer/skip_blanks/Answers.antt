@@ -1,8 +1,8 @@
-use Rattle.std.proofs.Common.{◌∙◌, sym, arith}
+use Rattle.std.proofs.Common.{◌∙◌, sym}
 use Rattle.tokens.specs.Tokens.{located_tokens}
 use Rattle.tokens.proofs.ToRead.{to_read-pass, to_read-seen}
 use Rattle.tokens.proofs.TokenLemmas.{blank-skipped, blanks-pass}
-use Rattle.tokens.proofs.TakenLemmas.{on_err-from, stops, stops-from, located_tokens-end, TakesBytes-pass, TakesBytes-then, then-fails}
+use Rattle.tokens.proofs.TakenLemmas.{on_err-from, stops, stops-from, located_tokens-end, HasGoneOn-skip, HasGoneOn-then, then-fails}
 use Rattle.tokens.proofs.lexer.Lexer.skip_blanks.Goals as goal
 
 pub loop-b-preserved : goal.loop-b-preserved
@@ -13,12 +13,9 @@ loop-b-preserved g c = record {
       ∙ to_read-seen located_tokens _ _ _ _ c.in_ok-first.ensures.seen ∙
       blanks-pass _ _ _ c.skip_blanks_at_hand.ensures.value ∙
       c.loop-b.invariant.tokens;
-  took = TakesBytes-pass c.skip_byte.ensures.kept.taken
-      (TakesBytes-then (TakesBytes-pass c.skip_blanks_at_hand.ensures.kept.taken c.loop-b.invariant.took)
-      c.in_ok-first.ensures.kept.took);
-  forward = omega (arith, c.in_ok-first.ensures.offset.offset);
-  count = c.in_ok-first.ensures.kept.count ∙ c.loop-b.invariant.count;
-  known = λ e. c.in_ok-first.ensures.kept.known (sym c.skip_byte.ensures.kept.beyond ∙ e);
+  kept = HasGoneOn-skip c.skip_byte.ensures.kept
+      (HasGoneOn-then c.in_ok-first.ensures.kept
+      (HasGoneOn-skip c.skip_blanks_at_hand.ensures.kept c.loop-b.invariant.kept));
 }
 
 pub returns-in_default-clause-tokens : goal.returns-in_default-clause-tokens
@@ -43,11 +40,8 @@ returns-in_err-first-clause-stopped g c =
 
 pub returns-in_err-first-clause-kept : goal.returns-in_err-first-clause-kept
 returns-in_err-first-clause-kept g c =
-    let now = c.loop-b.invariant in
-    let passed = c.skip_blanks_at_hand.ensures.kept in
-    then-fails c.from_residual.result _ c.from_residual.ensures.1 _ c.skip_blanks_at_hand.new.self _ _ _ _ _ _ _ _
-    (TakesBytes-pass passed.taken now.took) (omega (arith, now.forward, passed.forward)) now.count
-    c.in_err-first.ensures.kept
+    then-fails c.from_residual.result _ c.from_residual.ensures.1
+    (HasGoneOn-skip c.skip_blanks_at_hand.ensures.kept c.loop-b.invariant.kept) c.in_err-first.ensures.kept
 
 pub returns-in_default-3-clause-tokens : goal.returns-in_default-3-clause-tokens
 returns-in_default-3-clause-tokens g c =

@@ -1,10 +1,10 @@
-use Rattle.std.proofs.Common.{◌∙◌, sym, arith, ap, Some}
+use Rattle.std.proofs.Common.{◌∙◌, sym, ap, Some}
 use Rattle.std.proofs.lemmas.Bool.{ne_eqb}
 use Rattle.tokens.specs.Tokens.{located_tokens}
 use Rattle.tokens.specs.Lexing.{in_comment}
-use Rattle.tokens.proofs.ToRead.{to_read-pass, to_read-seen}
-use Rattle.tokens.proofs.CommentLemmas.{in_star, comment_element-passes, star-passes, star-open, slash-closes, slash-found, plain-passes, comment_element-ended, ended-beyond}
-use Rattle.tokens.proofs.TakenLemmas.{on_err-from, stops, stops-from, in_comment-ends, in_star-ends, TakesBytes-pass, TakesBytes-then, then-fails}
+use Rattle.tokens.proofs.ToRead.{to_read-pass, to_read-seen, byte-found}
+use Rattle.tokens.proofs.CommentLemmas.{in_star, comment_element-passes, star-passes, star-open, slash-closes, plain-passes, comment_element-ended, ended-beyond}
+use Rattle.tokens.proofs.TakenLemmas.{on_err-from, stops, stops-from, in_comment-ends, in_star-ends, HasGoneOn-skip, HasGoneOn-then, then-fails}
 use Rattle.tokens.proofs.lexer.Lexer.skip_comment.Goals as goal
 
 pub returns-in-None-clause-tokens : goal.returns-in-None-clause-tokens
@@ -24,7 +24,7 @@ returns-then-eq-clause-tokens g c = λ line.
     let seen = c.in_ok-peek.ensures in
     let next = c.in_ok-peek-in-Some-eq42.ensures in
     to_read-pass located_tokens (in_star line) _ _ _ _ 47 c.skip_byte-then-eq.ensures.value next.next.first
-    (slash-found _ (sym c.if-eq.ensures)) (slash-closes line)
+    (byte-found 47 _ (sym c.if-eq.ensures)) (slash-closes line)
     ∙ to_read-seen (in_star line) _ _ _ _ next.seen
     ∙
     to_read-pass (in_star line) (in_comment line) _ _ _ _ 42 c.skip_byte.ensures.value seen.next.first
@@ -44,13 +44,9 @@ loop-self-preserved-else-eq g c =
           (c.in-Some-eq42.is ∙ ap Some c.in-Some-eq42.field-0-test) (star-passes line)
           ∙ to_read-seen (in_comment line) _ _ _ _ seen.seen ∙ plain-passes line _ _ _ c.skip_to_star.ensures.value ∙
           c.loop-self.invariant.tokens line;
-      took = TakesBytes-then
-          (TakesBytes-pass c.skip_byte.ensures.kept.taken
-          (TakesBytes-then (TakesBytes-pass c.skip_to_star.ensures.kept.taken c.loop-self.invariant.took)
-          seen.kept.took)) next.kept.took;
-      forward = omega (arith, seen.offset.offset, next.offset.offset);
-      count = next.kept.count ∙ seen.kept.count ∙ c.loop-self.invariant.count;
-      known = next.kept.known;
+      kept = HasGoneOn-then next.kept
+          (HasGoneOn-skip c.skip_byte.ensures.kept
+          (HasGoneOn-then seen.kept (HasGoneOn-skip c.skip_to_star.ensures.kept c.loop-self.invariant.kept)));
     }
 
 pub loop-self-preserved : goal.loop-self-preserved
@@ -63,12 +59,8 @@ loop-self-preserved g c =
           (comment_element-passes line c.in-Some.field-0 (ne_eqb _ _ c.in-Some.field-0-test.1))
           ∙ to_read-seen (in_comment line) _ _ _ _ seen.seen ∙ plain-passes line _ _ _ c.skip_to_star.ensures.value ∙
           c.loop-self.invariant.tokens line;
-      took = TakesBytes-pass c.skip_byte-in-Some.ensures.kept.taken
-          (TakesBytes-then (TakesBytes-pass c.skip_to_star.ensures.kept.taken c.loop-self.invariant.took)
-          seen.kept.took);
-      forward = omega (arith, seen.offset.offset);
-      count = seen.kept.count ∙ c.loop-self.invariant.count;
-      known = λ e. seen.kept.known (sym c.skip_byte-in-Some.ensures.kept.beyond ∙ e);
+      kept = HasGoneOn-skip c.skip_byte-in-Some.ensures.kept
+          (HasGoneOn-then seen.kept (HasGoneOn-skip c.skip_to_star.ensures.kept c.loop-self.invariant.kept));
     }
 
 pub returns-in_err-peek-clause-stopped : goal.returns-in_err-peek-clause-stopped
@@ -95,20 +87,13 @@ returns-in_err-peek-in-Some-eq42-clause-stopped g c =
 
 pub returns-in_err-peek-clause-kept : goal.returns-in_err-peek-clause-kept
 returns-in_err-peek-clause-kept g c =
-    let now = c.loop-self.invariant in
-    let plain = c.skip_to_star.ensures.kept in
-    then-fails c.from_residual.result _ c.from_residual.ensures.1 _ c.skip_to_star.new.self _ _ _ _ _ _ _ _
-    (TakesBytes-pass plain.taken now.took) (omega (arith, now.forward, plain.forward)) now.count
-    c.in_err-peek.ensures.kept
+    then-fails c.from_residual.result _ c.from_residual.ensures.1
+    (HasGoneOn-skip c.skip_to_star.ensures.kept c.loop-self.invariant.kept) c.in_err-peek.ensures.kept
 
 pub returns-in_err-peek-in-Some-eq42-clause-kept : goal.returns-in_err-peek-in-Some-eq42-clause-kept
 returns-in_err-peek-in-Some-eq42-clause-kept g c =
-    let now = c.loop-self.invariant in
-    let plain = c.skip_to_star.ensures.kept in
-    let seen = c.in_ok-peek.ensures.kept in
-    let star = c.skip_byte.ensures.kept in
-    then-fails c.from_residual-in_err-peek-in-Some-eq42.result _ c.from_residual-in_err-peek-in-Some-eq42.ensures.1 _
-    c.skip_byte.new.self _ _ _ _ _ _ _ _
-    (TakesBytes-pass star.taken (TakesBytes-then (TakesBytes-pass plain.taken now.took) seen.took))
-    (omega (arith, now.forward, plain.forward, seen.forward, star.forward)) (seen.count ∙ now.count)
+    then-fails c.from_residual-in_err-peek-in-Some-eq42.result _ c.from_residual-in_err-peek-in-Some-eq42.ensures.1
+    (HasGoneOn-skip c.skip_byte.ensures.kept
+    (HasGoneOn-then c.in_ok-peek.ensures.kept
+    (HasGoneOn-skip c.skip_to_star.ensures.kept c.loop-self.invariant.kept)))
     c.in_err-peek-in-Some-eq42.ensures.kept

@@ -1,6 +1,6 @@
-use Rattle.std.proofs.Common.{◌≡◌, ℕ, ◌-◌, ◌≤◌}
-use Rattle.tokens.specs.Window.{KnowsEnd, TakesBytes}
+use Rattle.std.proofs.Common.{◌≡◌, ℕ, ◌-◌}
 use Rattle.tokens.specs.Lexing.{to_read, in_comment}
+use Rattle.tokens.proofs.TakenLemmas.{HasGoneOn}
 use Rattle.tokens.proofs.lexer.Lexer.skip_comment.Given as goal
 
 abbrev pub invariant-loop-self : goal.invariant-loop-self
@@ -8,11 +8,7 @@ invariant-loop-self g l = record {
   tokens : (line : ℕ) →
       to_read (in_comment line) l.self.window (g.F.Feed.device l.feed).to_come ≡
       to_read (in_comment line) l.initial.self.window (g.F.Feed.device l.initial.feed).to_come;
-  took : TakesBytes l.initial.self.window.taken l.self.window.taken (g.F.Feed.device l.initial.feed).to_come
-      (g.F.Feed.device l.feed).to_come;
-  forward : l.initial.self.window.offset ≤ l.self.window.offset;
-  count : (g.F.Feed.device l.feed).account ≡ (g.F.Feed.device l.initial.feed).account;
-  known : KnowsEnd l.self.window.beyond (g.F.Feed.device l.feed).ended;
+  kept : HasGoneOn l.initial.self.window l.self.window (g.F.Feed.device l.initial.feed) (g.F.Feed.device l.feed);
 }
 
 abbrev pub decreases-loop-self : goal.decreases-loop-self

@@ -1,5 +1,5 @@
 use Rattle.std.proofs.Common.{ℕ, ◌<◌, ◌≤◌, length, slice_index}
-use Rattle.watching.proofs.counts.function_at.Given as goal
+use Rattle.derivations.proofs.named_programs.function_at.Given as goal
 
 -- of the functions so far that begin at the address or before, this is the last
 abbrev pub invariant-loop-k : goal.invariant-loop-k
