@@ -66,11 +66,15 @@ export class Listing {
         this.box.removeAttribute("aria-activedescendant");
     }
 
-    /** Makes a row: of an instruction with its line and its address, or of a heading. */
+    /**
+     * Makes a row: of an instruction with its line and its address, or of a heading.
+     * @param {{line?: number, address?: number, instruction: string}} parts
+     * @param {number | string} at
+     */
     row({line, address, instruction}, at) {
         const row = Object.assign(document.createElement("div"), {id: `row-${at}`, role: "option", ariaSelected: "false"});
         const isHeading = address === undefined;
-        const parts = isHeading ? {instruction} : {line, address, instruction};
+        const parts = isHeading ? {instruction} : {line, address: String(address).padStart(5), instruction};
         row.append(...Object.entries(parts).map(([name, value]) =>
             Object.assign(document.createElement("span"), {className: name, textContent: value})));
         row.classList.toggle("heading", isHeading);
