@@ -1,10 +1,8 @@
 -- Sheets of known contents hold the output of a run.
-use Rattle.std.proofs.Common.{◌≡◌, ◌⊎◌, ◌<◌, ◌≤◌, ◌+◌, ◌∙◌, inl, inr, ℕ, zero, suc, List, [], ◌∷◌, ◌++◌, Option, Some, None, Result, Ok, Err, IfErr, false, get_or, map, refl, sym, ap, subst, append_assoc, arith, Bool, true, nat_le}
-use Rattle.std.specs.Prelude.{if◌then◌else◌}
+use Rattle.std.proofs.Common.{◌≡◌, ◌⊎◌, ◌<◌, ◌+◌, ◌∙◌, inl, inr, ℕ, zero, suc, List, [], ◌∷◌, ◌++◌, Option, Some, None, Result, Ok, Err, IfErr, false, get_or, map, refl, sym, ap, subst, append_assoc, arith}
 use Rattle.std.specs.List.{concat}
 use Rattle.std.proofs.lemmas.List.{append-nil, get_or-set_same}
 use Rattle.std.proofs.lemmas.List.Folds.{concat-append}
-use Rattle.std.proofs.lemmas.Bool.Decides.{nat_tests}
 use Rattle.std.proofs.lemmas.Simd.{map-map}
 use Rattle.settings.specs.Settings.{Settings}
 use Rattle.settings.specs.declared.settings.Mode.{Mode}
@@ -26,7 +24,7 @@ use Rattle.page.specs.declared.sheets.Sheet.{Sheet}
 use Rattle.page.specs.Orders.{setup_by, setup_of}
 use Rattle.page.specs.Robots.{name_bytes, source_bytes, source_of}
 use Rattle.page.specs.Running.{Holds, IsAccepted, OneIsFull, RunsRobots, blank, bytes_on, ending_of, output_of, part_on, taken_by}
-use Rattle.page.specs.Sheets.{IsFull, most_frames, refused, told}
+use Rattle.page.specs.Sheets.{refused, told}
 
 -- two sinks of known contents
 abbrev both : KnownPortions → KnownPortions → Taken
@@ -139,22 +137,6 @@ sink_failed before after (inr is) =
     let faults : after.faults ≡ before.faults + 1 = ap (λ (f : Failures). f.faults) is in
     inr (omega (arith, faults))
 
--- a sheet that refused a write is full
-full_if : (used failures : ℕ) (is : Bool) → nat_le most_frames used ≡ is → 0 < (if is then failures else 0)
-    → (most_frames ≤ used) × (0 < failures)
-full_if used failures true is some = (grind (arith, nat_tests), some)
-full_if used failures false is some = absurd (omega (arith, some))
-
-refused_full : (sheet : Sheet) → 0 < refused sheet → IsFull sheet
-refused_full sheet some =
-    let found = full_if sheet.used sheet.failures (nat_le most_frames sheet.used) refl some in
-    record { used = found.0; refused = found.1 }
-
--- so is one of two of which one refused a write
-one_full : (text faults : Sheet) → (0 < refused text) ⊎ (0 < refused faults) → OneIsFull text faults
-one_full text faults (inl some) = inl (refused_full text some)
-one_full text faults (inr some) = inr (refused_full faults some)
-
 -- of devices that never fail only a full sheet stops a run
 pub only_full : {X A : Type 0} → (olds news : List X) (ran : Result A RunFault) (text faults : ℕ) (film lines : Sheet)
     →
@@ -170,7 +152,7 @@ only_full olds news (Err (run_fault.Read file)) text faults film lines (within, 
     ap (λ (a : FailureCount). a.failures) (sym (never_failed news file) ∙ here ∙ there) in
     absurd (omega (arith, counts))
 only_full olds news (Err run_fault.Write) text faults film lines accounts =
-    (refl, one_full film lines (sink_failed _ _ accounts))
+    (refl, sink_failed _ _ accounts)
 only_full olds news (Err run_fault.Memory) text faults film lines accounts = absurd accounts
 
 -- what the sheets hold after a run on blank ones, by its end
@@ -191,7 +173,5 @@ ends_with order robots (Ok Faulty) text faults accepted (writes, is) stopped = r
   writes = writes;
   holds = held (output_of order robots) text faults writes;
 }
-ends_with order robots (Err run_fault.Write) text faults accepted begins (is, full) =
-    record { accepted = accepted; begins = begins; full = full }
-ends_with order robots (Err (run_fault.Read file)) text faults accepted begins (is, full) = absurd (cc is)
-ends_with order robots (Err run_fault.Memory) text faults accepted begins (is, full) = absurd (cc is)
+ends_with order robots (Err stopped) text faults accepted begins (is, full) =
+    record { accepted = accepted; begins = rw is at begins; full = full }

@@ -134,16 +134,3 @@ cut_behind mode profile sources count before now after pieces writes begins =
     let W : List Piece → Type 0 = λ l. Writes before now l in
     let (between, front, back) = writes_split before now first rest (subst W split writes) in
     (between, front, (rest ++ pieces, begins_then between now after rest pieces back begins))
-
--- what was read by the end of the matches
-pub reads_played : (settings : Settings) (result : Result Status RunFault) (contents later : List (Option (List ℕ)))
-    (before after : Taken)
-    → ReadsFirst settings.profile contents later (length contents)
-    → MatchResult result (λ status. status ≡ Done) (λ stopped. stopped ≡ run_fault.Write)
-    → (result ≡ Err run_fault.Write → (sources : List SourceFile) → AreSources sources settings.file_words contents
-    → TakesPast before after (compiling settings.mode settings.profile (take (length contents - 1) sources)))
-    → ReadsSources settings result contents later before after
-reads_played settings (Ok status) contents later before after reads is puts = reads
-reads_played settings (Err stopped) contents later before after reads is puts =
-    let P : RunFault → Type 0 = λ f. StopsReading settings f contents later before after in
-    subst P (sym is) (record { count = length contents; reads = reads; puts = puts (ap (λ f. Err f) is) })
