@@ -22,7 +22,6 @@ from __future__ import annotations
 import hashlib
 import sys
 from dataclasses import dataclass
-from functools import cache
 from pathlib import Path
 
 sys.path.insert(0, str(Path(__file__).resolve().parent.parent / "scripts"))
@@ -76,9 +75,11 @@ class Ledger:
         found = hashlib.sha256()
         for edit in self.edits(crate):
             found.update(f"{edit.name}\n{change(edit)}".encode())
-        found.update(surface(self._top / "crates" / crate, False))
-        for name in sorted(self.needed([crate]) - {crate}):
-            found.update(surface(self._top / "crates" / name, True))
+        below = sorted(self.needed([crate]) - {crate})
+        known = surfaces.constants([self._top / "crates" / name for name in (crate, *below)])
+        found.update(surfaces.read(self._top / "crates" / crate, known).encode())
+        for name in below:
+            found.update(surfaces.read(self._top / "crates" / name, known, only_public=True).encode())
         return found.hexdigest()[:32]
 
     def lines(self) -> dict[str, Line]:
@@ -112,11 +113,6 @@ class Ledger:
     def _rows(self) -> list[str]:
         path = self._top / TRIED
         return path.read_text(encoding="utf-8").splitlines() if path.exists() else []
-
-
-@cache
-def surface(folder: Path, only_public: bool) -> bytes:
-    return surfaces.read(folder, only_public).encode()
 
 
 def change(edit: Path) -> str:

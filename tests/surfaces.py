@@ -1,5 +1,8 @@
 """What of a crate decides whether a wrong body is refused: its definitions, and of its code all but the bodies.
 
+A number that gets a name, or another one, decides nothing: each constant of the definitions stands here as its number, and what a
+definition imports is sorted.
+
 `rt fmt` lays the code out, and the gate refuses other layouts: a body begins at the brace that ends a signature, or that
 stands alone under its clauses, and it ends at the first brace that stands alone at the function's own indentation."""
 
@@ -11,6 +14,9 @@ from typing import Iterator
 
 HEAD = re.compile(r"( *)(pub(?:\([a-z]+\))? )?(?:const |unsafe |ghost )*fn \w")
 CLAUSE = re.compile(r" *(?:requires|ensures|decreases|where)\b")
+# a constant of the definitions: its name, and its number
+CONSTANT = re.compile(r"^(?:abbrev )?(?:pub )?(\w+) : ℕ(?: *--.*)?\n\1 = (\d+)(?: *--.*)?\n", re.MULTILINE)
+IMPORT = re.compile(r"^use ([\w.]+)\.\{(.*)\}\n", re.MULTILINE)
 # what no contract says: imports of code, attributes, comments, statements of a crate's modules
 ASIDE = re.compile(r" *(?://|#!?\[|(?:pub )?use |(?:pub )?mod )")
 
@@ -83,12 +89,29 @@ def definition(text: str) -> str:
     return "\n".join(line for line in text.split("\n") if line.strip() and not line.lstrip().startswith("--"))
 
 
-def read(folder: Path, only_public: bool = False) -> str:
+def constants(folders: list[Path]) -> dict[str, str]:
+    """The constants of these crates' definitions, each with its number; none of a name that stands for two numbers."""
+    found: dict[str, set[str]] = {}
+    for folder in folders:
+        for path in (folder / "specs").rglob("*.antt"):
+            for name, number in CONSTANT.findall(path.read_text(encoding="utf-8")):
+                found.setdefault(name, set()).add(number)
+    return {name: numbers.pop() for name, numbers in found.items() if len(numbers) == 1}
+
+
+def by_numbers(text: str, known: dict[str, str]) -> str:
+    """A text with the number of each constant for its name; the lines that declare and import constants are left out."""
+    text = CONSTANT.sub(lambda it: "" if it[1] in known else it[0], f"{text}\n")
+    imports = sorted({f"{module}.{name}" for module, names in IMPORT.findall(text) for name in names.split(", ") if name not in known})
+    return "\n".join([*imports, re.sub(r"\w+", lambda it: known.get(it[0], it[0]), IMPORT.sub("", text))])
+
+
+def read(folder: Path, known: dict[str, str], only_public: bool = False) -> str:
     """All that a crate promises and defines, in the order of its files."""
     said = []
     for path in sorted((folder / "specs").rglob("*.antt")):
-        said.append(f"{path.relative_to(folder)}\n{definition(path.read_text(encoding='utf-8'))}")
+        said.append(f"{path.relative_to(folder)}\n{by_numbers(definition(path.read_text(encoding='utf-8')), known)}")
     for path in sorted((folder / "src").rglob("*.rt")):
         if "tests" not in path.relative_to(folder).parts and path.name != "tests.rt":
-            said.append(f"{path.relative_to(folder)}\n{surface(path.read_text(encoding='utf-8'), only_public)}")
+            said.append(f"{path.relative_to(folder)}\n{by_numbers(surface(path.read_text(encoding='utf-8'), only_public), known)}")
     return "\n".join(said)
