@@ -7,9 +7,9 @@ over. The file further-edits.tried has a line a crate that has such edits:
 
 REFUSED is how many edits were refused on that DAY, in a run of SECONDS seconds. The digest is of all that decides
 whether an edit is refused: the edits themselves with their names, the crate's definitions, its code without bodies, and
-what the crates below promise. So if a contract changes, the line is out of date, and the edits are to be tried again; if
-only bodies and proofs do, it isn't. A line NAME DIGEST untried says of such a crate that nobody did so yet: it is skipped,
-with a line that `tests/run` counts.
+what the crates below define, and promise of the functions that it may call. So if a contract changes, the line is out of
+date, and the edits are to be tried again; if only bodies and proofs do, it isn't. A line NAME DIGEST untried says of such
+a crate that nobody did so yet: it is skipped, with a line that `tests/run` counts.
 
 Why an edit was refused stands in its own file, in a line that the kit passes over and the digest leaves out:
 
@@ -78,8 +78,9 @@ class Ledger:
         below = sorted(self.needed([crate]) - {crate})
         known = surfaces.constants([self._top / "crates" / name for name in (crate, *below)])
         found.update(surfaces.read(self._top / "crates" / crate, known).encode())
+        called = surfaces.words(self._top / "crates" / crate)
         for name in below:
-            found.update(surfaces.read(self._top / "crates" / name, known, only_public=True).encode())
+            found.update(surfaces.read(self._top / "crates" / name, known, called).encode())
         return found.hexdigest()[:32]
 
     def lines(self) -> dict[str, Line]:

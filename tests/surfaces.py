@@ -12,7 +12,7 @@ import re
 from pathlib import Path
 from typing import Iterator
 
-HEAD = re.compile(r"( *)(pub(?:\([a-z]+\))? )?(?:const |unsafe |ghost )*fn \w")
+HEAD = re.compile(r"( *)(pub(?:\([a-z]+\))? )?(?:const |unsafe |ghost )*fn (\w+)")
 CLAUSE = re.compile(r" *(?:requires|ensures|decreases|where)\b")
 # a constant of the definitions: its name, and its number
 CONSTANT = re.compile(r"^(?:abbrev )?(?:pub )?(\w+) : ℕ(?: *--.*)?\n\1 = (\d+)(?: *--.*)?\n", re.MULTILINE)
@@ -21,24 +21,26 @@ IMPORT = re.compile(r"^use ([\w.]+)\.\{(.*)\}\n", re.MULTILINE)
 ASIDE = re.compile(r" *(?://|#!?\[|(?:pub )?use |(?:pub )?mod )")
 
 
-def surface(text: str, only_public: bool = False) -> str:
-    """The text of a file of code without bodies, comments, attributes and imports; of functions of their own only the public ones."""
-    return "\n".join(line for line, is_public in declared(text.split("\n")) if is_public or not only_public)
+def surface(text: str, words: frozenset[str] | None = None) -> str:
+    """The text of a file of code without bodies, comments, attributes and imports. With the words of another crate's code: of functions
+    only those that it may call."""
+    return "\n".join(line for line, name in declared(text.split("\n")) if words is None or name is None or name in words)
 
 
-def declared(lines: list[str]) -> Iterator[tuple[str, bool]]:
-    """The lines outside of bodies; those of a function's head and clauses with whether others can call it."""
+def declared(lines: list[str]) -> Iterator[tuple[str, str | None]]:
+    """The lines outside of bodies; those of a function's head and clauses with the name by which others call it, '' if they can't.
+    Those of a trait have none: an operator or a loop may call them."""
     at = 0
     while at < len(lines):
         head = HEAD.match(lines[at])
         if not head:
             if lines[at].strip() and not ASIDE.match(lines[at]):
-                yield lines[at], True
+                yield lines[at], None
             at += 1
             continue
-        is_public = head[2] is not None or is_of_trait(lines, at, head[1])
+        name = None if is_of_trait(lines, at, head[1]) else head[3] if head[2] is not None else ""
         end, begins = ending(lines, at, head[1])
-        yield from ((line, is_public) for line in lines[at:end])
+        yield from ((line, name) for line in lines[at:end])
         at = after_body(lines, end, head[1]) if begins else end
 
 
@@ -106,12 +108,17 @@ def by_numbers(text: str, known: dict[str, str]) -> str:
     return "\n".join([*imports, re.sub(r"\w+", lambda it: known.get(it[0], it[0]), IMPORT.sub("", text))])
 
 
-def read(folder: Path, known: dict[str, str], only_public: bool = False) -> str:
-    """All that a crate promises and defines, in the order of its files."""
+def words(folder: Path) -> frozenset[str]:
+    """The words of a crate's code: what it calls is among them."""
+    return frozenset(word for path in (folder / "src").rglob("*.rt") for word in re.findall(r"\w+", path.read_text(encoding="utf-8")))
+
+
+def read(folder: Path, known: dict[str, str], called: frozenset[str] | None = None) -> str:
+    """All that a crate promises and defines, in the order of its files; with the words of another crate's code, to that one."""
     said = []
     for path in sorted((folder / "specs").rglob("*.antt")):
         said.append(f"{path.relative_to(folder)}\n{by_numbers(definition(path.read_text(encoding='utf-8')), known)}")
     for path in sorted((folder / "src").rglob("*.rt")):
         if "tests" not in path.relative_to(folder).parts and path.name != "tests.rt":
-            said.append(f"{path.relative_to(folder)}\n{by_numbers(surface(path.read_text(encoding='utf-8'), only_public), known)}")
+            said.append(f"{path.relative_to(folder)}\n{by_numbers(surface(path.read_text(encoding='utf-8'), called), known)}")
     return "\n".join(said)
