@@ -40,7 +40,8 @@ def declared(lines: list[str]) -> Iterator[tuple[str, str | None]]:
             continue
         name = None if is_of_trait(lines, at, head[1]) else head[3] if head[2] is not None else ""
         end, begins = ending(lines, at, head[1])
-        yield from ((line, name) for line in lines[at:end])
+        # whether others can call it decides nothing of its own edits
+        yield from ((line.replace(head[2] or "", "", 1), name) for line in lines[at:end])
         at = after_body(lines, end, head[1]) if begins else end
 
 
