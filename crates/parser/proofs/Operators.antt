@@ -12,7 +12,7 @@ use Rattle.grammar.specs.Grammar.{Exactly, Level, Make, Operate, Part, Tail, Una
 use Rattle.grammar.specs.Operators.{binary_of, if_at, operator_at}
 use Rattle.grammar.specs.Laws.OperatorTokens.{operator_of}
 use Rattle.grammar.specs.Laws.Climbing.{if_from, operator_from}
-use Rattle.parser.specs.declared.frames.TheConstants.{UNARY_LEVEL}
+use Rattle.grammar.specs.declared.operators.TheConstants.{UNARY_LEVEL}
 use Rattle.parser.proofs.Productions.{same_self}
 
 abbrev is_within : Option AnOperator → Bool
