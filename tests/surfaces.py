@@ -1,7 +1,7 @@
 """What of a crate decides whether a wrong body is refused: its definitions, and of its code all but the bodies.
 
-A number that gets a name, or another one, decides nothing: each constant of the definitions stands here as its number, and what a
-definition imports is sorted.
+A number that gets a name, or another one, decides nothing: each constant stands here as its number, and what a definition imports is
+sorted.
 
 `rt fmt` lays the code out, and the gate refuses other layouts: a body begins at the brace that ends a signature, or that
 stands alone under its clauses, and it ends at the first brace that stands alone at the function's own indentation."""
@@ -14,11 +14,13 @@ from typing import Iterator
 
 HEAD = re.compile(r"( *)(pub(?:\([a-z]+\))? )?(?:const |unsafe |ghost )*fn (\w+)")
 CLAUSE = re.compile(r" *(?:requires|ensures|decreases|where)\b")
-# a constant of the definitions: its name, and its number
+# a constant of definitions or of code: its name, and its number
 CONSTANT = re.compile(r"^(?:abbrev )?(?:pub )?(\w+) : ℕ(?: *--.*)?\n\1 = (\d+)(?: *--.*)?\n", re.MULTILINE)
+CODE_CONSTANT = re.compile(r"^(?:pub(?:\([a-z]+\))? )?const (\w+): \w+ = ([\d_]+);\n", re.MULTILINE)
 IMPORT = re.compile(r"^use ([\w.]+)\.\{(.*)\}\n", re.MULTILINE)
 # what no contract says: imports of code, attributes, comments, statements of a crate's modules
-ASIDE = re.compile(r" *(?://|#!?\[|(?:pub )?use |(?:pub )?mod )")
+IMPORTED = re.compile(r" *(?:pub |ghost )?use ")
+ASIDE = re.compile(r" *(?://|#!?\[|(?:pub |ghost )?use |(?:pub )?mod )")
 
 
 def surface(text: str, words: frozenset[str] | None = None) -> str:
@@ -36,12 +38,20 @@ def declared(lines: list[str]) -> Iterator[tuple[str, str | None]]:
         if not head:
             if lines[at].strip() and not ASIDE.match(lines[at]):
                 yield lines[at], None
-            at += 1
+            at = after_import(lines, at)
             continue
         name = None if is_of_trait(lines, at, head[1]) else head[3] if head[2] is not None else ""
         end, begins = ending(lines, at, head[1])
-        yield from ((line, name) for line in lines[at:end])
+        # whether others can call it decides nothing of its own edits
+        yield from ((line.replace(head[2] or "", "", 1), name) for line in lines[at:end])
         at = after_body(lines, end, head[1]) if begins else end
+
+
+def after_import(lines: list[str], at: int) -> int:
+    """The line after this one, and of an import the line after all of it."""
+    if IMPORTED.match(lines[at]):
+        at = next(end for end in range(at, len(lines)) if lines[end].endswith(";"))
+    return at + 1
 
 
 def bodies(text: str) -> Iterator[tuple[int, int, int]]:
@@ -92,18 +102,21 @@ def definition(text: str) -> str:
 
 
 def constants(folders: list[Path]) -> dict[str, str]:
-    """The constants of these crates' definitions, each with its number; none of a name that stands for two numbers."""
+    """The constants of these crates, each with its number; none of a name that stands for two numbers."""
     found: dict[str, set[str]] = {}
     for folder in folders:
-        for path in (folder / "specs").rglob("*.antt"):
-            for name, number in CONSTANT.findall(path.read_text(encoding="utf-8")):
-                found.setdefault(name, set()).add(number)
+        for path in (*(folder / "specs").rglob("*.antt"), *(folder / "src").rglob("*.rt")):
+            for name, number in (CODE_CONSTANT if path.suffix == ".rt" else CONSTANT).findall(path.read_text(encoding="utf-8")):
+                found.setdefault(name, set()).add(number.replace("_", ""))
     return {name: numbers.pop() for name, numbers in found.items() if len(numbers) == 1}
 
 
 def by_numbers(text: str, known: dict[str, str]) -> str:
     """A text with the number of each constant for its name; the lines that declare and import constants are left out."""
-    text = CONSTANT.sub(lambda it: "" if it[1] in known else it[0], f"{text}\n")
+    def hidden(found: re.Match[str]) -> str:
+        return "" if found[1] in known else found[0]
+
+    text = CODE_CONSTANT.sub(hidden, CONSTANT.sub(hidden, f"{text}\n"))
     imports = sorted({f"{module}.{name}" for module, names in IMPORT.findall(text) for name in names.split(", ") if name not in known})
     return "\n".join([*imports, re.sub(r"\w+", lambda it: known.get(it[0], it[0]), IMPORT.sub("", text))])
 
