@@ -7,9 +7,9 @@ over. The file further-edits.tried has a line a crate that has such edits:
 
 REFUSED is how many edits were refused on that DAY, in a run of SECONDS seconds. The digest is of all that decides
 whether an edit is refused: the edits themselves with their names, the crate's definitions, its code without bodies, and
-what the crates below promise. So if a contract changes, the line is out of date, and the edits are to be tried again; if
-only bodies and proofs do, it isn't. A line NAME DIGEST untried says of such a crate that nobody did so yet: it is skipped,
-with a line that `tests/run` counts.
+what the crates below define, and promise of the functions that it may call. So if a contract changes, the line is out of
+date, and the edits are to be tried again; if only bodies and proofs do, it isn't. A line NAME DIGEST untried says of such
+a crate that nobody did so yet: it is skipped, with a line that `tests/run` counts.
 
 Why an edit was refused stands in its own file, in a line that the kit passes over and the digest leaves out:
 
@@ -22,7 +22,6 @@ from __future__ import annotations
 import hashlib
 import sys
 from dataclasses import dataclass
-from functools import cache
 from pathlib import Path
 
 sys.path.insert(0, str(Path(__file__).resolve().parent.parent / "scripts"))
@@ -76,9 +75,12 @@ class Ledger:
         found = hashlib.sha256()
         for edit in self.edits(crate):
             found.update(f"{edit.name}\n{change(edit)}".encode())
-        found.update(surface(self._top / "crates" / crate, False))
-        for name in sorted(self.needed([crate]) - {crate}):
-            found.update(surface(self._top / "crates" / name, True))
+        below = sorted(self.needed([crate]) - {crate})
+        known = surfaces.constants([self._top / "crates" / name for name in (crate, *below)])
+        found.update(surfaces.read(self._top / "crates" / crate, known).encode())
+        called = surfaces.words(self._top / "crates" / crate)
+        for name in below:
+            found.update(surfaces.read(self._top / "crates" / name, known, called).encode())
         return found.hexdigest()[:32]
 
     def lines(self) -> dict[str, Line]:
@@ -112,11 +114,6 @@ class Ledger:
     def _rows(self) -> list[str]:
         path = self._top / TRIED
         return path.read_text(encoding="utf-8").splitlines() if path.exists() else []
-
-
-@cache
-def surface(folder: Path, only_public: bool) -> bytes:
-    return surfaces.read(folder, only_public).encode()
 
 
 def change(edit: Path) -> str:

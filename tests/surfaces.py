@@ -1,5 +1,8 @@
 """What of a crate decides whether a wrong body is refused: its definitions, and of its code all but the bodies.
 
+A number that gets a name, or another one, decides nothing: each constant stands here as its number, and what a definition imports is
+sorted.
+
 `rt fmt` lays the code out, and the gate refuses other layouts: a body begins at the brace that ends a signature, or that
 stands alone under its clauses, and it ends at the first brace that stands alone at the function's own indentation."""
 
@@ -9,31 +12,46 @@ import re
 from pathlib import Path
 from typing import Iterator
 
-HEAD = re.compile(r"( *)(pub(?:\([a-z]+\))? )?(?:const |unsafe |ghost )*fn \w")
+HEAD = re.compile(r"( *)(pub(?:\([a-z]+\))? )?(?:const |unsafe |ghost )*fn (\w+)")
 CLAUSE = re.compile(r" *(?:requires|ensures|decreases|where)\b")
+# a constant of definitions or of code: its name, and its number
+CONSTANT = re.compile(r"^(?:abbrev )?(?:pub )?(\w+) : ℕ(?: *--.*)?\n\1 = (\d+)(?: *--.*)?\n", re.MULTILINE)
+CODE_CONSTANT = re.compile(r"^(?:pub(?:\([a-z]+\))? )?const (\w+): \w+ = ([\d_]+);\n", re.MULTILINE)
+IMPORT = re.compile(r"^use ([\w.]+)\.\{(.*)\}\n", re.MULTILINE)
 # what no contract says: imports of code, attributes, comments, statements of a crate's modules
-ASIDE = re.compile(r" *(?://|#!?\[|(?:pub )?use |(?:pub )?mod )")
+IMPORTED = re.compile(r" *(?:pub |ghost )?use ")
+ASIDE = re.compile(r" *(?://|#!?\[|(?:pub |ghost )?use |(?:pub )?mod )")
 
 
-def surface(text: str, only_public: bool = False) -> str:
-    """The text of a file of code without bodies, comments, attributes and imports; of functions of their own only the public ones."""
-    return "\n".join(line for line, is_public in declared(text.split("\n")) if is_public or not only_public)
+def surface(text: str, words: frozenset[str] | None = None) -> str:
+    """The text of a file of code without bodies, comments, attributes and imports. With the words of another crate's code: of functions
+    only those that it may call."""
+    return "\n".join(line for line, name in declared(text.split("\n")) if words is None or name is None or name in words)
 
 
-def declared(lines: list[str]) -> Iterator[tuple[str, bool]]:
-    """The lines outside of bodies; those of a function's head and clauses with whether others can call it."""
+def declared(lines: list[str]) -> Iterator[tuple[str, str | None]]:
+    """The lines outside of bodies; those of a function's head and clauses with the name by which others call it, '' if they can't.
+    Those of a trait have none: an operator or a loop may call them."""
     at = 0
     while at < len(lines):
         head = HEAD.match(lines[at])
         if not head:
             if lines[at].strip() and not ASIDE.match(lines[at]):
-                yield lines[at], True
-            at += 1
+                yield lines[at], None
+            at = after_import(lines, at)
             continue
-        is_public = head[2] is not None or is_of_trait(lines, at, head[1])
+        name = None if is_of_trait(lines, at, head[1]) else head[3] if head[2] is not None else ""
         end, begins = ending(lines, at, head[1])
-        yield from ((line, is_public) for line in lines[at:end])
+        # whether others can call it decides nothing of its own edits
+        yield from ((line.replace(head[2] or "", "", 1), name) for line in lines[at:end])
         at = after_body(lines, end, head[1]) if begins else end
+
+
+def after_import(lines: list[str], at: int) -> int:
+    """The line after this one, and of an import the line after all of it."""
+    if IMPORTED.match(lines[at]):
+        at = next(end for end in range(at, len(lines)) if lines[end].endswith(";"))
+    return at + 1
 
 
 def bodies(text: str) -> Iterator[tuple[int, int, int]]:
@@ -83,12 +101,37 @@ def definition(text: str) -> str:
     return "\n".join(line for line in text.split("\n") if line.strip() and not line.lstrip().startswith("--"))
 
 
-def read(folder: Path, only_public: bool = False) -> str:
-    """All that a crate promises and defines, in the order of its files."""
+def constants(folders: list[Path]) -> dict[str, str]:
+    """The constants of these crates, each with its number; none of a name that stands for two numbers."""
+    found: dict[str, set[str]] = {}
+    for folder in folders:
+        for path in (*(folder / "specs").rglob("*.antt"), *(folder / "src").rglob("*.rt")):
+            for name, number in (CODE_CONSTANT if path.suffix == ".rt" else CONSTANT).findall(path.read_text(encoding="utf-8")):
+                found.setdefault(name, set()).add(number.replace("_", ""))
+    return {name: numbers.pop() for name, numbers in found.items() if len(numbers) == 1}
+
+
+def by_numbers(text: str, known: dict[str, str]) -> str:
+    """A text with the number of each constant for its name; the lines that declare and import constants are left out."""
+    def hidden(found: re.Match[str]) -> str:
+        return "" if found[1] in known else found[0]
+
+    text = CODE_CONSTANT.sub(hidden, CONSTANT.sub(hidden, f"{text}\n"))
+    imports = sorted({f"{module}.{name}" for module, names in IMPORT.findall(text) for name in names.split(", ") if name not in known})
+    return "\n".join([*imports, re.sub(r"\w+", lambda it: known.get(it[0], it[0]), IMPORT.sub("", text))])
+
+
+def words(folder: Path) -> frozenset[str]:
+    """The words of a crate's code: what it calls is among them."""
+    return frozenset(word for path in (folder / "src").rglob("*.rt") for word in re.findall(r"\w+", path.read_text(encoding="utf-8")))
+
+
+def read(folder: Path, known: dict[str, str], called: frozenset[str] | None = None) -> str:
+    """All that a crate promises and defines, in the order of its files; with the words of another crate's code, to that one."""
     said = []
     for path in sorted((folder / "specs").rglob("*.antt")):
-        said.append(f"{path.relative_to(folder)}\n{definition(path.read_text(encoding='utf-8'))}")
+        said.append(f"{path.relative_to(folder)}\n{by_numbers(definition(path.read_text(encoding='utf-8')), known)}")
     for path in sorted((folder / "src").rglob("*.rt")):
         if "tests" not in path.relative_to(folder).parts and path.name != "tests.rt":
-            said.append(f"{path.relative_to(folder)}\n{surface(path.read_text(encoding='utf-8'), only_public)}")
+            said.append(f"{path.relative_to(folder)}\n{by_numbers(surface(path.read_text(encoding='utf-8'), called), known)}")
     return "\n".join(said)

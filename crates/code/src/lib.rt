@@ -25,7 +25,7 @@ pub use grammar::{Intrinsic, Profile};
 pub use instr::Instr;
 pub use laws::{always_ready, code_means_trees, length_of_code, more_iterations};
 pub use machine::Machine;
-pub use maker::Maker;
+pub use maker::{Maker, main_number};
 pub use program::Program;
 pub use want::Want;
 pub use worked_programs::known_programs;

@@ -12,7 +12,7 @@ use Rattle.grammar.specs.declared.operators.StoreOp.{StoreOp}
 use Rattle.grammar.specs.declared.actions.Action.{Action}
 use Rattle.grammar.specs.Actions.{code_length}
 use Rattle.grammar.specs.Derivation.{State, PartialTree, AnExpr, AVariable, ACall, ABody, Definition, initial_state, step, stack_step, stepped, derived, next_token, token_after_next, trees_after, name_tree, name_of_token, constant_value, matched, name_matched, replaced, constant_matched}
-use Rattle.grammar.specs.Grammar.{Symbol, Source, Types, Head, More, Parameters, ParameterTypes, FunctionBlock, Block, Declarations, Statements, Statement, ElsePart, Back, Expression, Level, Tail, Unary, Primary, Arguments, MoreArguments, Role, Defined, External, Parameter, Typed, Local, Called, Mentioned, Item, Exactly, AKeyword, AName, AConstant, AnEnd, Part, Make, Close, SemanticAction, Operate, Negate, Not, Complement, Fetch, Store, PrefixIncrement, PostfixIncrement, AddArgument, Invoke, Empty, Evaluate, Decide, DecideElse, Repeat, Zero, GiveBack, Define, Production, choice, assignment_or, tail_production, is_lexical_error}
+use Rattle.grammar.specs.Grammar.{Symbol, Source, Types, Head, More, Parameters, ParameterTypes, FunctionBlock, Block, Declarations, Statements, Statement, ElsePart, Back, Expression, Level, Tail, Unary, Primary, Arguments, MoreArguments, Role, Defined, External, Parameter, Typed, Local, Called, Mentioned, Item, Exactly, AKeyword, AName, AConstant, AnEnd, Part, Make, Close, SemanticAction, Operate, Negate, Not, Complement, Fetch, Store, PrefixIncrement, PostfixIncrement, AddArgument, Invoke, Empty, Evaluate, Decide, DecideElse, Repeat, Zero, GiveBack, Define, Production, choice, assignment_or, tail_production, is_lexical_error, unary_level}
 use Rattle.grammar.specs.Laws.StateParts.{state}
 use Rattle.grammar.specs.Operators.{operator_at, store_of}
 use Rattle.grammar.specs.Profile.{Profile}
@@ -278,7 +278,7 @@ choice_fits Statement next after stack ks h = absurd (none_fits stack h)
 choice_fits ElsePart next after stack ks h = absurd (none_fits stack h)
 choice_fits Back next after stack ks h = back_fits next after stack ks h
 choice_fits Expression next after stack ks h = expression_fits next after stack ks h
-choice_fits (Level n) next after stack ks h = level_fits n (nat_lt n 11) stack ks h
+choice_fits (Level n) next after stack ks h = level_fits n (nat_lt n unary_level) stack ks h
 choice_fits (Tail n) next after stack (E ∷ ks) h = tails_fit n next after stack ks h
 choice_fits (Tail n) next after stack ks h = absurd (none_fits stack h)
 choice_fits Unary next after stack ks h = unary_fits next after stack ks h

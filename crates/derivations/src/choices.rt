@@ -9,7 +9,7 @@ ghost use Rattle.derivations.specs.Table.{action_of, item_of, role_of, symbol_of
 
 use crate::symbols::Item::{AKeyword, Close, Ending, Exactly, Make, Naming, Number, Part};
 use crate::symbols::{Item, Production, Role, SemanticAction, Symbol};
-use grammar::{BinaryOperator, Op, StoreOp, operator_from, store_operator};
+use grammar::{BinaryOperator, Op, StoreOp, UNARY_LEVEL, operator_from, store_operator};
 use tokens::{Keyword, Punctuator, Token};
 
 /// The greatest level of the binary operators.
@@ -305,7 +305,7 @@ fn expression(next: &Token, after: &Token) -> Production
 fn operators(level: u8) -> Production
     ensures { (next after : Token) → Some result ≡ table.choice (table.Level level) next after }
 {
-    if level < 11 {
+    if level < UNARY_LEVEL {
         Production::of(&[Part(Symbol::Level(level + 1)), Part(Symbol::Tail(level))])
     } else {
         Production::of(&[Part(Symbol::Unary)])

@@ -14,14 +14,13 @@ use Rattle.grammar.specs.declared.operators.StoreOp.{StoreOp}
 use Rattle.grammar.specs.Derivation.{State, PartialTree, Definition, initial_state, stack_step, stepped, derived, next_token, token_after_next, name_of_token, constant_value}
 use Rattle.grammar.specs.Laws.StateParts.{state}
 use Rattle.grammar.specs.Faults.{Fault, faults_at}
-use Rattle.grammar.specs.Grammar.{Symbol, Source, Head, Expression, Level, Tail, Unary, Primary, Item, Exactly, AKeyword, AName, AConstant, AnEnd, Part, Make, Close, Production, choice, assignment_or, tail_production, is_punctuator, is_keyword}
+use Rattle.grammar.specs.Grammar.{Symbol, Source, Head, Expression, Level, Tail, Unary, Primary, Item, Exactly, AKeyword, AName, AConstant, AnEnd, Part, Make, Close, Production, choice, assignment_or, tail_production, is_punctuator, is_keyword, unary_level}
 use Rattle.grammar.specs.Operators.{operator_at, store_of}
 use Rattle.grammar.specs.Laws.Parsing.{IsIn}
 use Rattle.grammar.specs.Profile.{Profile}
 use Rattle.grammar.specs.Scope.{Scope}
 use Rattle.grammar.proofs.AfterSteps.{IfStepped, if_matched, if_named, if_constant, if_replaced, after_step}
 use Rattle.grammar.proofs.LastTokens.{EndsWithLast}
-use Rattle.grammar.proofs.Weight.{unary_level}
 
 -- the end, and what leads to it
 abbrev is_bottom : Item → Bool

@@ -12,12 +12,12 @@ use Rattle.arith.specs.declared.operators.Op.{Op}
 use Rattle.grammar.specs.declared.operators.StoreOp.{StoreOp}
 use Rattle.grammar.specs.Derivation.{State, PartialTree, Definition, step, stack_step, stepped, derived, next_token, token_after_next}
 use Rattle.grammar.specs.Laws.StateParts.{state}
-use Rattle.grammar.specs.Grammar.{Symbol, Source, Head, Expression, Level, Tail, Unary, Primary, Item, Exactly, AKeyword, AName, AConstant, AnEnd, Part, Make, Close, Production, choice, assignment_or, tail_production, is_lexical_error}
+use Rattle.grammar.specs.Grammar.{Symbol, Source, Head, Expression, Level, Tail, Unary, Primary, Item, Exactly, AKeyword, AName, AConstant, AnEnd, Part, Make, Close, Production, choice, assignment_or, tail_production, is_lexical_error, unary_level}
 use Rattle.grammar.specs.Operators.{operator_at, store_of}
 use Rattle.grammar.specs.Scope.{Scope}
 use Rattle.grammar.proofs.AfterSteps.{IfStepped, if_matched, if_named, if_constant, if_replaced, if_sound}
 use Rattle.grammar.proofs.Runs.{stays}
-use Rattle.grammar.proofs.Weight.{cost, costs, credit_of, credit, weight, unary_level}
+use Rattle.grammar.proofs.Weight.{cost, costs, credit_of, credit, weight}
 
 abbrev load : List Item → ℕ
 load stack = costs stack + credit stack

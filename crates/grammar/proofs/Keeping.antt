@@ -11,12 +11,11 @@ use Rattle.arith.specs.declared.operators.Op.{Op}
 use Rattle.grammar.specs.declared.operators.StoreOp.{StoreOp}
 use Rattle.grammar.specs.Derivation.{State, PartialTree, Definition, item_step, stack_step, stepped, derived, next_token, token_after_next, line_at, functions_defined, scope_after_action}
 use Rattle.grammar.specs.Laws.StateParts.{state}
-use Rattle.grammar.specs.Grammar.{Symbol, Source, Head, More, Parameters, FunctionBlock, Declarations, Statements, Expression, Level, Tail, Unary, Primary, Role, Defined, External, Parameter, Typed, Local, Called, Mentioned, Item, Exactly, AKeyword, AName, AConstant, AnEnd, Part, Make, Close, SemanticAction, Define, Production, choice, assignment_or, tail_production, is_lexical_error}
+use Rattle.grammar.specs.Grammar.{Symbol, Source, Head, More, Parameters, FunctionBlock, Declarations, Statements, Expression, Level, Tail, Unary, Primary, Role, Defined, External, Parameter, Typed, Local, Called, Mentioned, Item, Exactly, AKeyword, AName, AConstant, AnEnd, Part, Make, Close, SemanticAction, Define, Production, choice, assignment_or, tail_production, is_lexical_error, unary_level}
 use Rattle.grammar.specs.Laws.{KeepsFunction, BlocksKeepTheFunction}
 use Rattle.grammar.proofs.AfterSteps.{IfStepped, if_matched, if_named, if_constant, if_replaced, after_step}
 use Rattle.grammar.specs.Operators.{operator_at, store_of}
 use Rattle.grammar.specs.Scope.{Scope, scope_after_name, is_external_new, is_local_new, is_variable_new, is_function_new, with_external, with_variable, with_new_function}
-use Rattle.grammar.proofs.Weight.{unary_level}
 
 -- Inner items: they neither begin a function, nor give it a parameter, nor end it.
 

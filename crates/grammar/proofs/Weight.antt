@@ -1,11 +1,7 @@
 -- How many more steps a derivation can make at most.
 use Rattle.std.specs.Prelude.{ℕ, ◌+◌, ◌-◌, ◌*◌, List, [], ◌∷◌, length}
 use Rattle.grammar.specs.Derivation.{State}
-use Rattle.grammar.specs.Grammar.{Item, AnEnd, Part, Make, Close, Symbol, Source, Types, Head, More, Parameters, ParameterTypes, FunctionBlock, Block, Declarations, Statements, Statement, ElsePart, Back, Expression, Level, Tail, Unary, Primary, Arguments, MoreArguments}
-
--- past the levels of binary operators
-abbrev pub unary_level : ℕ
-unary_level = 11
+use Rattle.grammar.specs.Grammar.{Item, AnEnd, Part, Make, Close, Symbol, Source, Types, Head, More, Parameters, ParameterTypes, FunctionBlock, Block, Declarations, Statements, Statement, ElsePart, Back, Expression, Level, Tail, Unary, Primary, Arguments, MoreArguments, unary_level}
 
 -- each item costs a step; the end's makes up for what follows it, and of two symbols for the semantic action that is
 -- all they push

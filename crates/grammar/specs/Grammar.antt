@@ -25,6 +25,14 @@ pub data Role : Type 0 where
   Called : Role  -- a function is called
   Mentioned : Role  -- a variable is mentioned
 
+-- how many levels of binary operators there are, from the loosest one on, level 1
+abbrev pub binary_levels : ℕ
+binary_levels = 10
+
+-- the level of unary operators, past those of binary ones
+abbrev pub unary_level : ℕ
+unary_level = 11
+
 pub data Symbol : Type 0 where
   Source : Symbol
   Types : Symbol  -- further type words
@@ -40,9 +48,9 @@ pub data Symbol : Type 0 where
   ElsePart : Symbol
   Back : Symbol  -- what a return returns
   Expression : Symbol
-  Level : (n : ℕ) → Symbol  -- operators of level n and of tighter ones: levels 1 to 11
+  Level : (n : ℕ) → Symbol  -- operators of level n and of tighter ones: levels 1 to unary_level
   Tail : (n : ℕ) → Symbol  -- further operators of level n
-  Unary : Symbol  -- level 11
+  Unary : Symbol  -- level unary_level
   Primary : Symbol
   Arguments : Symbol
   MoreArguments : Symbol
@@ -163,7 +171,7 @@ choice Back next after = Some (Part Expression ∷ [])
 choice Expression (token.Name name) (token.Punctuator m) = Some (assignment_or (store_of m) m)
 choice Expression next after = Some (Part (Level 1) ∷ [])
 choice (Level n) next after =
-    if nat_lt n 11 then Some (Part (Level (n + 1)) ∷ Part (Tail n) ∷ [])
+    if nat_lt n unary_level then Some (Part (Level (n + 1)) ∷ Part (Tail n) ∷ [])
     else Some (Part Unary ∷ [])
 choice (Tail n) (token.Punctuator m) after = Some (tail_production n (operator_at n (token.Punctuator m)) m)
 choice (Tail n) next after = Some []

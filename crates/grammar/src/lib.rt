@@ -21,7 +21,8 @@ pub use build::{Build, BuildFault};
 pub use diagnostics::{Code, Diagnostic, ParseFault, lexical_error_code};
 pub use name_limits::{MOST_NAMES, MOST_NESTED};
 pub use operators::{
-    BinaryOperator, StoreOp, operator_from, operator_punctuator, store_operator, store_punctuator,
+    BinaryOperator, StoreOp, UNARY_LEVEL, operator_from, operator_punctuator, store_operator,
+    store_punctuator,
 };
 pub use pools::{FunctionNames, Pools};
 pub use profiles::{MOST_PROFILE, Profile};

@@ -36,6 +36,9 @@ pub enum StoreOp {
     BitOr,
 }
 
+/// The level of unary operators, past those of binary ones.
+pub const UNARY_LEVEL: u8 = 11;
+
 /// A binary operator with its level: 1 binds loosest, 10 tightest.
 #[derive(Clone, Copy, PartialEq, Eq)]
 pub struct BinaryOperator {

@@ -8,10 +8,9 @@ use Rattle.tokens.specs.declared.located_tokens.Token.TheVariants as token
 use Rattle.tokens.specs.declared.located_tokens.Keyword.TheVariants as keyword
 use Rattle.arith.specs.declared.operators.Op.{Op}
 use Rattle.grammar.specs.declared.operators.StoreOp.{StoreOp}
-use Rattle.grammar.specs.Grammar.{Symbol, Head, Expression, Level, Tail, Unary, Primary, Part, choice, enters, assignment_or, tail_production}
+use Rattle.grammar.specs.Grammar.{Symbol, Head, Expression, Level, Tail, Unary, Primary, Part, choice, enters, assignment_or, tail_production, unary_level}
 use Rattle.grammar_laws.specs.ClosedNesting.{closes, nested_entered, NestedProductionsClose}
 use Rattle.grammar.specs.Operators.{operator_at, store_of}
-use Rattle.grammar.proofs.Weight.{unary_level}
 
 level_close : (n : ℕ) (b : Bool) →
     closes (if b then Some (Part (Level (n + 1)) ∷ Part (Tail n) ∷ []) else Some (Part Unary ∷ [])) ≡ 0

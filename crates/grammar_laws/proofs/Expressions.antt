@@ -10,7 +10,7 @@ use Rattle.grammar.specs.declared.operators.StoreOp.{StoreOp}
 use Rattle.grammar.specs.declared.operators.StoreOp.TheVariants as store_op
 use Rattle.grammar.specs.Derivation.{PartialTree, AnExpr, AVariable, ACall, Definition}
 use Rattle.grammar.specs.Grammar as grammar
-use Rattle.grammar.specs.Grammar.{Item, Exactly, Part, Make, Close, Level, Unary, MoreArguments, SemanticAction, Operate, Negate, Complement, Store, AddArgument, Invoke, choice, is_lexical_error}
+use Rattle.grammar.specs.Grammar.{Item, Exactly, Part, Make, Close, Level, Unary, MoreArguments, SemanticAction, Operate, Negate, Complement, Store, AddArgument, Invoke, choice, is_lexical_error, binary_levels}
 use Rattle.grammar.specs.Scope.{Scope, variable_of, callee_of}
 use Rattle.grammar.specs.Tree as tree
 use Rattle.grammar.specs.Tree.{Expr, Args, add_argument}
@@ -19,7 +19,7 @@ use Rattle.grammar.specs.Operators.{binary_punctuator, store_punctuator}
 use Rattle.grammar_laws.specs.Spelling.{sign_punctuator, spelled_increment, spell_more}
 use Rattle.grammar_laws.specs.Resolving.{tree_of, trees_of, behind, behind_arguments, mentioned, behind_callee, signed, increment_operator}
 use Rattle.grammar_laws.proofs.Leading.{Leads, then, at, first, second, part, make}
-use Rattle.grammar_laws.proofs.Levels.{tails, down, up, Closing, Round, Comma, closing_punctuator, Operates, operates}
+use Rattle.grammar_laws.proofs.Levels.{tails, every_tail, down, up, Closing, Round, Comma, closing_punctuator, Operates, operates, level_of, tighter_levels}
 use Rattle.grammar_laws.proofs.Parts.{IsTaken, IsOperand, operand, a_constant, a_name, operator_ends, closing_ends, spell_part, part_sound, part_begins, part_at_level, part_alone}
 
 -- a binary operator
@@ -37,17 +37,19 @@ binary o a b is_a is_b c rest stack values scope functions =
     (part_sound a (token.Punctuator (binary_punctuator o) ∷ right))
     (part_begins a (binary_punctuator o) right (operator_ends o)))
     (then _ _ _
-    (down 10 1 stack (spell_part a ++ token.Punctuator (binary_punctuator o) ∷ right) values scope functions refl
+    (down binary_levels 1 stack (spell_part a ++ token.Punctuator (binary_punctuator o) ∷ right) values scope functions
+    refl
     (part_sound a (token.Punctuator (binary_punctuator o) ∷ right)))
-    (then _ _ _ (is_a (binary_punctuator o) (operator_ends o) right (tails 10 1 stack) values scope functions)
+    (then _ _ _ (is_a (binary_punctuator o) (operator_ends o) right (every_tail stack) values scope functions)
     (then _ _ _ (goes.goes stack right (AnExpr (tree_of a scope) ∷ values) (behind a scope) functions)
     (then _ _ _
-    (part_at_level b is_b goes.above (goes.level + 1) goes.sum c rest (Make (Operate o) ∷ tails goes.level 1 stack)
+    (part_at_level b is_b (tighter_levels o) (level_of o + 1) goes.sum c rest
+    (Make (Operate o) ∷ tails (level_of o) 1 stack)
     (AnExpr (tree_of a scope) ∷ values) (behind a scope) functions)
     (then _ _ _
-    (make (Operate o) (tails goes.level 1 stack) (token.Punctuator (closing_punctuator c) ∷ rest) both
+    (make (Operate o) (tails (level_of o) 1 stack) (token.Punctuator (closing_punctuator c) ∷ rest) both
     (AnExpr (tree_of (Binary o a b) scope) ∷ values) (behind (Binary o a b) scope) functions refl refl refl refl)
-    (up goes.level 1 c stack rest (AnExpr (tree_of (Binary o a b) scope) ∷ values) (behind (Binary o a b) scope)
+    (up (level_of o) 1 c stack rest (AnExpr (tree_of (Binary o a b) scope) ∷ values) (behind (Binary o a b) scope)
     functions)))))))
 
 -- a unary operator
@@ -82,12 +84,13 @@ sign_ends Tilde e c rest stack values scope functions =
 with_sign : (sign : Sign) (e : Expression) → IsOperand e → IsTaken (Signed sign e)
 with_sign sign e is c rest stack values scope functions =
     let inner : List Token = spell_part e ++ token.Punctuator (closing_punctuator c) ∷ rest in
-    let above : List Item = tails 10 1 stack in
+    let above : List Item = every_tail stack in
     let whole : Expr = tree_of (Signed sign e) scope in
     then _ _ _
     (part grammar.Expression (Part (Level 1) ∷ []) stack (token.Punctuator (sign_punctuator sign) ∷ inner) values scope
     functions refl refl)
-    (then _ _ _ (down 10 1 stack (token.Punctuator (sign_punctuator sign) ∷ inner) values scope functions refl refl)
+    (then _ _ _
+    (down binary_levels 1 stack (token.Punctuator (sign_punctuator sign) ∷ inner) values scope functions refl refl)
     (then _ _ _ (sign_begins sign inner above values scope functions)
     (then _ _ _
     (is (closing_punctuator c) (closing_ends c) rest (Make (sign_rule sign) ∷ Close ∷ above) values scope functions)
@@ -95,7 +98,7 @@ with_sign sign e is c rest stack values scope functions =
     (then _
     (at above (token.Punctuator (closing_punctuator c) ∷ rest) (AnExpr whole ∷ values) (behind e scope) functions) _
     (record { steps = 1; leads = refl })
-    (up 10 1 c stack rest (AnExpr whole ∷ values) (behind e scope) functions))))))
+    (up binary_levels 1 c stack rest (AnExpr whole ∷ values) (behind e scope) functions))))))
 
 -- ++ and --
 
@@ -134,22 +137,22 @@ incremented : (rule : SemanticAction) (name : List ℕ) (whole : Expr) (tokens r
     (stack : List Item) (values : List PartialTree) (scope : Scope) (functions : List Definition) →
     is_lexical_error (first tokens) ≡ false →
     choice grammar.Expression (first tokens) (second tokens) ≡ Some (Part (Level 1) ∷ []) →
-    Leads (at (Part Unary ∷ tails 10 1 stack) tokens values scope functions)
-    (at (Make rule ∷ tails 10 1 stack) (token.Punctuator (closing_punctuator c) ∷ rest)
+    Leads (at (Part Unary ∷ every_tail stack) tokens values scope functions)
+    (at (Make rule ∷ every_tail stack) (token.Punctuator (closing_punctuator c) ∷ rest)
     (AVariable (variable_of name scope) ∷ values) (mentioned name scope) functions) →
     Leads
-    (at (Make rule ∷ tails 10 1 stack) (token.Punctuator (closing_punctuator c) ∷ rest)
+    (at (Make rule ∷ every_tail stack) (token.Punctuator (closing_punctuator c) ∷ rest)
     (AVariable (variable_of name scope) ∷ values) (mentioned name scope) functions)
-    (at (tails 10 1 stack) (token.Punctuator (closing_punctuator c) ∷ rest) (AnExpr whole ∷ values)
+    (at (every_tail stack) (token.Punctuator (closing_punctuator c) ∷ rest) (AnExpr whole ∷ values)
     (mentioned name scope) functions) →
     Leads (at (Part grammar.Expression ∷ stack) tokens values scope functions)
     (at stack (token.Punctuator (closing_punctuator c) ∷ rest) (AnExpr whole ∷ values) (mentioned name scope)
     functions)
 incremented rule name whole tokens rest c stack values scope functions sound chosen begins made =
     then _ _ _ (part grammar.Expression (Part (Level 1) ∷ []) stack tokens values scope functions sound chosen)
-    (then _ _ _ (down 10 1 stack tokens values scope functions refl sound)
+    (then _ _ _ (down binary_levels 1 stack tokens values scope functions refl sound)
     (then _ _ _ begins (then _ _ _ made
-    (up 10 1 c stack rest (AnExpr whole ∷ values) (mentioned name scope) functions))))
+    (up binary_levels 1 c stack rest (AnExpr whole ∷ values) (mentioned name scope) functions))))
 
 pre_incremented : (increment : Increment) (name : List ℕ) → IsTaken (PreIncrement increment name)
 pre_incremented increment name c rest stack values scope functions =
@@ -157,8 +160,8 @@ pre_incremented increment name c rest stack values scope functions =
     let closing : List Token = token.Punctuator (closing_punctuator c) ∷ rest in
     incremented rule name (tree_of (PreIncrement increment name) scope)
     (token.Punctuator (spelled_increment increment) ∷ token.Name name ∷ closing) rest c stack values scope functions
-    refl refl (before_begins increment name closing (tails 10 1 stack) values scope functions)
-    (make rule (tails 10 1 stack) closing _ _ (mentioned name scope) functions refl refl refl refl)
+    refl refl (before_begins increment name closing (every_tail stack) values scope functions)
+    (make rule (every_tail stack) closing _ _ (mentioned name scope) functions refl refl refl refl)
 
 post_incremented : (increment : Increment) (name : List ℕ) → IsTaken (PostIncrement increment name)
 post_incremented increment name c rest stack values scope functions =
@@ -167,8 +170,8 @@ post_incremented increment name c rest stack values scope functions =
     incremented rule name (tree_of (PostIncrement increment name) scope)
     (token.Name name ∷ token.Punctuator (spelled_increment increment) ∷ closing) rest c stack values scope functions
     refl (no_assignment increment name)
-    (behind_begins increment name closing (tails 10 1 stack) values scope functions)
-    (make rule (tails 10 1 stack) closing _ _ (mentioned name scope) functions refl refl refl refl)
+    (behind_begins increment name closing (every_tail stack) values scope functions)
+    (make rule (every_tail stack) closing _ _ (mentioned name scope) functions refl refl refl refl)
 
 -- an assignment
 
@@ -290,7 +293,7 @@ call_begins : (name : List ℕ) (tokens : List Token) (stack : List Item) (value
     Leads
     (at (Part grammar.Expression ∷ stack) (token.Name name ∷ token.Punctuator punctuator.OpenRound ∷ tokens) values
     scope functions)
-    (at (Part grammar.Arguments ∷ Exactly punctuator.CloseRound ∷ Make Invoke ∷ Close ∷ tails 10 1 stack) tokens
+    (at (Part grammar.Arguments ∷ Exactly punctuator.CloseRound ∷ Make Invoke ∷ Close ∷ every_tail stack) tokens
     (ACall (callee_of name scope) tree.NoMore ∷ values) (behind_callee name scope) functions)
 call_begins name tokens stack values scope functions = record { steps = 16; leads = refl }
 
@@ -298,13 +301,13 @@ call_begins name tokens stack values scope functions = record { steps = 16; lead
 call_ends : (callee : Callee) (arguments : Args) (c : Closing) (rest : List Token) (stack : List Item)
     (values : List PartialTree) (scope : Scope) (functions : List Definition) →
     Leads
-    (at (Exactly punctuator.CloseRound ∷ Make Invoke ∷ Close ∷ tails 10 1 stack)
+    (at (Exactly punctuator.CloseRound ∷ Make Invoke ∷ Close ∷ every_tail stack)
     (token.Punctuator punctuator.CloseRound ∷ token.Punctuator (closing_punctuator c) ∷ rest)
     (ACall callee arguments ∷ values) scope functions)
     (at stack (token.Punctuator (closing_punctuator c) ∷ rest) (AnExpr (tree.Call callee arguments) ∷ values) scope
     functions)
 call_ends callee arguments c rest stack values scope functions =
-    let above : List Item = tails 10 1 stack in
+    let above : List Item = every_tail stack in
     let tokens : List Token = token.Punctuator (closing_punctuator c) ∷ rest in
     then _ (at (Make Invoke ∷ Close ∷ above) tokens (ACall callee arguments ∷ values) scope functions) _
     (record { steps = 1; leads = refl })
@@ -313,7 +316,7 @@ call_ends callee arguments c rest stack values scope functions =
     refl)
     (then _ (at above tokens (AnExpr (tree.Call callee arguments) ∷ values) scope functions) _
     (record { steps = 1; leads = refl })
-    (up 10 1 c stack rest (AnExpr (tree.Call callee arguments) ∷ values) scope functions)))
+    (up binary_levels 1 c stack rest (AnExpr (tree.Call callee arguments) ∷ values) scope functions)))
 
 call_of_none : (name : List ℕ) → IsTaken (Call name NoMore)
 call_of_none name c rest stack values scope functions =
@@ -321,7 +324,7 @@ call_of_none name c rest stack values scope functions =
     (call_begins name (token.Punctuator punctuator.CloseRound ∷ token.Punctuator (closing_punctuator c) ∷ rest) stack
     values scope functions)
     (then _
-    (at (Exactly punctuator.CloseRound ∷ Make Invoke ∷ Close ∷ tails 10 1 stack)
+    (at (Exactly punctuator.CloseRound ∷ Make Invoke ∷ Close ∷ every_tail stack)
     (token.Punctuator punctuator.CloseRound ∷ token.Punctuator (closing_punctuator c) ∷ rest)
     (ACall (callee_of name scope) tree.NoMore ∷ values) (behind_callee name scope) functions) _
     (record { steps = 1; leads = refl })
@@ -333,7 +336,7 @@ call name e more is others c rest stack values scope functions =
     let in_scope : Scope = behind_callee name scope in
     let callee : Callee = callee_of name scope in
     let close : List Token = token.Punctuator punctuator.CloseRound ∷ token.Punctuator (closing_punctuator c) ∷ rest in
-    let end : List Item = Exactly punctuator.CloseRound ∷ Make Invoke ∷ Close ∷ tails 10 1 stack in
+    let end : List Item = Exactly punctuator.CloseRound ∷ Make Invoke ∷ Close ∷ every_tail stack in
     let inner : List Token = spell_part e ++ (spell_more more ++ close) in
     rw (
       append_assoc (spell_part e ++ spell_more more) (token.Punctuator punctuator.CloseRound ∷ [])

@@ -1,8 +1,8 @@
 -- Trees made of trees within the limits, and their actions.
-use Rattle.std.proofs.Common.{◌≡◌, ℕ, ◌+◌, ◌≤◌, ◌++◌, refl, sym, ap, ◌∙◌, Bool, true, false, arith, append_assoc}
+use Rattle.std.proofs.Common.{◌≡◌, ℕ, ◌+◌, ◌≤◌, ◌++◌, refl, sym, ap, ◌∙◌, Bool, true, false, arith, append_assoc, subst}
 use Rattle.std.proofs.Common.{append-nil}
 use Rattle.std.proofs.lemmas.Bool.Decides.{nat_tests}
-use Rattle.std.specs.Prelude.{ℤ, ◌-◌, ◌==◌, Option, Some, None, if◌then◌else◌}
+use Rattle.std.specs.Prelude.{ℤ, ◌-◌, ◌==◌, Option, Some, None, if◌then◌else◌, nat_le}
 use Rattle.tokens.specs.declared.located_tokens.Punctuator.{Punctuator}
 use Rattle.tokens.specs.declared.located_tokens.Punctuator.TheVariants as punctuator
 use Rattle.tokens.specs.declared.located_tokens.Token.TheVariants as token
@@ -10,7 +10,6 @@ use Rattle.grammar.specs.declared.resolved_names.Callee.{Callee}
 use Rattle.grammar.specs.declared.resolved_names.Var.{Var}
 use Rattle.grammar.specs.declared.operators.BinaryOperator.{BinaryOperator}
 use Rattle.arith.specs.declared.operators.Op.{Op}
-use Rattle.arith.specs.declared.operators.Op.TheVariants as op
 use Rattle.grammar.specs.declared.operators.StoreOp.{StoreOp}
 use Rattle.grammar.specs.Actions.{expr_actions, args_actions}
 use Rattle.grammar.specs.NameLimits.{most_names}
@@ -143,43 +142,26 @@ while_fits A small room c s less f g =
 
 -- The two operators with a right side are of the levels 1 and 2.
 
-record IsLow (b : Option BinaryOperator) : Type 0 where
-  low : (n : ℕ) (o : Op) → if_at n b ≡ Some o → is_logic o ≡ true → n ≤ 2
+abbrev is_low : Option BinaryOperator → Bool
+is_low None = true
+is_low (Some b) = if is_logic b.op then nat_le b.level 2 else true
 
-other : (level : ℕ) (o : Op) → is_logic o ≡ false → IsLow (Some (record { level = level; op = o }))
-other level o h = record { low = λ n p e l. by n p (level == n) e l }
+all_low : (m : Punctuator) → is_low (binary_of m) ≡ true
+all_low punctuator.OrOr = refl
+all_low m = refl
+
+low_level : (n : ℕ) (o : Op) (found : Option BinaryOperator) → is_low found ≡ true → if_at n found ≡ Some o →
+    is_logic o ≡ true → n ≤ 2
+low_level n o None h e l = absurd (cc)
+low_level n o (Some b) h e l = by (b.level == n) refl e
   where
-    by : (n : ℕ) (p : Op) (b : Bool) → (if b then Some o else None) ≡ Some p → is_logic p ≡ true → n ≤ 2
-    by n p true e l = let same : o ≡ p = cc in absurd (let no : false ≡ true = sym h ∙ ap is_logic same ∙ l in cc)
-    by n p false e l = absurd (cc)
-
-one : (level : ℕ) (o : Op) → level ≤ 2 → IsLow (Some (record { level = level; op = o }))
-one level o h = record { low = λ n p e l. by n p (level == n) refl e }
-  where
-    by : (n : ℕ) (p : Op) (b : Bool) → (level == n) ≡ b → (if b then Some o else None) ≡ Some p → n ≤ 2
-    by n p true is e = grind (arith, nat_tests, h)
-    by n p false is e = absurd (cc)
-
-low_of : (m : Punctuator) → IsLow (binary_of m)
-low_of punctuator.OrOr = one 1 op.Or (omega arith)
-low_of punctuator.AndAnd = one 2 op.And (omega arith)
-low_of punctuator.Or = other 3 op.BitOr refl
-low_of punctuator.Xor = other 4 op.BitXor refl
-low_of punctuator.And = other 5 op.BitAnd refl
-low_of punctuator.EqualsEquals = other 6 op.Equal refl
-low_of punctuator.NotEquals = other 6 op.NotEqual refl
-low_of punctuator.Less = other 7 op.Less refl
-low_of punctuator.Greater = other 7 op.Greater refl
-low_of punctuator.LessEquals = other 7 op.LessOrEqual refl
-low_of punctuator.GreaterEquals = other 7 op.GreaterOrEqual refl
-low_of punctuator.ShiftLeft = other 8 op.ShiftLeft refl
-low_of punctuator.ShiftRight = other 8 op.ShiftRight refl
-low_of punctuator.Plus = other 9 op.Add refl
-low_of punctuator.Minus = other 9 op.Subtract refl
-low_of punctuator.Star = other 10 op.Multiply refl
-low_of punctuator.Slash = other 10 op.Divide refl
-low_of punctuator.Percent = other 10 op.Remainder refl
-low_of m = record { low = λ n o e l. absurd (cc) }
+    by : (same : Bool) → (b.level == n) ≡ same → (if same then Some b.op else None) ≡ Some o → n ≤ 2
+    by true is e =
+        let logic : is_logic b.op ≡ true = let same : b.op ≡ o = cc in ap is_logic same ∙ l in
+        let low : nat_le b.level 2 ≡ true =
+        subst (λ (test : Bool). (if test then nat_le b.level 2 else true) ≡ true) logic h in
+        grind (arith, nat_tests)
+    by false is e = absurd (cc)
 
 -- so a right side has room within its level
 pub side_fits : (room n : ℕ) (m : Punctuator) (o : Op) → operator_at n (token.Punctuator m) ≡ Some o →
@@ -187,5 +169,5 @@ pub side_fits : (room n : ℕ) (m : Punctuator) (o : Op) → operator_at n (toke
 side_fits room n m o e = by (is_logic o) refl
   where
     by : (b : Bool) → is_logic o ≡ b → (if b then 1 else 0) + (room + (3 - (n + 1))) ≤ room + (3 - n)
-    by true l = let low : n ≤ 2 = (low_of m).low n o e l in omega (arith, low)
+    by true l = let low : n ≤ 2 = low_level n o (binary_of m) (all_low m) e l in omega (arith, low)
     by false l = omega arith

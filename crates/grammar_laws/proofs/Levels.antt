@@ -1,7 +1,7 @@
 -- From a level of operators down to its first operand, and up again after the last one.
 use Rattle.std.proofs.Common.{◌≡◌, ℕ, zero, suc, ◌+◌, List, [], ◌∷◌, refl, false, true, arith}
 use Rattle.std.proofs.lemmas.Bool.Decides.{nat_tests}
-use Rattle.std.specs.Prelude.{nat_lt}
+use Rattle.std.specs.Prelude.{nat_lt, ◌-◌, Option, Some, None}
 use Rattle.tokens.specs.declared.located_tokens.Punctuator.{Punctuator}
 use Rattle.tokens.specs.declared.located_tokens.Punctuator.TheVariants as punctuator
 use Rattle.tokens.specs.declared.located_tokens.Token.{Token}
@@ -9,16 +9,20 @@ use Rattle.tokens.specs.declared.located_tokens.Token.TheVariants as token
 use Rattle.arith.specs.declared.operators.Op.{Op}
 use Rattle.arith.specs.declared.operators.Op.TheVariants as op
 use Rattle.grammar.specs.Derivation.{PartialTree, Definition}
-use Rattle.grammar.specs.Grammar.{Item, Part, Make, Level, Tail, Unary, Operate, is_lexical_error}
+use Rattle.grammar.specs.Grammar.{Item, Part, Make, Level, Tail, Unary, Operate, is_lexical_error, binary_levels, unary_level}
 use Rattle.grammar.specs.Scope.{Scope}
-use Rattle.grammar.specs.Operators.{binary_punctuator}
-use Rattle.grammar.proofs.Weight.{unary_level}
+use Rattle.grammar.specs.declared.operators.BinaryOperator.{BinaryOperator}
+use Rattle.grammar.specs.Operators.{binary_of, binary_punctuator}
 use Rattle.grammar_laws.proofs.Leading.{Leads, then, at, first, part}
 
 -- the tails of m levels from level n on, the tightest in front
 abbrev pub tails : ℕ → ℕ → List Item → List Item
 tails zero n stack = stack
 tails (suc m) n stack = tails m (n + 1) (Part (Tail n) ∷ stack)
+
+-- those of all levels
+abbrev pub every_tail : List Item → List Item
+every_tail stack = tails binary_levels 1 stack
 
 tighter : (m n : ℕ) → suc m + n ≡ unary_level → nat_lt n unary_level ≡ true
 tighter m n sum = grind (arith, nat_tests)
@@ -68,140 +72,35 @@ up (suc m) n c stack tokens values scope functions = then _ _ _
     (up m (n + 1) c (Part (Tail n) ∷ stack) tokens values scope functions)
     (no_tail n c stack tokens values scope functions)
 
+-- the level of an operator, and how many are tighter
+
+abbrev level_in : Option BinaryOperator → ℕ
+level_in None = zero
+level_in (Some b) = b.level
+
+abbrev pub level_of : Op → ℕ
+level_of o = level_in (binary_of (binary_punctuator o))
+
+abbrev pub tighter_levels : Op → ℕ
+tighter_levels o = binary_levels - level_of o
+
 -- up to the level of an operator, and after its punctuator
 pub record Operates (o : Op) : Type 0 where
-  pub level : ℕ
-  pub above : ℕ
-  pub sum : above + (level + 1) ≡ unary_level
+  pub sum : tighter_levels o + (level_of o + 1) ≡ unary_level
   pub goes : (stack : List Item) (tokens : List Token) (values : List PartialTree) (scope : Scope)
       (functions : List Definition) →
-      Leads (at (tails 10 1 stack) (token.Punctuator (binary_punctuator o) ∷ tokens) values scope functions)
-      (at (Part (Level (level + 1)) ∷ Make (Operate o) ∷ tails level 1 stack) tokens values scope functions)
+      Leads (at (every_tail stack) (token.Punctuator (binary_punctuator o) ∷ tokens) values scope functions)
+      (at (Part (Level (level_of o + 1)) ∷ Make (Operate o) ∷ tails (level_of o) 1 stack) tokens values scope functions)
 
+-- a step for each tail of a tighter level, one for the operator's tail, and one for its punctuator
 pub operates : (o : Op) → Operates o
 operates op.Or =
     record {
-      level = 1;
-      above = 9;
       sum = refl;
-      goes = λ stack tokens values scope functions. record { steps = 11; leads = refl };
+      goes = λ stack tokens values scope functions. record { steps = tighter_levels op.Or + 2; leads = refl };
     }
-operates op.And =
+operates o =
     record {
-      level = 2;
-      above = 8;
       sum = refl;
-      goes = λ stack tokens values scope functions. record { steps = 10; leads = refl };
-    }
-operates op.BitOr =
-    record {
-      level = 3;
-      above = 7;
-      sum = refl;
-      goes = λ stack tokens values scope functions. record { steps = 9; leads = refl };
-    }
-operates op.BitXor =
-    record {
-      level = 4;
-      above = 6;
-      sum = refl;
-      goes = λ stack tokens values scope functions. record { steps = 8; leads = refl };
-    }
-operates op.BitAnd =
-    record {
-      level = 5;
-      above = 5;
-      sum = refl;
-      goes = λ stack tokens values scope functions. record { steps = 7; leads = refl };
-    }
-operates op.Equal =
-    record {
-      level = 6;
-      above = 4;
-      sum = refl;
-      goes = λ stack tokens values scope functions. record { steps = 6; leads = refl };
-    }
-operates op.NotEqual =
-    record {
-      level = 6;
-      above = 4;
-      sum = refl;
-      goes = λ stack tokens values scope functions. record { steps = 6; leads = refl };
-    }
-operates op.Less =
-    record {
-      level = 7;
-      above = 3;
-      sum = refl;
-      goes = λ stack tokens values scope functions. record { steps = 5; leads = refl };
-    }
-operates op.Greater =
-    record {
-      level = 7;
-      above = 3;
-      sum = refl;
-      goes = λ stack tokens values scope functions. record { steps = 5; leads = refl };
-    }
-operates op.LessOrEqual =
-    record {
-      level = 7;
-      above = 3;
-      sum = refl;
-      goes = λ stack tokens values scope functions. record { steps = 5; leads = refl };
-    }
-operates op.GreaterOrEqual =
-    record {
-      level = 7;
-      above = 3;
-      sum = refl;
-      goes = λ stack tokens values scope functions. record { steps = 5; leads = refl };
-    }
-operates op.ShiftLeft =
-    record {
-      level = 8;
-      above = 2;
-      sum = refl;
-      goes = λ stack tokens values scope functions. record { steps = 4; leads = refl };
-    }
-operates op.ShiftRight =
-    record {
-      level = 8;
-      above = 2;
-      sum = refl;
-      goes = λ stack tokens values scope functions. record { steps = 4; leads = refl };
-    }
-operates op.Add =
-    record {
-      level = 9;
-      above = 1;
-      sum = refl;
-      goes = λ stack tokens values scope functions. record { steps = 3; leads = refl };
-    }
-operates op.Subtract =
-    record {
-      level = 9;
-      above = 1;
-      sum = refl;
-      goes = λ stack tokens values scope functions. record { steps = 3; leads = refl };
-    }
-operates op.Multiply =
-    record {
-      level = 10;
-      above = 0;
-      sum = refl;
-      goes = λ stack tokens values scope functions. record { steps = 2; leads = refl };
-    }
-operates op.Divide =
-    record {
-      level = 10;
-      above = 0;
-      sum = refl;
-      goes = λ stack tokens values scope functions. record { steps = 2; leads = refl };
-    }
-operates op.Remainder =
-    record {
-      level = 10;
-      above = 0;
-      sum = refl;
-      goes = λ stack tokens values scope functions. record { steps = 2; leads = refl };
+      goes = λ stack tokens values scope functions. record { steps = tighter_levels o + 2; leads = refl };
     }

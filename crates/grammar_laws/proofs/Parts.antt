@@ -9,11 +9,10 @@ use Rattle.arith.specs.declared.operators.Op.{Op}
 use Rattle.arith.specs.declared.operators.Op.TheVariants as op
 use Rattle.grammar.specs.Derivation.{PartialTree, AnExpr, AVariable, Definition}
 use Rattle.grammar.specs.Grammar as grammar
-use Rattle.grammar.specs.Grammar.{Item, Exactly, AName, Part, Make, Close, Mentioned, Level, Unary, Primary, Fetch, choice, is_lexical_error, Symbol}
+use Rattle.grammar.specs.Grammar.{Item, Exactly, AName, Part, Make, Close, Mentioned, Level, Unary, Primary, Fetch, choice, is_lexical_error, Symbol, binary_levels, unary_level}
 use Rattle.grammar.specs.Scope.{Scope, variable_of}
 use Rattle.grammar_laws.specs.Written.{Expression, Constant, Variable}
 use Rattle.grammar.specs.Operators.{binary_punctuator}
-use Rattle.grammar.proofs.Weight.{unary_level}
 use Rattle.grammar_laws.specs.Spelling.{spell, as_part, brackets}
 use Rattle.grammar_laws.specs.Resolving.{tree_of, behind, mentioned}
 use Rattle.grammar_laws.proofs.Leading.{Leads, then, at, first, second, part, make}
@@ -124,4 +123,4 @@ part_alone e is c rest stack values scope functions =
     (spell_part e ++ token.Punctuator (closing_punctuator c) ∷ rest) values scope functions
     (part_sound e (token.Punctuator (closing_punctuator c) ∷ rest))
     (part_begins e (closing_punctuator c) rest (closing_ends c)))
-    (part_at_level e is 10 1 refl c rest stack values scope functions)
+    (part_at_level e is binary_levels 1 refl c rest stack values scope functions)

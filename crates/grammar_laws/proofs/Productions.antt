@@ -1,5 +1,5 @@
 -- `choice` is the plain grammar with its semantic actions, and the names of a production have one role.
-use Rattle.std.proofs.Common.{◌≡◌, ◌<◌, ◌≤◌, ℕ, ◌+◌, refl, List, [], ◌∷◌, length, Bool, true, false, arith, zero, suc}
+use Rattle.std.proofs.Common.{◌≡◌, ◌<◌, ℕ, ◌+◌, refl, List, [], ◌∷◌, length, Bool, true, false, arith, zero, suc}
 use Rattle.std.specs.Fmt.{digits}
 use Rattle.std.specs.Prelude.{Option, Some, None, nat_lt, if◌then◌else◌, option_map, replicate}
 use Rattle.tokens.specs.declared.located_tokens.Punctuator.{Punctuator}
@@ -9,9 +9,8 @@ use Rattle.tokens.specs.declared.located_tokens.Token.TheVariants as token
 use Rattle.tokens.specs.declared.located_tokens.Keyword.TheVariants as keyword
 use Rattle.arith.specs.declared.operators.Op.{Op}
 use Rattle.grammar.specs.declared.operators.StoreOp.{StoreOp}
-use Rattle.grammar.specs.Grammar.{Role, Symbol, Head, Expression, Level, Tail, Unary, Primary, Mentioned, Part, assignment_or, choice, tail_production}
+use Rattle.grammar.specs.Grammar.{Role, Symbol, Head, Expression, Level, Tail, Unary, Primary, Mentioned, Part, assignment_or, choice, tail_production, binary_levels, unary_level}
 use Rattle.grammar.specs.Operators.{operator_at, store_of}
-use Rattle.grammar.proofs.Weight.{unary_level}
 use Rattle.grammar_laws.specs.Scheme.{ActsByRows, ChoosesRows, HasOneRole, IsSymbol, action_rows, actions_after, in_words, found_actions, of_symbol, plain, role_in_production, roles_in, roles_of}
 
 -- the production chosen is the row's, with the semantic actions listed for it
@@ -25,7 +24,7 @@ unfolding digits
 level_fits (suc (suc (suc (suc (suc (suc (suc (suc (suc (suc (suc n))))))))))) next after l = absurd (omega arith)
 level_fits n next after l = (refl, refl)
 
-tail_fits : (n : ℕ) (next after : Token) → n ≤ 9 → Fits (Tail (suc n)) next after
+tail_fits : (n : ℕ) (next after : Token) → n < binary_levels → Fits (Tail (suc n)) next after
 unfolding digits
 tail_fits (suc (suc (suc (suc (suc (suc (suc (suc (suc (suc n)))))))))) next after l = absurd (omega arith)
 tail_fits n (token.Punctuator punctuator.Plus) after l = (refl, refl)

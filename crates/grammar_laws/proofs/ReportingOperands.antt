@@ -21,13 +21,12 @@ use Rattle.grammar.specs.Faults.{nested_count}
 use Rattle.grammar.specs.Grammar.{Symbol, Source, Types, Head, More, Parameters, ParameterTypes, FunctionBlock, Block}
 use Rattle.grammar.specs.Grammar.{Declarations, Statements, Statement, ElsePart, Back, Expression, Level, Tail, Unary}
 use Rattle.grammar.specs.Grammar.{Primary, Arguments, MoreArguments, Item, Part, Make, Operate, AddArgument, choice}
-use Rattle.grammar.specs.Grammar.{assignment_or, tail_production}
+use Rattle.grammar.specs.Grammar.{assignment_or, tail_production, unary_level}
 use Rattle.grammar.specs.NameLimits.{most_names, most_nested}
 use Rattle.grammar.specs.Operators.{operator_at, store_of}
 use Rattle.grammar.specs.Scope.{Scope}
 use Rattle.grammar.specs.Tree as tree
 use Rattle.grammar.specs.Tree.{Expr}
-use Rattle.grammar.proofs.Weight.{unary_level}
 use Rattle.grammar_laws.proofs.Fitting.{constant_fits, variable_fits, postfix_fits, expr_wider, assign_fits, binary_fits}
 use Rattle.grammar_laws.proofs.Fitting.{call_fits, no_args_fit, argument_fits, argument_actions, side_fits}
 use Rattle.grammar_laws.proofs.ReportingProductions.{and_then_is, Produced, Enters, source_reports, head_reports}

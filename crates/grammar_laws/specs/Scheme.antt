@@ -18,7 +18,7 @@ use Rattle.grammar.specs.Grammar.{Statements, Statement, ElsePart, Back, Express
 use Rattle.grammar.specs.Grammar.{Arguments, MoreArguments, Operate, Negate, Not, Complement, Fetch, Store, PrefixIncrement}
 use Rattle.grammar.specs.Grammar.{PostfixIncrement, AddArgument, Invoke, Empty, Evaluate, Decide, DecideElse, Repeat, Zero, GiveBack}
 use Rattle.grammar.specs.Grammar.{Define, Item, Exactly, AKeyword, AName, AConstant, AnEnd, Part, Make, Close, Production}
-use Rattle.grammar.specs.Grammar.{choice}
+use Rattle.grammar.specs.Grammar.{choice, binary_levels, unary_level}
 use Rattle.grammar_laws.specs.Productions.{Row, rows}
 
 -- a symbol, a production of it, and its semantic actions, each after this many words; `Close` is one of them
@@ -180,10 +180,10 @@ roles_in (AName role ∷ items) = role ∷ roles_in items
 roles_in (Part (More role) ∷ items) = role ∷ roles_in items
 roles_in (item ∷ items) = roles_in items
 
--- the symbols that the rows have: of levels those from 1 to 11, and of tails those from 1 to 10
+-- the symbols that the rows have: all levels from 1 on, and the tails of those of binary operators
 abbrev pub IsSymbol : Symbol → Type 0
-IsSymbol (Level n) = (1 ≤ n) × (n ≤ 11)
-IsSymbol (Tail n) = (1 ≤ n) × (n ≤ 10)
+IsSymbol (Level n) = (1 ≤ n) × (n ≤ unary_level)
+IsSymbol (Tail n) = (1 ≤ n) × (n ≤ binary_levels)
 IsSymbol symbol = Unit
 
 -- the plain production that the next token and the one after it choose

@@ -23,7 +23,8 @@ use Rattle.parser.specs.declared.frames.Frame.{Frame}
 use Rattle.parser.specs.declared.frames.Frame.TheVariants as frame
 use Rattle.parser.specs.declared.frames.Front.{Front}
 use Rattle.parser.specs.declared.frames.Front.TheVariants as front
-use Rattle.parser.specs.declared.frames.TheConstants.{MOST_FRAMES, UNARY_LEVEL}
+use Rattle.parser.specs.declared.frames.TheConstants.{MOST_FRAMES}
+use Rattle.grammar.specs.declared.operators.TheConstants.{UNARY_LEVEL}
 use Rattle.parser.specs.Automata.{Fits, HasMore, InExpression, IsAt, IsTooDeep, Moves, OnExpr, Stands, Start, Takes, Trees, all_tails, front_items, stack_of, tails}
 use Rattle.parser.specs.Paths.{HasTold, Origin, Path, Refused}
 use Rattle.parser.specs.ScopedCursors.{ScopedCursor, next_at, taken_at, token_of}

@@ -15,7 +15,7 @@ use Rattle.grammar.specs.Laws.Climbing.{operator_from}
 use Rattle.grammar.specs.Laws.OperatorTokens.{operator_of}
 use Rattle.grammar.specs.Operators.{operator_at}
 use Rattle.grammar_laws.specs.Emission.{and_then}
-use Rattle.parser.specs.declared.frames.TheConstants.{UNARY_LEVEL}
+use Rattle.grammar.specs.declared.operators.TheConstants.{UNARY_LEVEL}
 use Rattle.parser.specs.Automata.{all_tails, tails, tails_to}
 use Rattle.parser.specs.Paths.{Origin, Path}
 use Rattle.parser.specs.ScopedCursors.{ScopedCursor, token_after, token_of}

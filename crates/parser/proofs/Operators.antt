@@ -8,43 +8,28 @@ use Rattle.tokens.specs.declared.located_tokens.Token.{Token}
 use Rattle.tokens.specs.declared.located_tokens.Token.TheVariants as token
 use Rattle.grammar.specs.declared.operators.BinaryOperator.{BinaryOperator as AnOperator}
 use Rattle.arith.specs.declared.operators.Op.{Op}
-use Rattle.arith.specs.declared.operators.Op.TheVariants as op
 use Rattle.grammar.specs.Grammar.{Exactly, Level, Make, Operate, Part, Tail, Unary, choice, is_punctuator}
 use Rattle.grammar.specs.Operators.{binary_of, if_at, operator_at}
 use Rattle.grammar.specs.Laws.OperatorTokens.{operator_of}
 use Rattle.grammar.specs.Laws.Climbing.{if_from, operator_from}
-use Rattle.parser.specs.declared.frames.TheConstants.{UNARY_LEVEL}
+use Rattle.grammar.specs.declared.operators.TheConstants.{UNARY_LEVEL}
 use Rattle.parser.proofs.Productions.{same_self}
 
-at_most : (l : ℕ) (o : Op) (b : AnOperator) → l < UNARY_LEVEL → Some (record { level = l; op = o }) ≡ Some b →
-    b.level < UNARY_LEVEL
-at_most l o b small is = let same : b ≡ record { level = l; op = o } = cc in rw same small
+abbrev is_within : Option AnOperator → Bool
+is_within None = true
+is_within (Some b) = nat_lt b.level UNARY_LEVEL
 
--- there are ten
-pub ten_levels : (t : Token) (b : AnOperator) → operator_of t ≡ Some b → b.level < UNARY_LEVEL
-ten_levels (token.Punctuator m) b is = by_punctuator m is
-  where
-    by_punctuator : (m : Punctuator) → operator_of (token.Punctuator m) ≡ Some b → b.level < UNARY_LEVEL
-    by_punctuator punctuator.OrOr is = at_most 1 op.Or b (omega arith) is
-    by_punctuator punctuator.AndAnd is = at_most 2 op.And b (omega arith) is
-    by_punctuator punctuator.Or is = at_most 3 op.BitOr b (omega arith) is
-    by_punctuator punctuator.Xor is = at_most 4 op.BitXor b (omega arith) is
-    by_punctuator punctuator.And is = at_most 5 op.BitAnd b (omega arith) is
-    by_punctuator punctuator.EqualsEquals is = at_most 6 op.Equal b (omega arith) is
-    by_punctuator punctuator.NotEquals is = at_most 6 op.NotEqual b (omega arith) is
-    by_punctuator punctuator.Less is = at_most 7 op.Less b (omega arith) is
-    by_punctuator punctuator.Greater is = at_most 7 op.Greater b (omega arith) is
-    by_punctuator punctuator.LessEquals is = at_most 7 op.LessOrEqual b (omega arith) is
-    by_punctuator punctuator.GreaterEquals is = at_most 7 op.GreaterOrEqual b (omega arith) is
-    by_punctuator punctuator.ShiftLeft is = at_most 8 op.ShiftLeft b (omega arith) is
-    by_punctuator punctuator.ShiftRight is = at_most 8 op.ShiftRight b (omega arith) is
-    by_punctuator punctuator.Plus is = at_most 9 op.Add b (omega arith) is
-    by_punctuator punctuator.Minus is = at_most 9 op.Subtract b (omega arith) is
-    by_punctuator punctuator.Star is = at_most 10 op.Multiply b (omega arith) is
-    by_punctuator punctuator.Slash is = at_most 10 op.Divide b (omega arith) is
-    by_punctuator punctuator.Percent is = at_most 10 op.Remainder b (omega arith) is
-    by_punctuator m is = absurd (cc)
-ten_levels t b is = absurd (cc)
+all_within : (m : Punctuator) → is_within (binary_of m) ≡ true
+all_within punctuator.OrOr = refl
+all_within m = refl
+
+-- all are looser than the unary ones
+pub looser_than_unary : (t : Token) (b : AnOperator) → operator_of t ≡ Some b → b.level < UNARY_LEVEL
+looser_than_unary (token.Punctuator m) b is =
+    let within : nat_lt b.level UNARY_LEVEL ≡ true =
+    subst (λ (o : Option AnOperator). is_within o ≡ true) is (all_within m) in
+    grind (arith, nat_tests)
+looser_than_unary t b is = absurd (cc)
 
 same_level : (n : ℕ) → (n == n) ≡ true
 same_level n = grind (arith, nat_tests)
@@ -97,9 +82,9 @@ all_looser n t b none is = by (operator_of t) none is
         tested (nat_le n b.level) refl
         (subst (λ (d : AnOperator). (if nat_le n d.level then Some d else None) ≡ None) it h)
 
--- none is of a level past the tenth
+-- none is of the level of unary operators, or past it
 pub none_past : (n : ℕ) (t : Token) → UNARY_LEVEL ≤ n → operator_from n t ≡ None
-none_past n t past = by (operator_of t) (ten_levels t)
+none_past n t past = by (operator_of t) (looser_than_unary t)
   where
     by : (o : Option AnOperator) → ((b : AnOperator) → o ≡ Some b → b.level < UNARY_LEVEL) → if_from n o ≡ None
     by None most = refl

@@ -7,9 +7,6 @@ use arrayvec::ArrayVec;
 use grammar::{Callee, Op, StoreOp, Var};
 use std::marker::Model;
 
-/// The level of unary operators, past those of binary ones.
-pub const UNARY_LEVEL: u8 = 11;
-
 /// The most frames: at each of the levels of nesting one for each level of operators.
 pub const MOST_FRAMES: usize = 715;
 

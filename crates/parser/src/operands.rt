@@ -7,10 +7,10 @@ ghost use Rattle.parser.specs.Starts.{StartsCall, StartsConstant, StartsName, St
 ghost use Rattle.parser.specs.UnaryOps.{increment_punctuator, unary_punctuator};
 
 use crate::automaton::Automaton;
-use crate::frames::{Frame, Front, UNARY_LEVEL};
+use crate::frames::{Frame, Front};
 use crate::token_predicates::is_punctuator;
 use crate::unary_ops::{IncrementOp, UnaryOp, increment_op_of, unary_op_of};
-use grammar::{Action, Build, Callee, ParseFault};
+use grammar::{Action, Build, Callee, ParseFault, UNARY_LEVEL};
 use tokens::{Feed, Punctuator, Token};
 
 impl<F: Feed, B: Build> Automaton<'_, '_, '_, F, B> {

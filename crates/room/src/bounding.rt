@@ -1,10 +1,8 @@
 //! How much room the robot of a source needs, from its bytes.
 
-ghost use Rattle.std.specs.Prelude.{◌≡◌, ◌≤◌, IfErr, IfOk, length, map, true};
+ghost use Rattle.std.specs.Prelude.{◌≡◌, IfErr, IfOk, true};
 ghost use Rattle.tokens.specs.Feed.{MayRead};
-ghost use Rattle.grammar.specs.Compiled.{main_name};
 ghost use Rattle.grammar.specs.ProfileNumbers.{IsProfile};
-ghost use Rattle.grammar.specs.Scope.{number_of_name};
 ghost use Rattle.parser.specs.ParsedFiles.{TakesEnough};
 ghost use Rattle.parser.specs.Segment.{CountsRefusal};
 ghost use Rattle.room.specs.Bounds.{AreBoundsOf, IsChainOf, IsRefusedSource, goes_by};
@@ -13,7 +11,8 @@ ghost use Rattle.room.specs.Rooms.{IsWithin};
 use crate::chains::chain_of;
 use crate::room::Room;
 use crate::tables::need;
-use grammar::{FunctionNames, MOST_NAMES, ParseFault, Profile};
+use code::main_number;
+use grammar::{ParseFault, Profile};
 use parser::parse;
 use std::alloc::{AllocError, Global};
 use tokens::Feed;
@@ -83,18 +82,4 @@ fn is_within(need: Option<Room>, profile: Profile) -> bool
         Some(room) => room.words <= words && room.frames <= profile.frames(),
         None => false,
     }
-}
-
-/// Returns the number of the function `main`.
-#[tactic(auto, using(code::proofs::Mains::main_here, code::proofs::Mains::main_nowhere))]
-fn main_number(functions: &[FunctionNames]) -> Option<u8>
-    requires { length functions.now ≤ MOST_NAMES }
-    ensures { result ≡ number_of_name main_name (map (λ f. f.name) functions.now) }
-{
-    for (number, function) in functions.iter().enumerate() {
-        if function.name().has_bytes(b"main") {
-            return Some(number as u8);
-        }
-    }
-    None
 }

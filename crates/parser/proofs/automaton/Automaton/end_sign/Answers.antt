@@ -1,5 +1,5 @@
 use Rattle.std.proofs.Common.{◌-◌, arith}
-use Rattle.parser.specs.declared.frames.TheConstants.{UNARY_LEVEL}
+use Rattle.grammar.specs.declared.operators.TheConstants.{UNARY_LEVEL}
 use Rattle.parser.specs.UnaryOps.{actions_after_operand}
 use Rattle.parser.proofs.Passing.{passed_on}
 use Rattle.parser.proofs.AutomatonLaws.{closes, may_report, operand_stands, refuses, told_all}

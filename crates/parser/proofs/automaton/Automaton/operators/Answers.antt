@@ -8,7 +8,7 @@ use Rattle.parser.specs.ScopedCursors.{token_of}
 use Rattle.parser.proofs.Passing.{passed_on}
 use Rattle.parser.proofs.AutomatonLaws.{comes_to, has_place, may_report, moves_from, nested_tails, refuses, told_all}
 use Rattle.parser.proofs.ExpressionSteps.{operand_path, operator_path}
-use Rattle.parser.proofs.Operators.{at_its_own, found, spells, ten_levels}
+use Rattle.parser.proofs.Operators.{at_its_own, found, looser_than_unary, spells}
 use Rattle.parser.proofs.PathLaws.{out_of_memory, token_falls, token_past}
 use Rattle.parser.proofs.TreeLaws.{ends_at}
 use Rattle.parser.proofs.automaton.Automaton.operators.Goals as goal
@@ -82,7 +82,7 @@ returns-in_err-advance-clause-moves g c =
 pub overflow_add-result : goal.overflow_add-result
 overflow_add-result g c =
     let is : operator_from c.args.floor (token_of c.args.self.now.tokens) ≡ Some c.in-Some.binary = cc in
-    omega (arith, (ten_levels _ c.in-Some.binary (found c.args.floor _ c.in-Some.binary is).0))
+    omega (arith, (looser_than_unary _ c.in-Some.binary (found c.args.floor _ c.in-Some.binary is).0))
 
 pub push-requires : goal.push-requires
 push-requires g c =
@@ -92,7 +92,7 @@ push-requires g c =
     (omega (
       arith,
       (found c.args.floor _ c.in-Some.binary is).1,
-      (ten_levels _ c.in-Some.binary (found c.args.floor _ c.in-Some.binary is).0),
+      (looser_than_unary _ c.in-Some.binary (found c.args.floor _ c.in-Some.binary is).0),
     )) h.fits.takes
     (rw h.depth h.few)
 
@@ -102,7 +102,7 @@ returns-clause-moves g c =
     let s =
     spells c.in-Some.binary.level c.in-Some.binary.op _
     (at_its_own _ c.in-Some.binary (found c.args.floor _ c.in-Some.binary is).0) in
-    let most = ten_levels _ c.in-Some.binary (found c.args.floor _ c.in-Some.binary is).0 in
+    let most = looser_than_unary _ c.in-Some.binary (found c.args.floor _ c.in-Some.binary is).0 in
     let order = (found c.args.floor _ c.in-Some.binary is).1 in
     λ o h.
     rw c.push.ensures (comes_to h
