@@ -23,6 +23,7 @@ use Rattle.series.specs.Compiling.{SourceFile, and_file, compiling, files_of, co
 use Rattle.series.specs.CompiledFiles.{CompilesTo, programs_of}
 use Rattle.series.specs.Output.{output, played, Runs, StopsRun}
 use Rattle.series.specs.Pieces.{Piece, Taken, Writes, Begins}
+use Rattle.series.specs.Outcomes.{outcome_of}
 use Rattle.series.specs.Playing.{playing}
 use Rattle.series.proofs.PiecesLemmas.{writes_then, begins_then, begins_more}
 
@@ -61,7 +62,9 @@ pub each_compiles : (profile : Profile) (sources : List SourceFile) (so_far file
     → (rest : List File) × (files ≡ so_far ++ rest)
     × (map (λ source. compiled profile source.bytes) sources ≡ map (λ file. Ok file) rest)
 each_compiles profile [] so_far files is = let same : files ≡ so_far = cc in ([], same ∙ sym (append-nil so_far), refl)
-each_compiles profile (source ∷ sources) so_far files is = by_verdict (compiled profile source.bytes) refl is
+each_compiles profile (source ∷ sources) so_far files is =
+    by_verdict (compiled profile source.bytes) refl is
+    (λ file. each_compiles profile sources (so_far ++ file ∷ []) files)
   where
     none_later : (sources : List SourceFile) →
         fold (λ files source. and_file files (compiled profile source.bytes)) None sources ≡ None
@@ -71,12 +74,17 @@ each_compiles profile (source ∷ sources) so_far files is = by_verdict (compile
     by_verdict : (verdict : Result File Diagnostic) → compiled profile source.bytes ≡ verdict
         → fold (λ files source. and_file files (compiled profile source.bytes)) (and_file (Some so_far) verdict) sources
         ≡ Some files
+        → ((file : File)
+        → fold (λ files source. and_file files (compiled profile source.bytes)) (Some (so_far ++ file ∷ [])) sources
+        ≡ Some files
+        → (rest : List File) × (files ≡ (so_far ++ file ∷ []) ++ rest)
+        × (map (λ source. compiled profile source.bytes) sources ≡ map (λ file. Ok file) rest))
         → (rest : List File) × (files ≡ so_far ++ rest)
         × (map (λ source. compiled profile source.bytes) (source ∷ sources) ≡ map (λ file. Ok file) rest)
-    by_verdict (Ok file) here later =
-        let (rest, are, each) = each_compiles profile sources (so_far ++ file ∷ []) files later in
+    by_verdict (Ok file) here is more =
+        let (rest, are, each) = more file is in
         (file ∷ rest, are ∙ append_assoc so_far (file ∷ []) rest, rw (here, each) refl)
-    by_verdict (Err d) here later = let none = none_later sources in cc
+    by_verdict (Err d) here is more = let none = none_later sources in cc
 
 -- so each file is resolved
 all_resolved : CompiledIsResolved → (profile : Profile) (sources : List SourceFile) (files : List File)
@@ -104,6 +112,7 @@ pub played_run : (settings : Settings) (sources : List SourceFile) (files : List
     Writes before now (compiling settings.mode settings.profile sources) →
     Writes now after (playing settings files)
     → Writes before after (output settings sources).pieces × (Done ≡ (output settings sources).status)
+unfolding playing outcome_of
 played_run settings sources files before now after matches good first second =
     (rw (matches, good) (writes_then before now after _ _ (rw matches at first) second), rw good refl)
 
@@ -114,6 +123,7 @@ pub played_stop : (settings : Settings) (sources : List SourceFile) (files : Lis
     Writes before now (compiling settings.mode settings.profile sources) →
     Begins now after (playing settings files)
     → Begins before after (output settings sources).pieces
+unfolding playing outcome_of
 played_stop settings sources files before now after matches good first second =
     rw (matches, good) (begins_then before now after _ _ (rw matches at first) second)
 

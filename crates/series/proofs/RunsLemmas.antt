@@ -24,7 +24,7 @@ length_sources sources words contents are = sym (length-map sources (λ (s : Sou
 -- what is told of a file's contents is the bytes of its source, and this is its name
 pub record IsHere (sources : List SourceFile) (file : ℕ) (told : Option (List ℕ)) (name : List ℕ) : Type 0 where
   pub within : file < length sources
-  pub told : told ≡ Some (get_or sources file no_source).bytes
+  pub bytes : told ≡ Some (get_or sources file no_source).bytes
   pub named : name ≡ file_name (get_or sources file no_source).word
 
 module _ {X : Type 0} where
@@ -52,7 +52,7 @@ module _ {X : Type 0} where
       let in_given : file < length given = omega (arith, length-map given bytes, ap length is_given, same, within) in
       record {
         within = in_sources;
-        told = ap tells (feed_here start feeds file x rest)
+        bytes = ap tells (feed_here start feeds file x rest)
             ∙ sym (get_or-map tells start file x (tells x) within)
             ∙ ap (λ l. get_or l file (tells x)) (sym are.bytes)
             ∙ get_or-map (λ (s : SourceFile). Some s.bytes) sources file no_source (tells x) in_sources;

@@ -12,10 +12,11 @@ use Rattle.page.specs.Robots.{name_bytes, source_of}
 use Rattle.page.specs.Running.{blank, taken_by}
 use Rattle.page.proofs.FilmLemmas.{codes_good, has_compiled, has_shown}
 use Rattle.page.proofs.RunningLemmas.{by_robots, only_full}
+use Rattle.page.proofs.filming.tell_robots.Goals.{After-compile_all}
 use Rattle.page.proofs.filming.tell_robots.Goals as goal
 
 -- the robots were compiled on blank sheets
-compiles : (c : goal.After-compile_all)
+compiles : (c : After-compile_all)
     → CompilesAll (setup_by Matches c.args.order.now (map name_bytes c.args.robots.now))
     (map source_of c.args.robots.now) c.compile_all.result (Some c.compile_all.new.keeper.programs.items) blank
     (taken_by c.compile_all.new.out c.compile_all.new.err)

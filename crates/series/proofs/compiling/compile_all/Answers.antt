@@ -1,9 +1,10 @@
-use Rattle.std.proofs.Common.{false, ◌≡◌, ◌+◌, ◌<◌, ◌≤◌, ◌^◌, ◌-◌, ◌∙◌, sym, subst, ap, List, length, map, refl, set, arith}
+use Rattle.std.proofs.Common.{false, ◌≡◌, ◌+◌, ◌<◌, ◌≤◌, ◌^◌, ◌-◌, ◌∙◌, sym, subst, ap, List, [], Some, length, map, refl, set, arith}
 use Rattle.std.specs.Prelude.{All}
 use Rattle.std.proofs.lemmas.List.{length-map}
 use Rattle.std.proofs.lemmas.List.Elements.{All-get_or}
 use Rattle.battles.specs.Programs.{AreOfProfile}
 use Rattle.series.specs.Failures.{Failures}
+use Rattle.series.specs.declared.run_results.Status.TheVariants.{Done}
 use Rattle.series.proofs.CompilingLemmas.{IsManned, all_compiled, kept_with, manned_with, pieces_more, pieces_cut, so_kept, status_more}
 use Rattle.series.proofs.ReadingLemmas.{cut_at, fails_at, reads_all, reads_first, reads_more, same_length}
 use Rattle.series.proofs.RunsLemmas.{all_of_one, feed_here, length_sources, none_failed, read_failed, rest_more, source_here, write_failed}
@@ -20,7 +21,7 @@ returns-in-Err-Write-clause-over g c = record {
       record {
         output = pieces_cut _ _ sources _ _ _ _ here.within (c.loop-file.invariant.4 sources are).0
             (rw (c.loop-file.invariant.2, c.profile-profile.ensures.value, c.file_name-name.ensures, here.named) at
-            ((rw c.in-Err-Write.field-0-is at c.in-Err-Write.ensures.output) _ here.told).output);
+            ((rw c.in-Err-Write.field-0-is at c.in-Err-Write.ensures.output) _ here.bytes).output);
         programs = tt;
       };
   read = record {
@@ -42,7 +43,7 @@ returns-in-Err-Write-clause-over g c = record {
         c.args.settings.now.file_words c.as_bytes.result.now are c.requires.ready.files (omega arith)
         c.loop-file.invariant.0 c.file_words-words.ensures.value c.as_bytes.ensures.value in
         cut_at _ _ sources c.loop-file.file _ _ _ _ (c.loop-file.invariant.4 sources are).0
-        ((rw c.in-Err-Write.field-0-is at c.in-Err-Write.ensures.output) _ here.told).output;
+        ((rw c.in-Err-Write.field-0-is at c.in-Err-Write.ensures.output) _ here.bytes).output;
   };
   failures =
       write_failed (λ feed. (g.F.Feed.device feed).account) c.args.feeds.now c.loop-file.feeds c.loop-file.file _ _ _ _
@@ -97,7 +98,7 @@ loop-file-preserved g c = (
       c.args.settings.now.file_words c.as_bytes.result.now are c.requires.ready.files (omega arith)
       c.loop-file.invariant.0 c.file_words-words.ensures.value c.as_bytes.ensures.value in
       let (writes, status, kept) = c.loop-file.invariant.4 sources are in
-      let compiles = rw c.profile-profile.ensures.value at (c.in-Ok.ensures.output _ here.told) in (
+      let compiles = rw c.profile-profile.ensures.value at (c.in-Ok.ensures.output _ here.bytes) in (
         pieces_more _ _ sources _ _ _ _ here.within writes
             (rw (c.loop-file.invariant.2, c.file_name-name.ensures, here.named) at compiles.output),
         rw c.worse_status-status.ensures
@@ -130,11 +131,11 @@ compile_file-requires-clause-ready g c =
     record {
       files = refl;
       feeds = all_of_one (λ feed. (g.F.Feed.device feed).account.failures < 2 ^ 64 - 1) _
-          (rw here (All-get_or _ c.args.feeds.now c.loop-file.file c.index-feeds-file.result within
-          c.requires.ready.feeds));
+          (rw here (All-get_or (λ feed. (g.F.Feed.device feed).account.failures < 2 ^ 64 - 1) c.args.feeds.now
+          c.loop-file.file c.index-feeds-file.result within c.requires.ready.feeds));
       not_ended = all_of_one (λ feed. (g.F.Feed.device feed).ended ≡ false) _
-          (rw here (All-get_or _ c.args.feeds.now c.loop-file.file c.index-feeds-file.result within
-          c.requires.ready.not_ended));
+          (rw here (All-get_or (λ feed. (g.F.Feed.device feed).ended ≡ false) c.args.feeds.now c.loop-file.file
+          c.index-feeds-file.result within c.requires.ready.not_ended));
       text = rw (ap (λ (f : Failures). f.text) c.loop-file.invariant.1) c.requires.ready.text;
       faults = rw (ap (λ (f : Failures). f.faults) c.loop-file.invariant.1) c.requires.ready.faults;
     }
@@ -144,10 +145,11 @@ loop-file-init g c = (
   refl,
   refl,
   c.requires.new.same_mode,
-  so_kept _ _ _ (λ k none. (rw none (omega arith), λ done. rw none refl)) c.requires.new.none,
-  λ sources are. (refl, refl, so_kept _ _ _ (λ k none. rw none refl) c.requires.new.none),
+  so_kept (λ k. k ≡ []) (IsManned Done 0) _ (λ k none. (rw none (omega arith), λ done. rw none refl))
+      c.requires.new.none,
+  λ sources are. (refl, refl, so_kept (λ k. k ≡ []) (λ k. Some k ≡ Some []) _ (λ k none. rw none refl) c.requires.new.none),
   λ file below. absurd (omega (arith, below)),
-  so_kept _ (λ k. AreOfProfile c.args.settings.now.profile k) _ (λ k none. rw none (λ i d below. absurd (omega arith)))
+  so_kept (λ k. k ≡ []) (λ k. AreOfProfile c.args.settings.now.profile k) _ (λ k none. rw none (λ i d below. absurd (omega arith)))
       c.requires.new.none,
 )
 
@@ -178,5 +180,6 @@ returns-clause-keeps g c =
     let end : c.loop-file.file ≡ length c.args.settings.now.file_words = omega (arith, c.requires.ready.files) in
     record {
       alike = c.loop-file.invariant.6;
-      manned = λ done. so_kept _ _ _ (λ k are. are.1 done ∙ end) c.loop-file.invariant.3;
+      manned = λ done. so_kept (IsManned c.loop-file.status c.loop-file.file)
+          (λ k. length k ≡ length c.args.settings.now.file_words) _ (λ k are. are.1 done ∙ end) c.loop-file.invariant.3;
     }

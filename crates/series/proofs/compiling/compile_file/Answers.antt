@@ -38,7 +38,7 @@ returns-in-Ok-take_program-clause-keeps g c =
     let kept = c.in-Ok-take_program.ensures.kept _ good.file good.reported in
     record {
       same_mode = c.in-Ok-take_program.ensures.mode;
-      alike = alike_more _ _ _ _ c.requires.keeps.alike kept;
+      alike = alike_more c.args.profile good.file _ _ c.requires.keeps.alike kept;
       manned = good_more _ _ _ kept;
     }
 
@@ -48,6 +48,6 @@ returns-in-Err-clause-keeps g c =
     let kept = c.in-Err.ensures.kept _ good.file good.reported in
     record {
       same_mode = c.in-Err.ensures.mode;
-      alike = alike_more _ _ _ _ c.requires.keeps.alike kept;
+      alike = alike_more c.args.profile good.file _ _ c.requires.keeps.alike kept;
       manned = tt;
     }

@@ -8,13 +8,13 @@ use Rattle.series.proofs.runs.play_files.Goals as goal
 pub play_all-requires-clause-manned : goal.play_all-requires-clause-manned
 play_all-requires-clause-manned g c = c.in-Ok-Done.ensures.keeps.manned c.in-Ok-Done.field-0-is
 
-pub returns-in-Ok-play_all : goal.returns-in-Ok-play_all
-returns-in-Ok-play_all g c = record {
+pub returns-in-Ok : goal.returns-in-Ok
+returns-in-Ok g c = record {
   output = λ sources are.
       let made = rw c.in-Ok-Done.field-0-is at (c.in-Ok-Done.ensures.over.output sources are) in
       let kept = kept_codes c.resolved_files.ensures c.args.settings.now.profile sources _ made.programs in
       played_run c.args.settings.now sources kept.0 _ _ _ c.requires.matches kept.1 made.output.0
-      (c.in-Ok-play_all.ensures.output kept.0 (g.E.Sink.written c.compile_all.new.err) kept.2);
+      (c.in-Ok.ensures.output kept.0 (g.E.Sink.written c.compile_all.new.err) kept.2);
   read = c.in-Ok-Done.ensures.over.read;
   failures = search rules;
 }

@@ -4,11 +4,14 @@ use Rattle.grammar.specs.Tree.{File}
 use Rattle.code.specs.Codes.{AreProgramsOf}
 use Rattle.settings.specs.Settings.{Settings}
 use Rattle.series.specs.SeriesSteps.{Series, next_text, next_step}
+use Rattle.series.specs.Reports.{report}
 use Rattle.series.specs.RobotNames.{robot_names}
 use Rattle.series.specs.Outcomes.{outcomes}
 use Rattle.sinks.specs.Puts.{Puts}
 use Rattle.series.proofs.SeriesLemmas.{next_match, outcome_is, outcomes_more, report_is}
 use Rattle.series.proofs.TextsLemmas.{length_paired}
+use Rattle.series.proofs.series.Series.next.Given.{Over}
+use Rattle.series.proofs.series.Series.next.Goals.{After-put_report}
 use Rattle.series.proofs.series.Series.next.Goals as goal
 
 pub invariant_of-self : goal.invariant_of-self
@@ -33,24 +36,36 @@ invariant_of-self g c =
           (c.self.invariant.3 files are)),
     )
 
+-- the report is that of the next match
+report_is_next : (g : Over) (c : After-put_report g) (files : List File)
+    → AreProgramsOf c.self.inside.programs.now c.self.inside.settings.now.profile files
+    → report (c.first.result + c.matches-played.result) (robot_names (map (λ word. word.now) c.file_words.result.now))
+    c.battle-outcome.result
+    ≡ next_text c.self.inside.settings.now files c.self.inside.tally.matches
+report_is_next g c files are =
+    let settings : Settings = c.self.inside.settings.now in
+    let next = next_match settings c.self.inside.tally.matches (c.first.result + c.matches-played.result) (omega arith)
+        (omega arith) in
+    report_is settings files _ _ c.battle-outcome.result _ next (ap robot_names c.file_words.ensures.value)
+    (outcome_is settings files _ c.battle-outcome.result
+    (rw (c.seed-seed.ensures.value, c.limit-limit.ensures.value) at
+    (c.battle-outcome.ensures.battle settings.profile files are)))
+
 pub returns-in-Ok-clause-text : goal.returns-in-Ok-clause-text
 returns-in-Ok-clause-text g c = λ going.
-    let settings : Settings = c.self.inside.settings.now in
     let Text : Series → Type 0 = λ s. (files : List File) → AreProgramsOf s.programs s.settings.profile files
-    → Puts c.put_report.result (g.S.Sink.written c.args.out.now) (g.S.Sink.written c.put_report.new.sink)
+    → Puts {E = ℕ} (Ok c.in-Ok.field-0) (g.S.Sink.written c.args.out.now) (g.S.Sink.written c.put_report.new.sink)
     (next_text s.settings files s.played) in
-    let next = next_match settings c.self.inside.tally.matches (c.first.result + c.matches-played.result) (omega arith)
-    (omega arith) in
     subst Text c.self.view_is (λ files are.
-    let ended =
-    outcome_is settings files _ c.battle-outcome.result
-    (rw (c.seed-seed.ensures.value, c.limit-limit.ensures.value) at
-    (c.battle-outcome.ensures.battle settings.profile files are))
-    in
-    rw (report_is settings files _ _ c.battle-outcome.result
-    (robot_names (map (λ word. word.now) c.file_words.result.now)) next (ap robot_names c.file_words.ensures.value)
-    ended)
-    at c.put_report.ensures)
+    rw (report_is_next g (goal.at.returns-in-Ok-clause-text g c).After-put_report files are) at c.in-Ok.ensures)
+
+pub returns-in-Err-clause-text : goal.returns-in-Err-clause-text
+returns-in-Err-clause-text g c = λ going.
+    let Text : Series → Type 0 = λ s. (files : List File) → AreProgramsOf s.programs s.settings.profile files
+    → Puts {T = ℕ} (Err c.in-Err.fault) (g.S.Sink.written c.args.out.now) (g.S.Sink.written c.put_report.new.sink)
+    (next_text s.settings files s.played) in
+    subst Text c.self.view_is (λ files are.
+    rw (report_is_next g (goal.at.returns-in-Err-clause-text g c).After-put_report files are) at c.in-Err.ensures)
 
 pub invariant_of-self-in-Err : goal.invariant_of-self-in-Err
 invariant_of-self-in-Err g c = c.self.invariant
