@@ -12,16 +12,6 @@ use Rattle.sinks.specs.Puts.{Puts}
 use Rattle.series.specs.CompiledFiles.{PutsPieces}
 use Rattle.series.proofs.PiecesLemmas.{writes_then, begins_then, begins_more}
 
--- a text that the sink took
-one_written : (now after faults : Portions) (text : List ℕ) → Takes now after text →
-    Writes (on_both now faults) (on_both after faults) (text_piece text ∷ [])
-one_written now after faults text takes = (on_both after faults, (takes, refl), refl)
-
--- a prefix of a text
-one_begun : (now after faults : Portions) (text : List ℕ) → TakesPrefix now after text →
-    Begins (on_both now faults) (on_both after faults) (text_piece text ∷ [])
-one_begun now after faults text front = inl (front, refl)
-
 -- one report more
 reports_more : (settings : Settings) (files : List File) (count : ℕ)
     → reports settings files (count + 1)
@@ -37,7 +27,7 @@ pub report_written : (settings : Settings) (files : List File) (count : ℕ) (be
     → Writes before (on_both after faults) (reports settings files (count + 1))
 report_written settings files count before now after faults so_far takes =
     rw (reports_more settings files count)
-    (writes_then before (on_both now faults) (on_both after faults) _ _ so_far (one_written now after faults _ takes))
+    (writes_then before (on_both now faults) (on_both after faults) _ _ so_far (on_both after faults, (takes, refl), refl))
 
 -- the next report was cut
 pub report_cut : (settings : Settings) (files : List File) (count : ℕ) (before : Taken) (now after faults : Portions)
@@ -59,7 +49,7 @@ report_cut settings files count before now after faults left so_far front =
     ∙ ap (λ l. l ++ (drop (count + 1) all ++ last)) (reports_more settings files count) in
     rw whole
     (begins_more before (on_both after faults) _ _
-    (begins_then before (on_both now faults) (on_both after faults) _ _ so_far (one_begun now after faults _ front)))
+    (begins_then before (on_both now faults) (on_both after faults) _ _ so_far (inl (front, refl))))
 
 -- the totals were put, and so all
 pub totals_put : {T E : Type 0} (settings : Settings) (files : List File) (before : Taken) (now after : SinkState)
@@ -70,7 +60,7 @@ pub totals_put : {T E : Type 0} (settings : Settings) (files : List File) (befor
 unfolding playing
 totals_put settings files before now after faults (Ok done) so_far (takes, calm) =
     writes_then before (on_both now.portions faults) (on_both after.portions faults) _ _ so_far
-    (one_written now.portions after.portions faults (totals_text settings files) takes)
+    (on_both after.portions faults, (takes, refl), refl)
 totals_put settings files before now after faults (Err stopped) so_far (front, more) =
     begins_then before (on_both now.portions faults) (on_both after.portions faults) _ _ so_far
-    (one_begun now.portions after.portions faults (totals_text settings files) front)
+    (inl (front, refl))

@@ -116,9 +116,7 @@ pub cut_at : (mode : Mode) (profile : Profile) (sources : List SourceFile) (file
     → Writes before now (compiling mode profile (take file sources)) → Begins now after pieces
     → TakesPast before after (compiling mode profile (take (file + 1 - 1) sources))
 cut_at mode profile sources file before now after pieces so_far begins =
-    let P : ℕ → Type 0 = λ n. TakesPast before after (compiling mode profile (take n sources)) in
-    let same : file ≡ file + 1 - 1 = omega arith in
-    subst P same (now, so_far, (pieces, begins))
+    let same : file + 1 - 1 ≡ file = omega arith in rw same (now, so_far, (pieces, begins))
 
 -- a write failed after all files were compiled
 pub cut_behind : (mode : Mode) (profile : Profile) (sources : List SourceFile) (count : ℕ) (before now after : Taken)
@@ -131,6 +129,5 @@ cut_behind mode profile sources count before now after pieces writes begins =
     let split : compiling mode profile sources ≡ first ++ rest =
     sym (ap (λ l. compiling mode profile l) (take-append-drop count sources))
     ∙ flat_map-append (source_pieces mode profile) (take count sources) (drop count sources) in
-    let W : List Piece → Type 0 = λ l. Writes before now l in
-    let (between, front, back) = writes_split before now first rest (subst W split writes) in
+    let (between, front, back) = writes_split before now first rest (rw split at writes) in
     (between, front, (rest ++ pieces, begins_then between now after rest pieces back begins))

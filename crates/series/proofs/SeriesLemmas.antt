@@ -2,7 +2,6 @@
 use Rattle.std.proofs.Common.{Ok, zero, suc, cond, inl, inr, ◌≡◌, ℕ, ◌+◌, ◌<◌, ◌≤◌, Bool, true, false, not, List, [], ◌∷◌, ◌++◌, length, get_or, map, refl, ap, ◌∙◌, arith}
 use Rattle.std.specs.Prelude.{◌&&◌, ◌||◌, ◌==◌, nat_le, nat_lt, count_by, if◌then◌else◌}
 use Rattle.std.specs.List.{range_with_len}
-use Rattle.std.proofs.lemmas.List.FromFn.{map-range_with_len_more}
 use Rattle.std.proofs.lemmas.List.Sums.{fold-append, get_or-le-sum_by}
 use Rattle.std.proofs.lemmas.List.{get_or_past, length-map}
 use Rattle.std.proofs.lemmas.Bool.{cases_lt}
@@ -21,12 +20,6 @@ use Rattle.series.specs.Lines.{lines_text}
 use Rattle.series.specs.Totals.{has_won, has_tied, has_lost, score_line, score_of, survivors, totals, totals_line}
 use Rattle.series.specs.declared.run_results.Step.TheVariants.{Played}
 use Rattle.series.proofs.TextsLemmas.{robots_there}
-
--- one match more
-pub outcomes_more : (settings : Settings) (files : List File) (count k : ℕ) → settings.first + count ≡ k
-    → outcomes settings files (count + 1) ≡ outcomes settings files count ++ outcome_of settings files k ∷ []
-outcomes_more settings files count k here =
-    map-range_with_len_more (outcome_of settings files) settings.first count k here
 
 -- there is no robot past the last one
 pub none_alive : (outcome : Outcome) (i : ℕ) → length outcome.damages ≤ i → is_survivor outcome i ≡ false

@@ -1,6 +1,7 @@
 -- The lines of reports and totals, fragment by fragment.
 use Rattle.std.proofs.Common.{◌≡◌, ℕ, ◌+◌, ◌-◌, ◌<◌, zero, suc, Bool, List, [], ◌∷◌, ◌++◌, length, get_or, map, refl, sym, ap, ◌∙◌, append_assoc, arith, decimal, codes}
 use Rattle.std.specs.Prelude.{max, min}
+use Rattle.std.specs.List.{fold}
 use Rattle.std.proofs.lemmas.List.FromFn.{get_or-map-range_with_len, length-map-range_with_len}
 use Rattle.std.proofs.lemmas.List.{get_or-map, length-map}
 use Rattle.series.specs.Lines.{ended_line, lines_text}
@@ -12,22 +13,14 @@ use Rattle.series.specs.RobotNames.{robot_names}
 use Rattle.sinks.specs.Texts.{column, file_name}
 use Rattle.series.specs.Totals.{score_line, score_lines}
 
--- eight fragments after a text
-added_eight : (text a b c d e f g h : List ℕ)
-    →
-    (((((((text ++ a) ++ b) ++ c) ++ d) ++ e) ++ f) ++ g) ++ h ≡
-    text ++ (((((((a ++ b) ++ c) ++ d) ++ e) ++ f) ++ g) ++ h)
-added_eight text a b c d e f g h = simp append_assoc
-
--- and one more
-added : (text a b c d e f g h i : List ℕ)
-    →
-    text ++ ((((((((a ++ b) ++ c) ++ d) ++ e) ++ f) ++ g) ++ h) ++ i) ≡
-    ((((((((text ++ a) ++ b) ++ c) ++ d) ++ e) ++ f) ++ g) ++ h) ++ i
-added text a b c d e f g h i =
-    sym
-    (ap (λ l. l ++ i) (added_eight text a b c d e f g h) ∙
-    append_assoc text (((((((a ++ b) ++ c) ++ d) ++ e) ++ f) ++ g) ++ h) i)
+-- fragments after a text
+added : (text first : List ℕ) (more : List (List ℕ))
+    → text ++ fold (λ line fragment. line ++ fragment) first more
+    ≡ fold (λ line fragment. line ++ fragment) (text ++ first) more
+added text first [] = refl
+added text first (fragment ∷ more) =
+    added text (first ++ fragment) more
+    ∙ ap (λ line. fold (λ line fragment. line ++ fragment) line more) (sym (append_assoc text first fragment))
 
 -- the fragments of a robot's line
 pub robot_line_added : (text name : List ℕ) (i damage : ℕ) (is_alive : Bool)
@@ -36,8 +29,8 @@ pub robot_line_added : (text name : List ℕ) (i damage : ℕ) (is_alive : Bool)
     ((((((((text ++ codes "  ") ++ decimal (i + 1)) ++ codes ") ") ++ state_text is_alive) ++ codes " damage ")
     ++ column 3 damage) ++ codes "% ") ++ name) ++ codes "\n"
 robot_line_added text name i damage is_alive =
-    added text (codes "  ") (decimal (i + 1)) (codes ") ") (state_text is_alive) (codes " damage ") (column 3 damage)
-    (codes "% ") name (codes "\n")
+    added text (codes "  ") (decimal (i + 1) ∷ codes ") " ∷ state_text is_alive ∷ codes " damage " ∷ column 3 damage
+    ∷ codes "% " ∷ name ∷ codes "\n" ∷ [])
 
 -- the fragments of a score's line
 pub score_line_added : (text name : List ℕ) (i : ℕ) (score : Score)
@@ -47,23 +40,8 @@ pub score_line_added : (text name : List ℕ) (i : ℕ) (score : Score)
     codes " tied ") ++ decimal score.tied) ++ codes " lost ") ++ decimal score.lost) ++ codes " ") ++ name)
     ++ codes "\n"
 score_line_added text name i score =
-    let line : List ℕ =
-    codes "  " ++ decimal (i + 1) ++ codes ") won " ++ decimal score.won ++ codes " tied " ++ decimal score.tied ++
-    codes " lost " ++ decimal score.lost in
-    let rest : List ℕ = line ++ codes " " ++ name in
-    sym (append_assoc text rest (codes "\n"))
-    ∙ ap (λ l. l ++ codes "\n") (sym (append_assoc text (line ++ codes " ") name)
-    ∙ ap (λ l. l ++ name) (sym (append_assoc text line (codes " "))
-    ∙
-    ap (λ l. l ++ codes " ")
-    (sym
-    (added_eight text (codes "  ") (decimal (i + 1)) (codes ") won ") (decimal score.won) (codes " tied ")
-    (decimal score.tied) (codes " lost ") (decimal score.lost)))))
-
--- six fragments after a text
-added_six : (text a b c d e f : List ℕ)
-    → text ++ (((((a ++ b) ++ c) ++ d) ++ e) ++ f) ≡ (((((text ++ a) ++ b) ++ c) ++ d) ++ e) ++ f
-added_six text a b c d e f = simp append_assoc
+    added text (codes "  ") (decimal (i + 1) ∷ codes ") won " ∷ decimal score.won ∷ codes " tied " ∷ decimal score.tied
+    ∷ codes " lost " ∷ decimal score.lost ∷ codes " " ∷ name ∷ codes "\n" ∷ [])
 
 -- the fragments of a report
 pub report_added : (text : List ℕ) (k : ℕ) (names : List (List ℕ)) (outcome : Outcome)
@@ -73,8 +51,8 @@ pub report_added : (text : List ℕ) (k : ℕ) (names : List (List ℕ)) (outcom
     ++ lines_text (robot_lines names outcome)
 unfolding report
 report_added text k names outcome =
-    added_six text (codes "Match ") (decimal k) (codes ": cycles = ") (decimal outcome.cycles) (codes "\n")
-    (lines_text (robot_lines names outcome))
+    added text (codes "Match ") (decimal k ∷ codes ": cycles = " ∷ decimal outcome.cycles ∷ codes "\n"
+    ∷ lines_text (robot_lines names outcome) ∷ [])
 
 -- the line of one robot
 pub robot_line_at : (names : List (List ℕ)) (outcome : Outcome) (i : ℕ) (name : List ℕ) → i < length outcome.damages →

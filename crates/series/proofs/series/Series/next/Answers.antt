@@ -1,4 +1,5 @@
 use Rattle.std.proofs.Common.{◌≡◌, ◌∙◌, ◌+◌, ◌<◌, ℕ, List, Ok, Err, ap, sym, subst, length, map, true, arith}
+use Rattle.std.proofs.lemmas.List.FromFn.{map-range_with_len_more}
 use Rattle.std.proofs.lemmas.List.{length-map}
 use Rattle.grammar.specs.Tree.{File}
 use Rattle.code.specs.Codes.{AreProgramsOf}
@@ -6,9 +7,9 @@ use Rattle.settings.specs.Settings.{Settings}
 use Rattle.series.specs.SeriesSteps.{Series, next_text, next_step}
 use Rattle.series.specs.Reports.{report}
 use Rattle.series.specs.RobotNames.{robot_names}
-use Rattle.series.specs.Outcomes.{outcomes}
+use Rattle.series.specs.Outcomes.{outcome_of, outcomes}
 use Rattle.sinks.specs.Puts.{Puts}
-use Rattle.series.proofs.SeriesLemmas.{next_match, outcome_is, outcomes_more, report_is}
+use Rattle.series.proofs.SeriesLemmas.{next_match, outcome_is, report_is}
 use Rattle.series.proofs.TextsLemmas.{length_paired}
 use Rattle.series.proofs.series.Series.next.Given.{Over}
 use Rattle.series.proofs.series.Series.next.Goals.{After-put_report}
@@ -29,7 +30,8 @@ invariant_of-self g c =
           in
           rw (
             c.count_match.ensures.matches,
-            outcomes_more settings files c.self.inside.tally.matches number (omega arith),
+            map-range_with_len_more (outcome_of settings files) settings.first c.self.inside.tally.matches number
+                (omega arith),
             ← ended,
           )
           (c.count_match.ensures.tally (outcomes settings files c.self.inside.tally.matches)
