@@ -18,7 +18,9 @@ use Rattle.series.specs.declared.run_results.RunFault.TheVariants as run_fault
 use Rattle.series.specs.declared.run_results.Status.{Status}
 use Rattle.series.specs.declared.run_results.Status.TheVariants.{Done, Faulty}
 use Rattle.sinks.specs.Portions.{KnownPortions, Portions, Takes}
+use Rattle.page.specs.declared.endings.Ending.{Ending}
 use Rattle.page.specs.declared.orders.Order.{Order}
+use Rattle.page.specs.Endings.{EndsWith, code_of}
 use Rattle.page.specs.declared.robots.RobotFile.{RobotFile}
 use Rattle.page.specs.declared.sheets.Sheet.{Sheet}
 use Rattle.page.specs.Orders.{setup_by, setup_of}
@@ -175,3 +177,8 @@ ends_with order robots (Ok Faulty) text faults accepted (writes, is) stopped = r
 }
 ends_with order robots (Err stopped) text faults accepted begins (is, full) =
     record { accepted = accepted; begins = rw is at begins; full = full }
+
+-- a call's number is that of how it ends
+pub ends : (Says : Ending → Type 0) (ending : Ending) (code : ℕ) → code ≡ code_of ending → Says ending
+    → EndsWith Says code
+ends Says ending code is says = record { ending = ending; is = is; says = says }
