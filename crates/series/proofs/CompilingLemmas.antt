@@ -4,7 +4,6 @@ use Rattle.std.specs.Prelude.{option_map, IfSome}
 use Rattle.std.proofs.lemmas.List.Sums.{fold-append}
 use Rattle.std.proofs.lemmas.List.{take_all, take_more, map-append, take-append-drop, append-nil}
 use Rattle.std.proofs.lemmas.Grind.{flat_map-append}
-use Rattle.battles.specs.Programs.{AreOfProfile}
 use Rattle.grammar.specs.Profile.{Profile}
 use Rattle.grammar.specs.declared.diagnostics.Diagnostic.{Diagnostic}
 use Rattle.grammar.specs.Compiled.{compiled}
@@ -12,14 +11,13 @@ use Rattle.grammar.specs.Tree.{File}
 use Rattle.code.specs.Generation.{Program, code_of}
 use Rattle.settings.specs.declared.settings.Mode.{Mode}
 use Rattle.settings.specs.Settings.{Settings}
-use Rattle.series.specs.Compiling.{SourceFile, and_file, files_of, pieces_of, source_pieces, compile_status, compiling}
+use Rattle.series.specs.Compiling.{SourceFile, and_file, files_of, source_pieces, compile_status, compiling}
 use Rattle.series.specs.CompiledFiles.{programs_of, program_or_fault, compiled_program}
 use Rattle.series.specs.Pieces.{Taken, Writes, Begins}
 use Rattle.series.specs.ProgramKeeping.{and_program_of_file, and_compiled, worse_status, count_of, kept_by, KeepsMore, status_by}
 use Rattle.series.specs.CompiledFiles.{CompilesAll}
 use Rattle.series.specs.declared.run_results.Status.{Status}
 use Rattle.series.specs.declared.run_results.Status.TheVariants.{Done, Faulty}
-use Rattle.sinks.specs.Texts.{file_name}
 use Rattle.series.proofs.PiecesLemmas.{writes_then, begins_then, begins_more}
 use Rattle.series.proofs.RunsLemmas.{no_source}
 

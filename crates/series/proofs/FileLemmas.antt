@@ -1,6 +1,6 @@
 -- What compiling one file writes.
 use Rattle.std.specs.Prelude.{IfSome}
-use Rattle.std.proofs.Common.{◌≡◌, ℕ, List, [], ◌∷◌, ◌++◌, Option, Some, None, Result, Ok, refl, length-append}
+use Rattle.std.proofs.Common.{◌≡◌, ℕ, List, [], ◌∷◌, Option, Some, None, Ok, refl, length-append}
 use Rattle.std.proofs.lemmas.List.Elements.{All-push}
 use Rattle.battles.specs.Programs.{AreOfProfile}
 use Rattle.grammar.specs.Profile.{Profile}

@@ -22,7 +22,7 @@ use Rattle.series.specs.declared.run_results.Status.TheVariants.{Done, Faulty}
 use Rattle.series.specs.Compiling.{SourceFile, and_file, compiling, files_of, compile_status}
 use Rattle.series.specs.CompiledFiles.{CompilesTo, programs_of}
 use Rattle.series.specs.Output.{output, played, Runs, StopsRun}
-use Rattle.series.specs.Pieces.{Piece, Taken, Writes, Begins}
+use Rattle.series.specs.Pieces.{Taken, Writes, Begins}
 use Rattle.series.specs.Outcomes.{outcome_of}
 use Rattle.series.specs.Playing.{playing}
 use Rattle.series.proofs.PiecesLemmas.{writes_then, begins_then, begins_more}

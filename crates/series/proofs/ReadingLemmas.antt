@@ -1,19 +1,12 @@
 -- How much was read, file by file.
-use Rattle.std.proofs.Common.{◌≡◌, ◌≢◌, ℕ, ◌+◌, ◌-◌, ◌<◌, List, ◌++◌, Option, None, Result, Ok, Err, length, take, drop, get_or, map, set, sym, ap, ◌∙◌, subst, arith, below_more, get_or-set_other, get_or-set_same}
-use Rattle.std.specs.Prelude.{MatchResult}
+use Rattle.std.proofs.Common.{◌≡◌, ◌≢◌, ℕ, ◌+◌, ◌-◌, ◌<◌, List, ◌++◌, Option, None, length, take, drop, get_or, map, set, sym, ap, ◌∙◌, subst, arith, below_more, get_or-set_other, get_or-set_same}
 use Rattle.std.proofs.lemmas.List.{get_or-map, drop-map, length-drop, length-map, map-set, take-append-drop}
 use Rattle.std.proofs.lemmas.Grind.{flat_map-append}
 use Rattle.grammar.specs.Profile.{Profile}
 use Rattle.settings.specs.declared.settings.Mode.{Mode}
-use Rattle.settings.specs.Settings.{Settings}
-use Rattle.series.specs.declared.run_results.RunFault.{RunFault}
-use Rattle.series.specs.declared.run_results.RunFault.TheVariants as run_fault
-use Rattle.series.specs.declared.run_results.Status.{Status}
-use Rattle.series.specs.declared.run_results.Status.TheVariants.{Done}
 use Rattle.series.specs.Compiling.{SourceFile, compiling, source_pieces}
 use Rattle.series.specs.Pieces.{Begins, Piece, Taken, Writes}
-use Rattle.series.specs.SourceReading.{FailsToRead, MayLeaveUndecided, ReadsSources, ReadsFirst, StopsReading, TakesOf, TakesOfFirst, TakesPast}
-use Rattle.series.specs.SourceContents.{AreSources}
+use Rattle.series.specs.SourceReading.{FailsToRead, MayLeaveUndecided, ReadsFirst, TakesOf, TakesOfFirst, TakesPast}
 use Rattle.series.proofs.PiecesLemmas.{begins_then, writes_split}
 use Rattle.series.proofs.RunsLemmas.{feed_here, rest_more}
 

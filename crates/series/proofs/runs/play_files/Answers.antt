@@ -1,5 +1,4 @@
-use Rattle.std.proofs.Common.{◌-◌, length, rules}
-use Rattle.series.specs.Pieces.{taken_by_sinks}
+use Rattle.std.proofs.Common.{length, rules}
 use Rattle.series.proofs.OutputLemmas.{faulty_run, kept_codes, played_run, played_stop, stops_run}
 use Rattle.series.proofs.ReadingLemmas.{cut_behind}
 use Rattle.series.specs.SourceContents.{known_to_come}
