@@ -27,7 +27,8 @@ pub report_written : (settings : Settings) (files : List File) (count : ℕ) (be
     → Writes before (on_both after faults) (reports settings files (count + 1))
 report_written settings files count before now after faults so_far takes =
     rw (reports_more settings files count)
-    (writes_then before (on_both now faults) (on_both after faults) _ _ so_far (on_both after faults, (takes, refl), refl))
+    (writes_then before (on_both now faults) (on_both after faults) _ _ so_far
+    (on_both after faults, (takes, refl), refl))
 
 -- the next report was cut
 pub report_cut : (settings : Settings) (files : List File) (count : ℕ) (before : Taken) (now after faults : Portions)

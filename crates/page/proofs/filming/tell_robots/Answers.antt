@@ -33,7 +33,8 @@ pub returns-else-is_full : goal.returns-else-is_full
 returns-else-is_full c =
     let order = c.args.order.now in
     let robots = c.args.robots.now in
-    let made = rw (c.in-Ok-Done.is, c.in-Ok-Done.field-0-is) at (compiles (goal.at.returns-else-is_full c).After-compile_all) in
+    let made =
+    rw (c.in-Ok-Done.is, c.in-Ok-Done.field-0-is) at (compiles (goal.at.returns-else-is_full c).After-compile_all) in
     has_shown order robots (stretch_in c.args.subject.now) c.tell_subject-ending.result c.tell_subject-ending.new.sheet
     c.compile_all.new.err
     (has_compiled order robots status.Done c.compile_all.new.out c.compile_all.new.err (c.in-Some.ensures.refused refl)
@@ -48,7 +49,9 @@ returns-then-is_full c = (c.in-Some.ensures.refused refl, inl (c.is_full.ensures
 
 pub returns-in-Ok-Faulty : goal.returns-in-Ok-Faulty
 returns-in-Ok-Faulty c =
-    let made = rw (c.in-Ok-Faulty.is, c.in-Ok-Faulty.field-0-is) at (compiles (goal.at.returns-in-Ok-Faulty c).After-compile_all) in
+    let made =
+    rw (c.in-Ok-Faulty.is, c.in-Ok-Faulty.field-0-is) at (compiles (goal.at.returns-in-Ok-Faulty c).After-compile_all)
+    in
     has_compiled c.args.order.now c.args.robots.now status.Faulty c.compile_all.new.out c.compile_all.new.err
     (c.in-Some.ensures.refused refl) made.output
 

@@ -146,9 +146,11 @@ loop-file-init g c = (
   c.requires.new.same_mode,
   so_kept (λ k. k ≡ []) (IsManned Done 0) _ (λ k none. (rw none (omega arith), λ done. rw none refl))
       c.requires.new.none,
-  λ sources are. (refl, refl, so_kept (λ k. k ≡ []) (λ k. Some k ≡ Some []) _ (λ k none. rw none refl) c.requires.new.none),
+  λ sources are.
+      (refl, refl, so_kept (λ k. k ≡ []) (λ k. Some k ≡ Some []) _ (λ k none. rw none refl) c.requires.new.none),
   λ file below. absurd (omega (arith, below)),
-  so_kept (λ k. k ≡ []) (λ k. AreOfProfile c.args.settings.now.profile k) _ (λ k none. rw none (λ i d below. absurd (omega arith)))
+  so_kept (λ k. k ≡ []) (λ k. AreOfProfile c.args.settings.now.profile k) _
+      (λ k none. rw none (λ i d below. absurd (omega arith)))
       c.requires.new.none,
 )
 

@@ -47,7 +47,7 @@ report_is_next : (g : Over) (c : After-put_report g) (files : List File)
 report_is_next g c files are =
     let settings : Settings = c.self.inside.settings.now in
     let next = next_match settings c.self.inside.tally.matches (c.first.result + c.matches-played.result) (omega arith)
-        (omega arith) in
+    (omega arith) in
     report_is settings files _ _ c.battle-outcome.result _ next (ap robot_names c.file_words.ensures.value)
     (outcome_is settings files _ c.battle-outcome.result
     (rw (c.seed-seed.ensures.value, c.limit-limit.ensures.value) at
