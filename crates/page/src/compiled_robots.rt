@@ -46,7 +46,7 @@ impl CompiledRobots {
         if self.len() == 1 { 2 } else { self.len() }
     }
 
-    /// Returns the program of a robot with its names, that of the last file past it.
+    /// Returns the program of a robot, with its names. A single file's is that of both robots.
     pub(crate) fn named(&self, robot: usize) -> Option<NamedProgram<'_>> {
         let file = robot.min(self.len().saturating_sub(1));
         let program = self.programs.as_slice().get(file)?;
