@@ -23,7 +23,7 @@ use Rattle.parser.specs.declared.frames.Frame.{Frame}
 use Rattle.parser.specs.declared.frames.Frame.TheVariants as frame
 use Rattle.parser.specs.declared.frames.Front.{Front}
 use Rattle.parser.specs.declared.frames.Front.TheVariants as front
-use Rattle.parser.specs.declared.frames.TheConstants.{UNARY_LEVEL}
+use Rattle.grammar.specs.declared.operators.TheConstants.{UNARY_LEVEL}
 use Rattle.parser.specs.Paths.{HasTold, Origin, Path, Refused}
 use Rattle.parser.specs.ScopedCursors.{next_at, to_go, token_of}
 use Rattle.parser.specs.UnaryOps.{unary_action}
