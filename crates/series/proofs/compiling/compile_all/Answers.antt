@@ -2,6 +2,7 @@ use Rattle.std.proofs.Common.{false, ◌≡◌, ◌+◌, ◌<◌, ◌≤◌, ◌
 use Rattle.std.proofs.lemmas.List.{length-map}
 use Rattle.std.proofs.lemmas.List.Elements.{All-get_or}
 use Rattle.battles.specs.Programs.{AreOfProfile}
+use Rattle.settings.specs.SettingsLimits.{most_files}
 use Rattle.series.specs.Failures.{Failures}
 use Rattle.series.specs.declared.run_results.Status.TheVariants.{Done}
 use Rattle.series.proofs.CompilingLemmas.{IsManned, all_compiled, kept_with, manned_with, pieces_more, pieces_cut, so_kept, status_more}
@@ -116,7 +117,7 @@ loop-file-preserved g c = (
 
 pub compile_file-requires-clause-keeps : goal.compile_file-requires-clause-keeps
 compile_file-requires-clause-keeps g c = record {
-  room = so_kept (IsManned c.loop-file.status c.loop-file.file) (λ k. length k < 4) _
+  room = so_kept (IsManned c.loop-file.status c.loop-file.file) (λ k. length k < most_files) _
       (λ k are. omega (arith, are.0, c.requires.ready.files, c.file_words-words.ensures.within.most_files))
       c.loop-file.invariant.3;
   alike = rw c.profile-profile.ensures.value c.loop-file.invariant.6;
