@@ -49,14 +49,15 @@ impl<'a> Executables<'a> {
         self.exes.len()
     }
 
-    /// Returns the executable of the robot with this number.
+    /// Returns the executable of the robot with this number: one of its own, so that the program is not looked up again
+    /// after each of the robot's turns.
     #[inline(always)]
-    pub(crate) fn executable(&self, robot: usize) -> &Executable<'a>
+    pub(crate) fn executable(&self, robot: usize) -> Executable<'a>
         requires { robot < length self.now }
-        ensures { slice_get self.now robot ≡ Some result.now }
+        ensures { slice_get self.now robot ≡ Some result }
     {
         match &self.exes.as_slice()[robot] {
-            Some(exe) => exe,
+            Some(exe) => exe.again(),
             None => unreachable!(),
         }
     }

@@ -52,7 +52,7 @@ fn begin_runners(runners: &mut [Runner], executables: &Executables)
     ensures begins { EachIsAheadOf runners.new executables.now (replicate (length executables.now) []) }
 {
     for robot in 0..runners.len() {
-        runners[robot].restart(executables.executable(robot));
+        runners[robot].restart(&executables.executable(robot));
     }
 }
 
