@@ -1,10 +1,8 @@
 -- Sheets of known contents hold the output of a run.
-use Rattle.std.proofs.Common.{◌≡◌, ◌⊎◌, ◌<◌, ◌≤◌, ◌+◌, ◌∙◌, inl, inr, ℕ, zero, suc, List, [], ◌∷◌, ◌++◌, Option, Some, None, Result, Ok, Err, IfErr, false, get_or, map, refl, sym, ap, subst, append_assoc, arith, Bool, true, nat_le}
-use Rattle.std.specs.Prelude.{if◌then◌else◌}
+use Rattle.std.proofs.Common.{◌≡◌, ◌⊎◌, ◌<◌, ◌+◌, ◌∙◌, inl, inr, ℕ, zero, suc, List, [], ◌∷◌, ◌++◌, Option, Some, None, Result, Ok, Err, IfErr, get_or, map, refl, sym, ap, subst, append_assoc, arith}
 use Rattle.std.specs.List.{concat}
 use Rattle.std.proofs.lemmas.List.{append-nil, get_or-set_same}
 use Rattle.std.proofs.lemmas.List.Folds.{concat-append}
-use Rattle.std.proofs.lemmas.Bool.Decides.{nat_tests}
 use Rattle.std.proofs.lemmas.Simd.{map-map}
 use Rattle.settings.specs.Settings.{Settings}
 use Rattle.settings.specs.declared.settings.Mode.{Mode}
@@ -14,98 +12,65 @@ use Rattle.series.specs.SourceContents.{AreSources}
 use Rattle.series.specs.Failures.{FailsAsAnswered, Failures, SinkFailed, failing, no_device}
 use Rattle.tokens.specs.Feed.{failed_again}
 use Rattle.tokens.specs.Device.{FailureCount}
-use Rattle.series.specs.Pieces.{Channel, Piece, Taken, Text, Faults, Writes, TakesOn, on_both}
+use Rattle.series.specs.Pieces.{Channel, Piece, Taken, Text, Faults, Writes, TakesOn}
 use Rattle.series.specs.declared.run_results.RunFault.{RunFault}
 use Rattle.series.specs.declared.run_results.RunFault.TheVariants as run_fault
 use Rattle.series.specs.declared.run_results.Status.{Status}
 use Rattle.series.specs.declared.run_results.Status.TheVariants.{Done, Faulty}
-use Rattle.sinks.specs.Portions.{KnownPortions, Portions, Takes}
+use Rattle.sinks.specs.Portions.{Portions, Takes}
+use Rattle.page.specs.declared.endings.Ending.{Ending}
 use Rattle.page.specs.declared.orders.Order.{Order}
+use Rattle.page.specs.Endings.{EndsWith, code_of}
 use Rattle.page.specs.declared.robots.RobotFile.{RobotFile}
 use Rattle.page.specs.declared.sheets.Sheet.{Sheet}
 use Rattle.page.specs.Orders.{setup_by, setup_of}
 use Rattle.page.specs.Robots.{name_bytes, source_bytes, source_of}
 use Rattle.page.specs.Running.{Holds, IsAccepted, OneIsFull, RunsRobots, blank, bytes_on, ending_of, output_of, part_on, taken_by}
-use Rattle.page.specs.Sheets.{IsFull, most_frames, refused, told}
+use Rattle.page.specs.Sheets.{refused, told}
 
--- two sinks of known contents
-abbrev both : KnownPortions → KnownPortions → Taken
-both t f = on_both (Some t) (Some f)
+-- a sink of known contents took these bytes
+abbrev Has : Portions → List ℕ → Type 0
+Has None bytes = ⊥
+Has (Some contents) bytes = concat contents.portions ≡ bytes
 
--- after this two sinks of known contents have these bytes more
-record Grow (t f : KnownPortions) (after : Taken) (text faults : List ℕ) : Type 0 where
-  new_text : KnownPortions
-  new_faults : KnownPortions
-  is : after ≡ both new_text new_faults
-  texts : concat new_text.portions ≡ concat t.portions ++ text
-  lines : concat new_faults.portions ≡ concat f.portions ++ faults
+-- and now more
+grown : (before after : Portions) (so_far bytes : List ℕ) → Has before so_far → Takes before after bytes
+    → Has after (so_far ++ bytes)
+grown None after so_far bytes has takes = absurd has
+grown (Some t) after so_far bytes has takes =
+    rw takes.taken (concat-append t.portions takes.portions ∙ rw (has, takes.joined) refl)
 
--- the bytes that a sink took
-grown : (t : KnownPortions) (after : Portions) (bytes : List ℕ) (takes : Takes (Some t) after bytes)
-    → concat (t.portions ++ takes.portions) ≡ concat t.portions ++ bytes
-grown t after bytes takes =
-    concat-append t.portions takes.portions ∙ ap (λ (l : List ℕ). concat t.portions ++ l) takes.joined
+-- the sink of a channel
+abbrev sink_of : Channel → Taken → Portions
+sink_of Text taken = taken.text
+sink_of Faults taken = taken.faults
 
 -- one piece
-one_grows : (channel : Channel) (bytes : List ℕ) (t f : KnownPortions) (after : Taken) →
-    TakesOn channel (both t f) after bytes
-    → Grow t f after (part_on Text channel bytes) (part_on Faults channel bytes)
-one_grows Text bytes t f after (takes, same) = record {
-  new_text = record t { portions = t.portions ++ takes.portions };
-  new_faults = f;
-  is = rw (sym takes.taken, sym same) refl;
-  texts = grown t after.text bytes takes;
-  lines = sym (append-nil (concat f.portions));
-}
-one_grows Faults bytes t f after (takes, same) = record {
-  new_text = t;
-  new_faults = record f { portions = f.portions ++ takes.portions };
-  is = rw (sym takes.taken, sym same) refl;
-  texts = sym (append-nil (concat t.portions));
-  lines = grown f after.faults bytes takes;
-}
-
--- bytes after bytes after bytes
-behind : (a b c x y : List ℕ) → b ≡ a ++ x → c ≡ b ++ y → c ≡ a ++ (x ++ y)
-behind a b c x y first second = second ∙ ap (λ (l : List ℕ). l ++ y) first ∙ append_assoc a x y
+one_taken : (here channel : Channel) (before after : Taken) (so_far bytes : List ℕ) → Has (sink_of here before) so_far
+    → TakesOn channel before after bytes → Has (sink_of here after) (so_far ++ part_on here channel bytes)
+one_taken Text Text before after so_far bytes has (takes, same) =
+    grown before.text after.text so_far bytes has takes
+one_taken Faults Faults before after so_far bytes has (takes, same) =
+    grown before.faults after.faults so_far bytes has takes
+one_taken Text Faults before after so_far bytes has (takes, same) = rw (same, append-nil so_far) has
+one_taken Faults Text before after so_far bytes has (takes, same) = rw (same, append-nil so_far) has
 
 -- all pieces
-all_grow : (t f : KnownPortions) (after : Taken) (pieces : List Piece) → Writes (both t f) after pieces
-    → Grow t f after (bytes_on Text pieces) (bytes_on Faults pieces)
-all_grow t f after [] is = record {
-  new_text = t;
-  new_faults = f;
-  is = is;
-  texts = sym (append-nil (concat t.portions));
-  lines = sym (append-nil (concat f.portions));
-}
-all_grow t f after (piece ∷ pieces) (between, takes, rest) =
-    let here = one_grows piece.channel piece.bytes t f between takes in
-    let P : Taken → Type 0 = λ now. Writes now after pieces in
-    let there = all_grow here.new_text here.new_faults after pieces (subst P here.is rest) in
-    record {
-      new_text = there.new_text;
-      new_faults = there.new_faults;
-      is = there.is;
-      texts = behind (concat t.portions) (concat here.new_text.portions) (concat there.new_text.portions) _ _ here.texts
-          there.texts;
-      lines = behind (concat f.portions) (concat here.new_faults.portions) (concat there.new_faults.portions) _ _
-          here.lines there.lines;
-    }
-
--- what a sink took, portion by portion
-abbrev portions_in : Portions → List (List ℕ)
-portions_in None = []
-portions_in (Some contents) = contents.portions
+all_taken : (here : Channel) (before after : Taken) (pieces : List Piece) (so_far : List ℕ)
+    → Has (sink_of here before) so_far → Writes before after pieces
+    → Has (sink_of here after) (so_far ++ bytes_on here pieces)
+all_taken here before after [] so_far has is = rw (is, append-nil so_far) has
+all_taken here before after (piece ∷ pieces) so_far has (between, takes, rest) =
+    rw (← (append_assoc so_far (part_on here piece.channel piece.bytes) (bytes_on here pieces)))
+    (all_taken here between after pieces _ (one_taken here piece.channel before between so_far piece.bytes has takes)
+    rest)
 
 -- two sheets that were blank
 pub held : (out : Output) (text faults : Sheet) → Writes blank (taken_by text faults) out.pieces → Holds out text faults
-held out text faults writes =
-    let none : KnownPortions = record { portions = []; whole = false } in
-    let grow = all_grow none none (taken_by text faults) out.pieces writes in
-    let texts : told text ≡ grow.new_text.portions = ap (λ (t : Taken). portions_in t.text) grow.is in
-    let lines : told faults ≡ grow.new_faults.portions = ap (λ (t : Taken). portions_in t.faults) grow.is in
-    record { texts = ap concat texts ∙ grow.texts; lines = ap concat lines ∙ grow.lines }
+held out text faults writes = record {
+  texts = all_taken Text blank (taken_by text faults) out.pieces [] refl writes;
+  lines = all_taken Faults blank (taken_by text faults) out.pieces [] refl writes;
+}
 
 -- what is true of all sources with the robots' names and bytes, on blank sheets, is true of those of the robots
 pub by_robots : (R : Settings → List SourceFile → Taken → Type 0) (mode : Mode) (order : Order)
@@ -139,22 +104,6 @@ sink_failed before after (inr is) =
     let faults : after.faults ≡ before.faults + 1 = ap (λ (f : Failures). f.faults) is in
     inr (omega (arith, faults))
 
--- a sheet that refused a write is full
-full_if : (used failures : ℕ) (is : Bool) → nat_le most_frames used ≡ is → 0 < (if is then failures else 0)
-    → (most_frames ≤ used) × (0 < failures)
-full_if used failures true is some = (grind (arith, nat_tests), some)
-full_if used failures false is some = absurd (omega (arith, some))
-
-refused_full : (sheet : Sheet) → 0 < refused sheet → IsFull sheet
-refused_full sheet some =
-    let found = full_if sheet.used sheet.failures (nat_le most_frames sheet.used) refl some in
-    record { used = found.0; refused = found.1 }
-
--- so is one of two of which one refused a write
-one_full : (text faults : Sheet) → (0 < refused text) ⊎ (0 < refused faults) → OneIsFull text faults
-one_full text faults (inl some) = inl (refused_full text some)
-one_full text faults (inr some) = inr (refused_full faults some)
-
 -- of devices that never fail only a full sheet stops a run
 pub only_full : {X A : Type 0} → (olds news : List X) (ran : Result A RunFault) (text faults : ℕ) (film lines : Sheet)
     →
@@ -170,7 +119,7 @@ only_full olds news (Err (run_fault.Read file)) text faults film lines (within, 
     ap (λ (a : FailureCount). a.failures) (sym (never_failed news file) ∙ here ∙ there) in
     absurd (omega (arith, counts))
 only_full olds news (Err run_fault.Write) text faults film lines accounts =
-    (refl, one_full film lines (sink_failed _ _ accounts))
+    (refl, sink_failed _ _ accounts)
 only_full olds news (Err run_fault.Memory) text faults film lines accounts = absurd accounts
 
 -- what the sheets hold after a run on blank ones, by its end
@@ -191,7 +140,10 @@ ends_with order robots (Ok Faulty) text faults accepted (writes, is) stopped = r
   writes = writes;
   holds = held (output_of order robots) text faults writes;
 }
-ends_with order robots (Err run_fault.Write) text faults accepted begins (is, full) =
-    record { accepted = accepted; begins = begins; full = full }
-ends_with order robots (Err (run_fault.Read file)) text faults accepted begins (is, full) = absurd (cc is)
-ends_with order robots (Err run_fault.Memory) text faults accepted begins (is, full) = absurd (cc is)
+ends_with order robots (Err stopped) text faults accepted begins (is, full) =
+    record { accepted = accepted; begins = rw is at begins; full = full }
+
+-- a call's number is that of how it ends
+pub ends : (Says : Ending → Type 0) (ending : Ending) (code : ℕ) → code ≡ code_of ending → Says ending
+    → EndsWith Says code
+ends Says ending code is says = record { ending = ending; is = is; says = says }

@@ -1,5 +1,5 @@
 -- The text of a sheet.
-use Rattle.std.specs.Prelude.{◌≡◌, ◌⊎◌, ◌++◌, ℕ, ◌<◌, ◌≤◌, List, Some, false, map, take, if◌then◌else◌, nat_le}
+use Rattle.std.specs.Prelude.{◌≡◌, ◌⊎◌, ◌++◌, ℕ, ◌<◌, List, Some, false, map, take, if◌then◌else◌, nat_le}
 use Rattle.std.specs.List.{concat}
 use Rattle.sinks.specs.Portions.{Portions, SinkState}
 use Rattle.page.specs.declared.sheets.SheetBlock.{SheetBlock}
@@ -30,9 +30,8 @@ abbrev pub refused : Sheet → ℕ
 refused sheet = if nat_le most_frames sheet.used then sheet.failures else 0
 
 -- all its frames are used, and it refused a write
-pub record IsFull (sheet : Sheet) : Type 0 where
-  pub used : most_frames ≤ sheet.used
-  pub refused : 0 < sheet.failures
+abbrev pub IsFull : Sheet → Type 0
+IsFull sheet = 0 < refused sheet
 
 -- a text was added to a sheet: it stands behind what stood there, unless the sheet is full, and a full one stays so
 pub record Adds (before after : Sheet) (text : List ℕ) : Type 0 where

@@ -4,20 +4,19 @@ ghost use Rattle.std.specs.Prelude.{◌≡◌, ◌≤◌, [], Some, length};
 ghost use Rattle.battles.specs.Pairing.{paired};
 ghost use Rattle.settings.specs.declared.settings.Mode.TheVariants.{Matches};
 
+use crate::robots::RobotFile;
 use arrayvec::ArrayVec;
 use code::{Maker, Program};
-use grammar::{MOST_NAMES, Pools};
+use derivations::{NamedProgram, SourcePositions, positions_of};
+use grammar::Scope;
 use series::{DeviceFault, MOST_FILES, Sink, TakesPrograms};
-use tokens::Name;
+use std::mem;
 
-/// The names of the functions of a file, by number.
-pub(crate) type Functions = ArrayVec<Name, MOST_NAMES>;
-
-/// The programs of robots, and beside them the names of their functions, which a program hasn't.
+/// The programs of robots, and beside them the names of their files, which a program hasn't.
 #[derive(Drop)]
 pub(crate) struct CompiledRobots {
     pub(crate) programs: ArrayVec<Program, MOST_FILES>,
-    pub(crate) functions: ArrayVec<Functions, MOST_FILES>,
+    names: [Scope; MOST_FILES],
 }
 
 impl CompiledRobots {
@@ -27,7 +26,7 @@ impl CompiledRobots {
     {
         CompiledRobots {
             programs: ArrayVec::new(),
-            functions: ArrayVec::new(),
+            names: [Scope::new(), Scope::new(), Scope::new(), Scope::new()],
         }
     }
 
@@ -46,6 +45,26 @@ impl CompiledRobots {
     {
         if self.len() == 1 { 2 } else { self.len() }
     }
+
+    /// Returns the program of a robot, with its names. A single file's is that of both robots.
+    pub(crate) fn named(&self, robot: usize) -> Option<NamedProgram<'_>> {
+        let file = robot.min(self.len().saturating_sub(1));
+        let program = self.programs.as_slice().get(file)?;
+        let names = self.names[file].pools();
+        Some(NamedProgram { program, names })
+    }
+
+    /// Finds the positions of the instructions of each program in the source of its robot.
+    pub(crate) fn positions(
+        &self,
+        robots: &[RobotFile],
+    ) -> ArrayVec<Option<SourcePositions>, MOST_FILES> {
+        let mut found = ArrayVec::new();
+        for (program, robot) in self.programs.as_slice().iter().zip(robots) {
+            let _ = found.try_push(positions_of(program, robot.source()));
+        }
+        found
+    }
 }
 
 impl TakesPrograms for CompiledRobots {
@@ -56,23 +75,14 @@ impl TakesPrograms for CompiledRobots {
     fn take_program<S: Sink>(
         &mut self,
         _: &[u8],
-        names: &Pools,
+        names: &mut Scope,
         maker: &mut Maker,
         _: &mut S,
     ) -> Result<(), DeviceFault> {
         let mut program = Program::default();
-        maker.finish_into(names, &mut program);
+        maker.finish_into(names.pools(), &mut program);
+        mem::swap(names, &mut self.names[self.programs.len()]);
         self.programs.push(program);
-        let _ = self.functions.try_push(functions_of(names));
         Ok(())
     }
-}
-
-/// Returns the names of the functions among these.
-fn functions_of(names: &Pools) -> Functions {
-    let mut functions = Functions::new();
-    for function in names.functions() {
-        functions.push(*function.name());
-    }
-    functions
 }

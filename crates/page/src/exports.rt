@@ -21,6 +21,7 @@ use crate::targets::Target;
 ///
 /// Answers as the program's exit status: 0 if each source is good, 1 if one has a fault, 2 if a number is not within
 /// its limits, a name is no text, or there is no robot or over four, and 4 if a sheet is full.
+#[tactic(auto, using(crate::proofs::RunningLemmas::ends))]
 #[unsafe(no_mangle)]
 pub extern "C" fn run(
     order: &Order,
@@ -114,6 +115,7 @@ pub extern "C" fn places(
 }
 
 /// Tells what a subject reports of one to four robots, or the diagnostics of faulty sources. Answers as `run` does.
+#[tactic(auto, using(crate::proofs::RunningLemmas::ends))]
 fn tell(
     order: &Order,
     robots: &[RobotFile],
@@ -131,6 +133,7 @@ fn tell(
 ///
 /// Answers 0 if it compiles, 1 if it has a fault, 2 as `run` does, and 4 if there is no room: the source has over
 /// 16,384 tokens, or the sheet is full.
+#[tactic(auto, using(crate::proofs::RunningLemmas::ends))]
 #[unsafe(no_mangle)]
 pub extern "C" fn explain(order: &Order, robots: &[RobotFile], text: &mut Sheet) -> u32
     ensures { EndsWith (λ ending. ExplainsRobots order.now robots.now ending text.new) result }
@@ -141,6 +144,7 @@ pub extern "C" fn explain(order: &Order, robots: &[RobotFile], text: &mut Sheet)
 /// Tells what the turns of the loops of the first robot take, in the language profile that the order asks for: a row for
 /// each loop, in the order of the source, or the first fault. No clause says which rows: as tested, they are those of
 /// `crobots-bounds`. Answers as `explain` does.
+#[tactic(auto, using(crate::proofs::RunningLemmas::ends))]
 #[unsafe(no_mangle)]
 pub extern "C" fn turns(order: &Order, robots: &[RobotFile], text: &mut Sheet) -> u32
     ensures { EndsWith (λ ending. ExplainsRobots order.now robots.now ending text.new) result }

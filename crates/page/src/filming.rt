@@ -16,7 +16,6 @@ use crate::films::Film;
 use crate::insides::tell_inside;
 use crate::orders::Order;
 use crate::pilots::pilots_of;
-use crate::positions::positions_in;
 use crate::robots::RobotFile;
 use crate::running::{feeds_of, settings_of};
 use crate::sheets::Sheet;
@@ -81,7 +80,7 @@ fn tell_subject(
         }
         Subject::Moment(target) => tell_inside(settings, compiled, target, false, sheet),
         Subject::Run(target) => tell_inside(settings, compiled, target, true, sheet),
-        Subject::Places => tell_places(settings.profile(), robots, sheet),
+        Subject::Places => tell_places(compiled, robots, sheet),
     }
     Ending::Done
 }
@@ -103,9 +102,8 @@ fn film_match(
         settings.now.limit).cycles result }
     ensures full { result ≡ Ending.Full → IsFull sheet.new }
 {
-    let positions = positions_in(compiled.programs.as_slice(), robots);
-    let functions = compiled.functions.as_slice();
-    let mut film = Film::new(sheet, functions, positions.as_slice(), stretch, skipped);
+    let positions = compiled.positions(robots);
+    let mut film = Film::new(sheet, compiled, positions.as_slice(), stretch, skipped);
     let end = play_robots(settings, compiled, &mut film);
     let ending = ending_of(stretch, end);
     if ending == Ending::Done {

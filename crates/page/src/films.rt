@@ -4,14 +4,14 @@ ghost use Rattle.std.specs.Prelude.{◌≡◌, ◌<◌, ◌≤◌, ◌/◌, leng
 ghost use Rattle.page.specs.Asking.{film_asks, kept_by};
 ghost use Rattle.page.specs.Sheets.{refused};
 
-use crate::compiled_robots::Functions;
+use crate::compiled_robots::CompiledRobots;
 use crate::missiles::FiredMissile;
 use crate::rows::Row;
 use crate::sheets::Sheet;
 use crate::stretches::Stretch;
 use arena::{Arena, MOST_BURSTS};
 use code::{Cause, Intrinsic};
-use derivations::{SourcePositions, function_at, name_text};
+use derivations::SourcePositions;
 use watching::{
     Camera, Event, Exchange, FILM_COLUMNS, FilmRows, Listener, Pilot, Place, Stance, Turn,
     UPDATE_CYCLES, Watcher, word_of,
@@ -73,17 +73,17 @@ impl FilmRows for SheetRows<'_> {
 #[derive(Drop)]
 pub(crate) struct Film<'a> {
     camera: Camera<SheetRows<'a>>,
-    functions: &'a [Functions],
+    compiled: &'a CompiledRobots,
     positions: &'a [Option<SourcePositions>],
     missiles: [FiredMissile; MOST_BURSTS],
 }
 
 impl<'a> Film<'a> {
-    /// Begins a film of a stretch, or of a whole match, on a sheet. These are the functions of each file, and the
-    /// positions of its instructions. The given number of rows are left out.
+    /// Begins a film of a stretch, or of a whole match, of compiled robots on a sheet. These are the positions of each
+    /// file's instructions. The given number of rows are left out.
     pub(crate) fn new(
         sheet: &'a mut Sheet,
-        functions: &'a [Functions],
+        compiled: &'a CompiledRobots,
         positions: &'a [Option<SourcePositions>],
         stretch: Option<Stretch>,
         skipped: u32,
@@ -100,7 +100,7 @@ impl<'a> Film<'a> {
         };
         Film {
             camera: Camera::new(rows),
-            functions,
+            compiled,
             positions,
             missiles: [FiredMissile::default(); MOST_BURSTS],
         }
@@ -212,8 +212,7 @@ impl Watcher for Film<'_> {
             return;
         }
         let address = pilot.machine().address();
-        let number = function_at(pilot.program().addresses(), address);
-        let function = function_name(self.functions, turn.robot, number);
+        let function = function_name(self.compiled, turn.robot, address);
         let line = self.line(turn.robot, address);
         self.camera
             .restart(turn.cycle, turn.robot, word_of(cause), function, line);
@@ -248,11 +247,10 @@ pub(crate) fn add_columns(sheet: &mut Sheet) {
     sheet.add(b"\n");
 }
 
-/// Returns the name of a robot's function of this number. A single file is both robots'.
-fn function_name(files: &[Functions], robot: usize, number: usize) -> &str {
-    let file = if files.len() == 1 { 0 } else { robot };
-    match files.get(file).and_then(|functions| functions.get(number)) {
-        Some(name) => name_text(name),
+/// Returns the name of a robot's function that holds an address.
+fn function_name(compiled: &CompiledRobots, robot: usize, address: usize) -> &str {
+    match compiled.named(robot) {
+        Some(named) => named.function_name(named.function(address)),
         None => "?",
     }
 }

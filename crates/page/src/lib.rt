@@ -12,7 +12,6 @@ mod loop_turns;
 mod missiles;
 mod orders;
 mod pilots;
-mod positions;
 mod robots;
 mod rows;
 mod running;

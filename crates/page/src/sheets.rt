@@ -87,7 +87,7 @@ impl Sheet {
         ensures full { result ≡ true → IsFull self.now }
         ensures room { result ≡ false → refused self.now ≡ 0 }
     {
-        self.used >= FRAMES as u64 && self.failures > 0
+        self.refused() > 0
     }
 
     /// Adds bytes, up to 255: to the last frame if that has room. A sheet that was full takes no more, and so do no

@@ -1,10 +1,10 @@
 //! What a robot's source has where: its names, and where its instructions come from.
 
+use crate::compiled_robots::CompiledRobots;
 use crate::robots::RobotFile;
 use crate::rows::Row;
 use crate::sheets::Sheet;
-use code::Profile;
-use derivations::{CompiledSource, NamedProgram, SourcePositions, compile_source, name_text};
+use derivations::{NamedProgram, SourcePositions, name_text};
 use tokens::Name;
 use watching::{Event, Field};
 
@@ -12,24 +12,16 @@ use watching::{Event, Field};
 const COLUMNS: &[u8] = b"number\trobot\tkind\ta\tb\tc\td\te\n";
 
 /// Writes the names of each robot's source, and where the instructions of its program come from, a row each.
-pub(crate) fn tell_places(profile: Profile, robots: &[RobotFile], sheet: &mut Sheet) {
+pub(crate) fn tell_places(compiled: &CompiledRobots, robots: &[RobotFile], sheet: &mut Sheet) {
     sheet.add(COLUMNS);
-    for (robot, file) in robots.iter().enumerate() {
-        if let Ok(made) = compile_source(profile, file.source()) {
-            tell_source(robot, &made, sheet);
+    for (robot, positions) in compiled.positions(robots).iter().enumerate() {
+        let Some(named) = compiled.named(robot) else {
+            return;
+        };
+        tell_names(robot, &named, sheet);
+        if let Some(positions) = positions {
+            tell_code(robot, &named, positions, sheet);
         }
-    }
-}
-
-/// Writes the names of a source, and where the instructions of its program come from.
-fn tell_source(robot: usize, made: &CompiledSource, sheet: &mut Sheet) {
-    let named = NamedProgram {
-        program: &made.program,
-        names: &made.names,
-    };
-    tell_names(robot, &named, sheet);
-    if let Some(positions) = &made.positions {
-        tell_code(robot, &named, positions, sheet);
     }
 }
 

@@ -4,7 +4,6 @@ use Rattle.std.specs.Prelude.{option_map, IfSome}
 use Rattle.std.proofs.lemmas.List.Sums.{fold-append}
 use Rattle.std.proofs.lemmas.List.{take_all, take_more, map-append, take-append-drop, append-nil}
 use Rattle.std.proofs.lemmas.Grind.{flat_map-append}
-use Rattle.battles.specs.Programs.{AreOfProfile}
 use Rattle.grammar.specs.Profile.{Profile}
 use Rattle.grammar.specs.declared.diagnostics.Diagnostic.{Diagnostic}
 use Rattle.grammar.specs.Compiled.{compiled}
@@ -12,14 +11,13 @@ use Rattle.grammar.specs.Tree.{File}
 use Rattle.code.specs.Generation.{Program, code_of}
 use Rattle.settings.specs.declared.settings.Mode.{Mode}
 use Rattle.settings.specs.Settings.{Settings}
-use Rattle.series.specs.Compiling.{SourceFile, and_file, files_of, pieces_of, source_pieces, compile_status, compiling}
+use Rattle.series.specs.Compiling.{SourceFile, and_file, files_of, source_pieces, compile_status, compiling}
 use Rattle.series.specs.CompiledFiles.{programs_of, program_or_fault, compiled_program}
 use Rattle.series.specs.Pieces.{Taken, Writes, Begins}
 use Rattle.series.specs.ProgramKeeping.{and_program_of_file, and_compiled, worse_status, count_of, kept_by, KeepsMore, status_by}
 use Rattle.series.specs.CompiledFiles.{CompilesAll}
 use Rattle.series.specs.declared.run_results.Status.{Status}
 use Rattle.series.specs.declared.run_results.Status.TheVariants.{Done, Faulty}
-use Rattle.sinks.specs.Texts.{file_name}
 use Rattle.series.proofs.PiecesLemmas.{writes_then, begins_then, begins_more}
 use Rattle.series.proofs.RunsLemmas.{no_source}
 
@@ -62,17 +60,13 @@ pub status_more : (profile : Profile) (sources : List SourceFile) (file : ℕ) (
 status_more profile sources file so_far one within is one_is = rw (files_more profile sources file within, is, one_is)
     (both_of profile (files_of profile (take file sources)) (compiled profile (get_or sources file no_source).bytes))
 
--- what a loop keeps, with one source more
-pub kept_more : (profile : Profile) (sources : List SourceFile) (file : ℕ) (kept : Option (List Program))
-    (code : Result Program Diagnostic) → file < length sources
-    → kept ≡ programs_of profile (take file sources) →
-    code ≡ compiled_program profile (get_or sources file no_source).bytes
-    → and_program_of_file kept code ≡ programs_of profile (take (file + 1) sources)
-kept_more profile sources file kept code within so_far is = rw (so_far, is)
-    (sym (ap (λ files. option_map (λ files. map (code_of profile) files) files) (files_more profile sources file within)
-    ∙
-    codes_and_file profile (files_of profile (take file sources))
-    (compiled profile (get_or sources file no_source).bytes)))
+-- the programs with one source more
+kept_more : (profile : Profile) (sources : List SourceFile) (file : ℕ) → file < length sources
+    → and_program_of_file (programs_of profile (take file sources))
+    (compiled_program profile (get_or sources file no_source).bytes)
+    ≡ programs_of profile (take (file + 1) sources)
+kept_more profile sources file within =
+    rw (files_more profile sources file within) (sym (codes_and_file profile (files_of profile (take file sources)) _))
 
 -- the programs kept of the files so far, with what is kept of one more
 kept_of : (so_far : Status) (kept codes : Option (List Program)) (code : Result Program Diagnostic) →
@@ -95,10 +89,8 @@ pub kept_with : (profile : Profile) (sources : List SourceFile) (file : ℕ) (so
     → after ≡ and_compiled kept (compiled_program profile (get_or sources file no_source).bytes)
     → IfSome after (λ k. kept_by (worse_status so_far one) k ≡ programs_of profile (take (file + 1) sources))
 kept_with profile sources file so_far one kept after within are is adds =
-    let code : Result Program Diagnostic = compiled_program profile (get_or sources file no_source).bytes in
     let P : Option (List Program) → Type 0 = λ codes. IfSome after (λ k. kept_by (worse_status so_far one) k ≡ codes) in
-    subst P (kept_more profile sources file (programs_of profile (take file sources)) code within refl refl)
-    (rw (is, adds) (kept_of so_far kept (programs_of profile (take file sources)) code are))
+    subst P (kept_more profile sources file within) (rw (is, adds) (kept_of so_far kept _ _ are))
 
 -- how many they are
 pub manned_more : (so_far one : Status) (file kept after : ℕ) → after ≡ kept + count_of one → kept ≤ file →
@@ -121,36 +113,11 @@ manned_with so_far one file (Some kept) (Some after) more are =
     let is : length after ≡ length kept + count_of one = cc in
     manned_more so_far one file (length kept) (length after) is are.0 are.1
 
--- so there is room for the program of one more file
-pub room_left : (so_far : Status) (file files : ℕ) (kept : Option (List Program)) → file < files → files ≤ 4 →
-    IfSome kept (λ k. IsManned so_far file k)
-    → IfSome kept (λ k. length k < 4)
-room_left so_far file files None within most are = tt
-room_left so_far file files (Some kept) within most are = omega (arith, are.0)
-
--- and at the end one program for each
-pub all_manned : (so_far : Status) (file files : ℕ) (kept : Option (List Program)) → file ≡ files → so_far ≡ Done →
-    IfSome kept (λ k. IsManned so_far file k)
-    → IfSome kept (λ k. length k ≡ files)
-all_manned so_far file files None end done are = tt
-all_manned so_far file files (Some kept) end done are = are.1 done ∙ end
-
--- at the beginning nothing is kept
-pub none_manned : (kept : Option (List Program)) → IfSome kept (λ k. k ≡ []) → IfSome kept (λ k. IsManned Done 0 k)
-none_manned None are = tt
-none_manned (Some kept) are = (rw are (omega arith), λ done. rw are refl)
-
-pub none_kept : (kept : Option (List Program)) → IfSome kept (λ k. k ≡ []) → IfSome kept (λ k. Some k ≡ Some [])
-none_kept None are = tt
-none_kept (Some kept) are = ap (λ (l : List Program). Some l) are
-
-pub none_other : (profile : Profile) (kept : Option (List Program)) → IfSome kept (λ k. k ≡ []) →
-    IfSome kept (λ k. AreOfProfile profile k)
-none_other profile None are = tt
-none_other profile (Some kept) are =
-    let P : List Program → Type 0 = λ l. AreOfProfile profile l in
-    let none : P [] = λ k d below. absurd (omega arith) in
-    subst P (sym are) none
+-- what is so of each list of programs is so of those that are kept
+pub so_kept : (P Q : List Program → Type 0) (kept : Option (List Program)) → ((k : List Program) → P k → Q k)
+    → IfSome kept (λ k. P k) → IfSome kept (λ k. Q k)
+so_kept P Q None so are = tt
+so_kept P Q (Some kept) so are = so kept are
 
 -- the pieces of one source more
 compiling_more : (mode : Mode) (profile : Profile) (sources : List SourceFile) (file : ℕ) → file < length sources
@@ -165,39 +132,24 @@ compiling_more mode profile sources file within =
 
 -- one file's pieces more
 pub pieces_more : (mode : Mode) (profile : Profile) (sources : List SourceFile) (file : ℕ) (before now after : Taken)
-    (verdict : Result File Diagnostic)
     → file < length sources → Writes before now (compiling mode profile (take file sources))
-    → verdict ≡ compiled profile (get_or sources file no_source).bytes
-    → Writes now after (pieces_of mode profile (file_name (get_or sources file no_source).word) verdict)
+    → Writes now after (source_pieces mode profile (get_or sources file no_source))
     → Writes before after (compiling mode profile (take (file + 1) sources))
-pieces_more mode profile sources file before now after verdict within so_far is writes =
-    let source : SourceFile = get_or sources file no_source in
-    let P : Result File Diagnostic → Type 0 =
-    λ r. Writes now after (pieces_of mode profile (file_name source.word) r) in
-    rw (compiling_more mode profile sources file within)
-    (writes_then before now after (compiling mode profile (take file sources)) (source_pieces mode profile source)
-    so_far (subst P is writes))
+pieces_more mode profile sources file before now after within so_far writes =
+    rw (compiling_more mode profile sources file within) (writes_then before now after _ _ so_far writes)
 
 -- the next file's pieces were cut
 pub pieces_cut : (mode : Mode) (profile : Profile) (sources : List SourceFile) (file : ℕ) (before now after : Taken)
-    (verdict : Result File Diagnostic)
     → file < length sources → Writes before now (compiling mode profile (take file sources))
-    → verdict ≡ compiled profile (get_or sources file no_source).bytes
-    → Begins now after (pieces_of mode profile (file_name (get_or sources file no_source).word) verdict)
+    → Begins now after (source_pieces mode profile (get_or sources file no_source))
     → Begins before after (compiling mode profile sources)
-pieces_cut mode profile sources file before now after verdict within so_far is begins =
-    let source : SourceFile = get_or sources file no_source in
-    let P : Result File Diagnostic → Type 0 =
-    λ r. Begins now after (pieces_of mode profile (file_name source.word) r) in
+pieces_cut mode profile sources file before now after within so_far begins =
     let split : compiling mode profile sources ≡
     compiling mode profile (take (file + 1) sources) ++ compiling mode profile (drop (file + 1) sources) =
     sym (ap (λ l. compiling mode profile l) (take-append-drop (file + 1) sources))
     ∙ flat_map-append (source_pieces mode profile) (take (file + 1) sources) (drop (file + 1) sources) in
     rw (split, compiling_more mode profile sources file within)
-    (begins_more before after (compiling mode profile (take file sources) ++ source_pieces mode profile source)
-    (compiling mode profile (drop (file + 1) sources))
-    (begins_then before now after (compiling mode profile (take file sources)) (source_pieces mode profile source)
-    so_far (subst P is begins)))
+    (begins_more before after _ _ (begins_then before now after _ _ so_far begins))
 
 -- all files are compiled
 pub all_compiled : (settings : Settings) (sources : List SourceFile) (file : ℕ) (so_far : Status)

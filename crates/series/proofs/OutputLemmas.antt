@@ -1,9 +1,8 @@
 -- The whole output, from what compiling and playing write.
-use Rattle.std.proofs.Common.{◌≡◌, ℕ, List, [], ◌∷◌, ◌++◌, map, Option, Some, None, Result, Ok, Err, refl, sym, subst, arith, zero, suc}
-use Rattle.std.specs.Prelude.{All, option_map, MatchResult}
+use Rattle.std.proofs.Common.{◌≡◌, ℕ, List, [], ◌∷◌, ◌++◌, map, Option, Some, None, Result, Ok, Err, refl, sym, ◌∙◌, append_assoc, arith, zero, suc}
+use Rattle.std.specs.Prelude.{All, option_map}
 use Rattle.std.specs.List.{fold}
 use Rattle.std.proofs.lemmas.List.{append-nil}
-use Rattle.std.proofs.lemmas.List.Elements.{All-append}
 use Rattle.tokens.specs.Tokens.{tokens}
 use Rattle.grammar.specs.Compiled.{compiled}
 use Rattle.grammar.specs.declared.diagnostics.Diagnostic.{Diagnostic}
@@ -23,9 +22,9 @@ use Rattle.series.specs.declared.run_results.Status.TheVariants.{Done, Faulty}
 use Rattle.series.specs.Compiling.{SourceFile, and_file, compiling, files_of, compile_status}
 use Rattle.series.specs.CompiledFiles.{CompilesTo, programs_of}
 use Rattle.series.specs.Output.{output, played, Runs, StopsRun}
-use Rattle.series.specs.Pieces.{Piece, Taken, Writes, Begins}
+use Rattle.series.specs.Pieces.{Taken, Writes, Begins}
+use Rattle.series.specs.Outcomes.{outcome_of}
 use Rattle.series.specs.Playing.{playing}
-use Rattle.series.specs.CompiledFiles.{PutsPieces}
 use Rattle.series.proofs.PiecesLemmas.{writes_then, begins_then, begins_more}
 
 -- with a faulty file nothing is played
@@ -57,49 +56,54 @@ resolved_here : CompiledIsResolved → (profile : Profile) (bytes : List ℕ) (f
 unfolding compiled
 resolved_here law profile bytes file is = law profile (tokens bytes) file is
 
--- so each file is
-all_resolved : CompiledIsResolved → (profile : Profile) (sources : List SourceFile) (so_far files : List File) →
-    All IsResolved so_far
-    → fold (λ files source. and_file files (compiled profile source.bytes)) (Some so_far) sources ≡ Some files →
-    All IsResolved files
-all_resolved law profile [] so_far files each is =
-    let same : so_far ≡ files = cc in let P : List File → Type 0 = λ l. All IsResolved l in subst P same each
-all_resolved law profile (source ∷ sources) so_far files each is =
+-- if no file has a fault, each source compiles to its own
+pub each_compiles : (profile : Profile) (sources : List SourceFile) (so_far files : List File)
+    → fold (λ files source. and_file files (compiled profile source.bytes)) (Some so_far) sources ≡ Some files
+    → (rest : List File) × (files ≡ so_far ++ rest)
+    × (map (λ source. compiled profile source.bytes) sources ≡ map (λ file. Ok file) rest)
+each_compiles profile [] so_far files is = let same : files ≡ so_far = cc in ([], same ∙ sym (append-nil so_far), refl)
+each_compiles profile (source ∷ sources) so_far files is =
     by_verdict (compiled profile source.bytes) refl is
-    (λ file. all_resolved law profile sources (so_far ++ file ∷ []) files)
+    (λ file. each_compiles profile sources (so_far ++ file ∷ []) files)
   where
     none_later : (sources : List SourceFile) →
         fold (λ files source. and_file files (compiled profile source.bytes)) None sources ≡ None
     none_later [] = refl
     none_later (s ∷ sources) = none_later sources
 
-    one : (file : File) → IsResolved file → All IsResolved (file ∷ [])
-    one file good zero d below = good
-    one file good (suc k) d below = absurd (omega arith)
-
     by_verdict : (verdict : Result File Diagnostic) → compiled profile source.bytes ≡ verdict
-        →
-        fold (λ files source. and_file files (compiled profile source.bytes)) (and_file (Some so_far) verdict)
-        sources ≡ Some files
-        → ((file : File) → All IsResolved (so_far ++ file ∷ [])
-        →
-        fold (λ files source. and_file files (compiled profile source.bytes)) (Some (so_far ++ file ∷ [])) sources ≡
-        Some files → All IsResolved files)
-        → All IsResolved files
-    by_verdict (Ok file) here rest more =
-        more file
-        (All-append IsResolved so_far (file ∷ []) each
-        (one file (resolved_here law profile source.bytes file here))) rest
-    by_verdict (Err d) here rest more = let none = none_later sources in cc
+        → fold (λ files source. and_file files (compiled profile source.bytes)) (and_file (Some so_far) verdict) sources
+        ≡ Some files
+        → ((file : File)
+        → fold (λ files source. and_file files (compiled profile source.bytes)) (Some (so_far ++ file ∷ [])) sources
+        ≡ Some files
+        → (rest : List File) × (files ≡ (so_far ++ file ∷ []) ++ rest)
+        × (map (λ source. compiled profile source.bytes) sources ≡ map (λ file. Ok file) rest))
+        → (rest : List File) × (files ≡ so_far ++ rest)
+        × (map (λ source. compiled profile source.bytes) (source ∷ sources) ≡ map (λ file. Ok file) rest)
+    by_verdict (Ok file) here is more =
+        let (rest, are, each) = more file is in
+        (file ∷ rest, are ∙ append_assoc so_far (file ∷ []) rest, rw (here, each) refl)
+    by_verdict (Err d) here is more = let none = none_later sources in cc
+
+-- so each file is resolved
+all_resolved : CompiledIsResolved → (profile : Profile) (sources : List SourceFile) (files : List File)
+    → map (λ source. compiled profile source.bytes) sources ≡ map (λ file. Ok file) files → All IsResolved files
+all_resolved law profile sources [] same k d below = absurd (omega arith)
+all_resolved law profile [] (file ∷ files) same k d below = absurd (cc same)
+all_resolved law profile (source ∷ sources) (file ∷ files) same zero d below =
+    resolved_here law profile source.bytes file (cc same)
+all_resolved law profile (source ∷ sources) (file ∷ files) same (suc k) d below =
+    all_resolved law profile sources files (cc same) k d (omega arith)
 
 -- the programs that were kept are those of the files, each resolved
 pub kept_codes : CompiledIsResolved → (profile : Profile) (sources : List SourceFile) (kept : List Program) →
     Some kept ≡ programs_of profile sources
     → (files : List File) × (files_of profile sources ≡ Some files) × AreProgramsOf kept profile files
 kept_codes law profile sources kept some =
-    let found = kept_files profile kept (files_of profile sources) some in
-    let none : All IsResolved [] = λ k d below. absurd (omega arith) in
-    (found.0, found.1, record { are = found.2; resolved = all_resolved law profile sources [] found.0 none found.1 })
+    let (files, are, kept_are) = kept_files profile kept (files_of profile sources) some in
+    let (rest, same, each) = each_compiles profile sources [] files are in
+    (files, are, record { are = kept_are; resolved = rw same (all_resolved law profile sources rest each) })
 
 -- all matches were played
 pub played_run : (settings : Settings) (sources : List SourceFile) (files : List File) (before now after : Taken) →
@@ -108,17 +112,9 @@ pub played_run : (settings : Settings) (sources : List SourceFile) (files : List
     Writes before now (compiling settings.mode settings.profile sources) →
     Writes now after (playing settings files)
     → Writes before after (output settings sources).pieces × (Done ≡ (output settings sources).status)
+unfolding playing outcome_of
 played_run settings sources files before now after matches good first second =
-    let Pieces : List Piece → Type 0 =
-    λ l. Writes before after (compiling settings.mode settings.profile sources ++ l) in
-    let plays : playing settings files ≡ played settings settings.mode (files_of settings.profile sources) =
-    rw (matches, good) refl in (
-      subst Pieces plays
-          (writes_then before now after (compiling settings.mode settings.profile sources) (playing settings files)
-          first
-          second),
-      rw good refl,
-    )
+    (rw (matches, good) (writes_then before now after _ _ (rw matches at first) second), rw good refl)
 
 -- a write failed while they were played
 pub played_stop : (settings : Settings) (sources : List SourceFile) (files : List File) (before now after : Taken) →
@@ -127,30 +123,9 @@ pub played_stop : (settings : Settings) (sources : List SourceFile) (files : Lis
     Writes before now (compiling settings.mode settings.profile sources) →
     Begins now after (playing settings files)
     → Begins before after (output settings sources).pieces
+unfolding playing outcome_of
 played_stop settings sources files before now after matches good first second =
-    let Pieces : List Piece → Type 0 =
-    λ l. Begins before after (compiling settings.mode settings.profile sources ++ l) in
-    let plays : playing settings files ≡ played settings settings.mode (files_of settings.profile sources) =
-    rw (matches, good) refl in
-    subst Pieces plays
-    (begins_then before now after (compiling settings.mode settings.profile sources) (playing settings files) first
-    second)
-
--- what playing left, by its answer
-pub plays_run : (settings : Settings) (sources : List SourceFile) (files : List File) (before now after : Taken)
-    (result : Result Status RunFault) → settings.mode ≡ Matches
-    → files_of settings.profile sources ≡ Some files →
-    Writes before now (compiling settings.mode settings.profile sources) →
-    PutsPieces result now after (playing settings files)
-    → MatchResult result (λ status. status ≡ Done) (λ stopped. stopped ≡ run_fault.Write) →
-    Runs settings sources result before after
-plays_run settings sources files before now after (Ok status) matches good first second is =
-    let Ends : Status → Type 0 =
-    λ s. Writes before after (output settings sources).pieces × (s ≡ (output settings sources).status) in
-    subst Ends (sym is) (played_run settings sources files before now after matches good first second)
-plays_run settings sources files before now after (Err stopped) matches good first second is =
-    let Ends : RunFault → Type 0 = λ f. StopsRun settings sources (output settings sources).pieces f before after in
-    subst Ends (sym is) (played_stop settings sources files before now after matches good first second)
+    rw (matches, good) (begins_then before now after _ _ (rw matches at first) second)
 
 -- compiling was stopped
 pub stops_run : (settings : Settings) (sources : List SourceFile) (stopped : RunFault) (before after : Taken) →

@@ -1,19 +1,12 @@
 -- How much was read, file by file.
-use Rattle.std.proofs.Common.{◌≡◌, ◌≢◌, ℕ, ◌+◌, ◌-◌, ◌<◌, List, ◌++◌, Option, None, Result, Ok, Err, length, take, drop, get_or, map, set, sym, ap, ◌∙◌, subst, arith, below_more, get_or-set_other, get_or-set_same}
-use Rattle.std.specs.Prelude.{MatchResult}
+use Rattle.std.proofs.Common.{◌≡◌, ◌≢◌, ℕ, ◌+◌, ◌-◌, ◌<◌, List, ◌++◌, Option, None, length, take, drop, get_or, map, set, sym, ap, ◌∙◌, subst, arith, below_more, get_or-set_other, get_or-set_same}
 use Rattle.std.proofs.lemmas.List.{get_or-map, drop-map, length-drop, length-map, map-set, take-append-drop}
 use Rattle.std.proofs.lemmas.Grind.{flat_map-append}
 use Rattle.grammar.specs.Profile.{Profile}
 use Rattle.settings.specs.declared.settings.Mode.{Mode}
-use Rattle.settings.specs.Settings.{Settings}
-use Rattle.series.specs.declared.run_results.RunFault.{RunFault}
-use Rattle.series.specs.declared.run_results.RunFault.TheVariants as run_fault
-use Rattle.series.specs.declared.run_results.Status.{Status}
-use Rattle.series.specs.declared.run_results.Status.TheVariants.{Done}
 use Rattle.series.specs.Compiling.{SourceFile, compiling, source_pieces}
 use Rattle.series.specs.Pieces.{Begins, Piece, Taken, Writes}
-use Rattle.series.specs.SourceReading.{FailsToRead, MayLeaveUndecided, ReadsSources, ReadsFirst, StopsReading, TakesOf, TakesOfFirst, TakesPast}
-use Rattle.series.specs.SourceContents.{AreSources}
+use Rattle.series.specs.SourceReading.{FailsToRead, MayLeaveUndecided, ReadsFirst, TakesOf, TakesOfFirst, TakesPast}
 use Rattle.series.proofs.PiecesLemmas.{begins_then, writes_split}
 use Rattle.series.proofs.RunsLemmas.{feed_here, rest_more}
 
@@ -116,9 +109,7 @@ pub cut_at : (mode : Mode) (profile : Profile) (sources : List SourceFile) (file
     → Writes before now (compiling mode profile (take file sources)) → Begins now after pieces
     → TakesPast before after (compiling mode profile (take (file + 1 - 1) sources))
 cut_at mode profile sources file before now after pieces so_far begins =
-    let P : ℕ → Type 0 = λ n. TakesPast before after (compiling mode profile (take n sources)) in
-    let same : file ≡ file + 1 - 1 = omega arith in
-    subst P same (now, so_far, (pieces, begins))
+    let same : file + 1 - 1 ≡ file = omega arith in rw same (now, so_far, (pieces, begins))
 
 -- a write failed after all files were compiled
 pub cut_behind : (mode : Mode) (profile : Profile) (sources : List SourceFile) (count : ℕ) (before now after : Taken)
@@ -131,19 +122,5 @@ cut_behind mode profile sources count before now after pieces writes begins =
     let split : compiling mode profile sources ≡ first ++ rest =
     sym (ap (λ l. compiling mode profile l) (take-append-drop count sources))
     ∙ flat_map-append (source_pieces mode profile) (take count sources) (drop count sources) in
-    let W : List Piece → Type 0 = λ l. Writes before now l in
-    let (between, front, back) = writes_split before now first rest (subst W split writes) in
+    let (between, front, back) = writes_split before now first rest (rw split at writes) in
     (between, front, (rest ++ pieces, begins_then between now after rest pieces back begins))
-
--- what was read by the end of the matches
-pub reads_played : (settings : Settings) (result : Result Status RunFault) (contents later : List (Option (List ℕ)))
-    (before after : Taken)
-    → ReadsFirst settings.profile contents later (length contents)
-    → MatchResult result (λ status. status ≡ Done) (λ stopped. stopped ≡ run_fault.Write)
-    → (result ≡ Err run_fault.Write → (sources : List SourceFile) → AreSources sources settings.file_words contents
-    → TakesPast before after (compiling settings.mode settings.profile (take (length contents - 1) sources)))
-    → ReadsSources settings result contents later before after
-reads_played settings (Ok status) contents later before after reads is puts = reads
-reads_played settings (Err stopped) contents later before after reads is puts =
-    let P : RunFault → Type 0 = λ f. StopsReading settings f contents later before after in
-    subst P (sym is) (record { count = length contents; reads = reads; puts = puts (ap (λ f. Err f) is) })

@@ -21,13 +21,11 @@ pub length_sources : (sources : List SourceFile) (words : List (List ℕ)) (cont
     → length sources ≡ length words
 length_sources sources words contents are = sym (length-map sources (λ (s : SourceFile). s.word)) ∙ ap length are.named
 
--- the source of a word
-pub word_here : (sources : List SourceFile) (words : List (List ℕ)) (contents : List (Option (List ℕ))) (file : ℕ) →
-    AreSources sources words contents
-    → file < length words → get_or words file [] ≡ (get_or sources file no_source).word
-word_here sources words contents file are within =
-    let in_sources : file < length sources = rw (length_sources sources words contents are) within in
-    rw (sym are.named) (get_or-map (λ (s : SourceFile). s.word) sources file no_source [] in_sources)
+-- what is told of a file's contents is the bytes of its source, and this is its name
+pub record IsHere (sources : List SourceFile) (file : ℕ) (told : Option (List ℕ)) (name : List ℕ) : Type 0 where
+  pub within : file < length sources
+  pub bytes : told ≡ Some (get_or sources file no_source).bytes
+  pub named : name ≡ file_name (get_or sources file no_source).word
 
 module _ {X : Type 0} where
   -- what is true of one is true of all
@@ -42,20 +40,26 @@ module _ {X : Type 0} where
       λ l. get_or-drop file l 0 x ∙ ap (λ n. get_or l n x) (add-zero file) in
       sym (first feeds) ∙ ap (λ l. get_or l 0 x) same ∙ first start
 
-  -- tells the bytes of its source
-  pub told_here : (tells : X → Option (List ℕ)) (start feeds : List X) (sources : List SourceFile)
-      (words : List (List ℕ))
-      (file : ℕ) (x : X)
-      → AreSources sources words (map tells start) → length start ≡ length words → file < length start →
-      drop file feeds ≡ drop file start
-      → tells (get_or feeds file x) ≡ Some (get_or sources file no_source).bytes
-  told_here tells start feeds sources words file x are same within rest =
+  -- so the source of the next file is known
+  pub source_here : {Y : Type 0} (tells : X → Option (List ℕ)) (start feeds : List X) (file : ℕ) (x : X)
+      (sources : List SourceFile) (bytes : Y → List ℕ) (given : List Y) (y : Y) (words : List (List ℕ)) (word : List ℕ)
+      → AreSources sources words (map tells start) → length start ≡ length words → file < length start
+      → drop file feeds ≡ drop file start → map bytes given ≡ words → word ≡ bytes (get_or given file y)
+      → IsHere sources file (tells (get_or feeds file x)) (file_name word)
+  source_here tells start feeds file x sources bytes given y words word are same within rest is_given is =
       let in_sources : file < length sources =
-      rw (length_sources sources words (map tells start) are, sym same) within in
-      ap tells (feed_here start feeds file x rest)
-      ∙ sym (get_or-map tells start file x (tells x) within)
-      ∙ ap (λ l. get_or l file (tells x)) (sym are.bytes)
-      ∙ get_or-map (λ (s : SourceFile). Some s.bytes) sources file no_source (tells x) in_sources
+      omega (arith, length_sources sources words (map tells start) are, same, within) in
+      let in_given : file < length given = omega (arith, length-map given bytes, ap length is_given, same, within) in
+      record {
+        within = in_sources;
+        bytes = ap tells (feed_here start feeds file x rest)
+            ∙ sym (get_or-map tells start file x (tells x) within)
+            ∙ ap (λ l. get_or l file (tells x)) (sym are.bytes)
+            ∙ get_or-map (λ (s : SourceFile). Some s.bytes) sources file no_source (tells x) in_sources;
+        named = ap file_name (is ∙ sym (get_or-map bytes given file y [] in_given)
+            ∙ ap (λ l. get_or l file []) (is_given ∙ sym are.named)
+            ∙ get_or-map (λ (s : SourceFile). s.word) sources file no_source [] in_sources);
+      }
 
   -- a feed that was read without a failure
   pub none_failed : (fails : X → FailureCount) (feeds : List X) (file : ℕ) (x y : X) →
@@ -109,16 +113,3 @@ module _ {X : Type 0} where
   rest_more start feeds file y same =
       let behind : (l : List X) → drop (file + 1) l ≡ drop 1 (drop file l) = λ l. rw add-one (drop_once l file) in
       drop-set-lt (file + 1) feeds file y (omega arith) ∙ behind feeds ∙ ap (λ l. drop 1 l) same ∙ sym (behind start)
-
-  -- the name of a source's file
-  pub name_here : (bytes : X → List ℕ) (words : List X) (sources : List SourceFile) (contents : List (Option (List ℕ)))
-      (file : ℕ) (x : X) (word name : List ℕ)
-      → AreSources sources (map bytes words) contents → file < length words → word ≡ bytes (get_or words file x) →
-      name ≡ file_name word
-      → name ≡ file_name (get_or sources file no_source).word
-  name_here bytes words sources contents file x word name are within is named =
-      let in_words : file < length (map bytes words) = rw (length-map words bytes) within in
-      named ∙
-      ap file_name
-      (is ∙ sym (get_or-map bytes words file x [] within) ∙
-      word_here sources (map bytes words) contents file are in_words)

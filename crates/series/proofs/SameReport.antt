@@ -1,48 +1,31 @@
 -- The report of a match is the same in each series that contains it.
-use Rattle.std.proofs.Common.{◌≡◌, ℕ, ◌+◌, ◌-◌, ◌<◌, zero, suc, List, [], ◌∷◌, ◌++◌, length, map, Option, Some, None, Result, Ok, Err, refl, sym, ap, ◌∙◌, arith}
+use Rattle.std.proofs.Common.{◌≡◌, ℕ, ◌+◌, ◌-◌, ◌<◌, zero, suc, List, [], ◌∷◌, ◌++◌, length, map, Option, Some, None, Ok, refl, sym, ap, ◌∙◌, arith}
 use Rattle.std.specs.Prelude.{slice_get}
-use Rattle.std.specs.List.{fold, range_with_len}
+use Rattle.std.specs.List.{range_with_len}
 use Rattle.std.proofs.lemmas.List.FromFn.{length-map-range_with_len}
 use Rattle.grammar.specs.Compiled.{compiled}
-use Rattle.grammar.specs.declared.diagnostics.Diagnostic.{Diagnostic}
 use Rattle.grammar.specs.Profile.{Profile}
 use Rattle.grammar.specs.Tree.{File}
 use Rattle.settings.specs.declared.settings.Mode.TheVariants.{Matches}
 use Rattle.settings.specs.Settings.{Settings}
 use Rattle.series.specs.declared.run_results.Status.TheVariants.{Done}
-use Rattle.series.specs.Compiling.{SourceFile, and_file, compiling, files_of, pieces_of, compile_status}
+use Rattle.series.specs.Compiling.{SourceFile, compiling, files_of, compile_status}
 use Rattle.series.specs.Output.{output, played}
 use Rattle.series.specs.Pieces.{Piece}
 use Rattle.series.specs.Outcomes.{outcome_of, report_text, totals_text}
 use Rattle.series.specs.Playing.{playing, reports, text_piece}
 use Rattle.series.specs.SameReport.{Contains, report_in, SameReport, with_matches}
-use Rattle.sinks.specs.Texts.{file_name}
-
--- a faulty file leaves none
-none_later : (profile : Profile) (sources : List SourceFile)
-    → fold (λ files source. and_file files (compiled profile source.bytes)) None sources ≡ None
-none_later profile [] = refl
-none_later profile (s ∷ sources) = none_later profile sources
+use Rattle.series.proofs.OutputLemmas.{each_compiles}
 
 -- if all files are good, compiling them for matches writes nothing
-nothing_listed : (profile : Profile) (sources : List SourceFile) (so_far files : List File)
-    → fold (λ files source. and_file files (compiled profile source.bytes)) (Some so_far) sources ≡ Some files →
-    compiling Matches profile sources ≡ []
-nothing_listed profile [] so_far files is = refl
-nothing_listed profile (source ∷ sources) so_far files is =
-    by_verdict (compiled profile source.bytes) is (λ file. nothing_listed profile sources (so_far ++ file ∷ []) files)
-  where
-    by_verdict : (verdict : Result File Diagnostic)
-        →
-        fold (λ files source. and_file files (compiled profile source.bytes)) (and_file (Some so_far) verdict)
-        sources ≡ Some files
-        → ((file : File) →
-        fold (λ files source. and_file files (compiled profile source.bytes)) (Some (so_far ++ file ∷ [])) sources ≡
-        Some files
-        → compiling Matches profile sources ≡ [])
-        → pieces_of Matches profile (file_name source.word) verdict ++ compiling Matches profile sources ≡ []
-    by_verdict (Ok file) rest more = more file rest
-    by_verdict (Err d) rest more = let none = none_later profile sources in cc
+nothing_listed : (profile : Profile) (sources : List SourceFile) (files : List File)
+    → map (λ source. compiled profile source.bytes) sources ≡ map (λ file. Ok file) files
+    → compiling Matches profile sources ≡ []
+nothing_listed profile [] files same = refl
+nothing_listed profile (source ∷ sources) [] same = absurd (cc same)
+nothing_listed profile (source ∷ sources) (file ∷ files) same =
+    let here : compiled profile source.bytes ≡ Ok file = cc same in
+    rw here (nothing_listed profile sources files (cc same))
 
 -- the files of a run that is done
 done_files : (files : Option (List File)) → compile_status files ≡ Done → (good : List File) × (files ≡ Some good)
@@ -70,7 +53,8 @@ unfolding playing
 report_is settings sources files k matches good contains =
     let Report : ℕ → Piece = λ k. text_piece (report_text settings files k) in
     let none : compiling settings.mode settings.profile sources ≡ [] =
-    rw matches (nothing_listed settings.profile sources [] files good) in
+    let (rest, are, each) = each_compiles settings.profile sources [] files good in
+    rw matches (nothing_listed settings.profile sources rest each) in
     let all : played settings settings.mode (files_of settings.profile sources) ≡ playing settings files =
     rw (matches, good) refl in
     let whole : (output settings sources).pieces ≡ playing settings files =

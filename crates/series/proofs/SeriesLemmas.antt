@@ -1,8 +1,7 @@
 -- What a series counted and wrote, match by match.
-use Rattle.std.proofs.Common.{Ok, zero, suc, cond, inl, inr, ◌≡◌, ℕ, ◌+◌, ◌<◌, ◌≤◌, Bool, true, false, not, List, [], ◌∷◌, ◌++◌, length, get_or, map, refl, ap, ◌∙◌, arith}
-use Rattle.std.specs.Prelude.{◌&&◌, ◌||◌, ◌==◌, nat_eq, nat_le, nat_lt, count_by, if◌then◌else◌}
+use Rattle.std.proofs.Common.{zero, suc, cond, inl, inr, ◌≡◌, ℕ, ◌+◌, ◌<◌, ◌≤◌, Bool, true, false, not, List, [], ◌∷◌, ◌++◌, length, get_or, map, refl, ap, ◌∙◌, arith}
+use Rattle.std.specs.Prelude.{◌&&◌, ◌||◌, ◌==◌, nat_le, nat_lt, count_by, if◌then◌else◌}
 use Rattle.std.specs.List.{range_with_len}
-use Rattle.std.proofs.lemmas.List.FromFn.{map-range_with_len_more}
 use Rattle.std.proofs.lemmas.List.Sums.{fold-append, get_or-le-sum_by}
 use Rattle.std.proofs.lemmas.List.{get_or_past, length-map}
 use Rattle.std.proofs.lemmas.Bool.{cases_lt}
@@ -12,22 +11,15 @@ use Rattle.battles.specs.Battle.{Outcome, is_survivor, battle}
 use Rattle.battles.specs.Pairing.{robots_of}
 use Rattle.settings.specs.Settings.{Settings}
 use Rattle.series.specs.declared.totals.Score.{Score}
-use Rattle.series.specs.SeriesSteps.{Tally, IsTallyOf, next_text, played_after, score_at, next_step, with_match}
+use Rattle.series.specs.SeriesSteps.{Tally, IsTallyOf, next_text, score_at, next_step, with_match}
 use Rattle.series.specs.RobotNames.{robot_names}
 use Rattle.series.specs.Outcomes.{outcome_of, outcomes, report_text, totals_text}
 use Rattle.series.specs.Reports.{report}
 use Rattle.sinks.specs.Texts.{file_name}
 use Rattle.series.specs.Lines.{lines_text}
 use Rattle.series.specs.Totals.{has_won, has_tied, has_lost, score_line, score_of, survivors, totals, totals_line}
-use Rattle.series.specs.declared.run_results.Step.{Step}
 use Rattle.series.specs.declared.run_results.Step.TheVariants.{Played}
 use Rattle.series.proofs.TextsLemmas.{robots_there}
-
--- one match more
-pub outcomes_more : (settings : Settings) (files : List File) (count k : ℕ) → settings.first + count ≡ k
-    → outcomes settings files (count + 1) ≡ outcomes settings files count ++ outcome_of settings files k ∷ []
-outcomes_more settings files count k here =
-    map-range_with_len_more (outcome_of settings files) settings.first count k here
 
 -- there is no robot past the last one
 pub none_alive : (outcome : Outcome) (i : ℕ) → length outcome.damages ≤ i → is_survivor outcome i ≡ false
@@ -100,39 +92,23 @@ pub outcome_is : (settings : Settings) (files : List File) (number : ℕ) (outco
 unfolding outcome_of
 outcome_is settings files number outcome is = is
 
--- a match is left
-pub is_left : (played matches : ℕ) → played ≤ matches → nat_eq played matches ≡ false → played < matches
-is_left played matches most other = grind (arith, nat_tests)
+-- what the next step does, which plays the match of this number
+pub record IsNext (settings : Settings) (played number : ℕ) : Type 0 where
+  pub step : Played number ≡ next_step settings played
+  pub text : (files : List File) → report_text settings files number ≡ next_text settings files played
 
--- the text of the next step, if a match is left
-pub next_is : (settings : Settings) (files : List File) (played number : ℕ) (outcome : Outcome) (names : List (List ℕ))
-    → played < settings.matches → settings.first + played ≡ number → names ≡ robot_names settings.file_words
+-- that is so if a match is left
+pub next_match : (settings : Settings) (played number : ℕ) → played < settings.matches
+    → settings.first + played ≡ number → IsNext settings played number
+next_match settings played number left here =
+    let more : nat_lt played settings.matches ≡ true = grind (arith, nat_tests) in
+    record { step = rw (more, here) refl; text = λ files. rw (more, here) refl }
+
+-- its report is that of the outcome
+pub report_is : (settings : Settings) (files : List File) (played number : ℕ) (outcome : Outcome)
+    (names : List (List ℕ)) → IsNext settings played number → names ≡ robot_names settings.file_words
     → outcome ≡ outcome_of settings files number → report number names outcome ≡ next_text settings files played
-next_is settings files played number outcome names left here named is =
-    let more : nat_lt played settings.matches ≡ true = grind (arith, nat_tests) in
-    rw (more, here, named, is) refl
-
-pub next_report : (settings : Settings) (files : List File) (played : ℕ) → played < settings.matches
-    → next_text settings files played ≡ report_text settings files (settings.first + played)
-next_report settings files played left =
-    let more : nat_lt played settings.matches ≡ true = grind (arith, nat_tests) in
-    rw more refl
-
--- the next step, if a match is left
-pub step_is : (settings : Settings) (played number : ℕ) → played < settings.matches → settings.first + played ≡ number
-    → Played number ≡ next_step settings played
-step_is settings played number left here =
-    let more : nat_lt played settings.matches ≡ true = grind (arith, nat_tests) in
-    rw (more, here) refl
-
--- that step plays a match
-pub plays : (settings : Settings) (played : ℕ) (step : Step) → played < settings.matches →
-    step ≡ next_step settings played
-    → played_after (Ok step) played ≡ played + 1
-plays settings played step left is =
-    let more : nat_lt played settings.matches ≡ true = grind (arith, nat_tests) in
-    let played_one : step ≡ Played (settings.first + played) = is ∙ rw more refl in
-    rw played_one refl
+report_is settings files played number outcome names next named is = rw (named, is) (next.text files)
 
 -- the scores' lines, if the scores are the same
 same_lines : (f g : ℕ → List ℕ) (a n : ℕ) → ((i : ℕ) → i < a + n → f i ≡ g i) →

@@ -1,6 +1,7 @@
 -- The lines of reports and totals, fragment by fragment.
-use Rattle.std.proofs.Common.{◌≡◌, ◌≢◌, ℕ, ◌+◌, ◌<◌, zero, suc, Bool, List, [], ◌∷◌, ◌++◌, length, get_or, map, refl, sym, ap, ◌∙◌, append_assoc, arith, decimal, codes}
-use Rattle.std.specs.Prelude.{max}
+use Rattle.std.proofs.Common.{◌≡◌, ℕ, ◌+◌, ◌-◌, ◌<◌, zero, suc, Bool, List, [], ◌∷◌, ◌++◌, length, get_or, map, refl, sym, ap, ◌∙◌, append_assoc, arith, decimal, codes}
+use Rattle.std.specs.Prelude.{max, min}
+use Rattle.std.specs.List.{fold}
 use Rattle.std.proofs.lemmas.List.FromFn.{get_or-map-range_with_len, length-map-range_with_len}
 use Rattle.std.proofs.lemmas.List.{get_or-map, length-map}
 use Rattle.series.specs.Lines.{ended_line, lines_text}
@@ -12,22 +13,14 @@ use Rattle.series.specs.RobotNames.{robot_names}
 use Rattle.sinks.specs.Texts.{column, file_name}
 use Rattle.series.specs.Totals.{score_line, score_lines}
 
--- eight fragments after a text
-added_eight : (text a b c d e f g h : List ℕ)
-    →
-    (((((((text ++ a) ++ b) ++ c) ++ d) ++ e) ++ f) ++ g) ++ h ≡
-    text ++ (((((((a ++ b) ++ c) ++ d) ++ e) ++ f) ++ g) ++ h)
-added_eight text a b c d e f g h = simp append_assoc
-
--- and one more
-added : (text a b c d e f g h i : List ℕ)
-    →
-    text ++ ((((((((a ++ b) ++ c) ++ d) ++ e) ++ f) ++ g) ++ h) ++ i) ≡
-    ((((((((text ++ a) ++ b) ++ c) ++ d) ++ e) ++ f) ++ g) ++ h) ++ i
-added text a b c d e f g h i =
-    sym
-    (ap (λ l. l ++ i) (added_eight text a b c d e f g h) ∙
-    append_assoc text (((((((a ++ b) ++ c) ++ d) ++ e) ++ f) ++ g) ++ h) i)
+-- fragments after a text
+added : (text first : List ℕ) (more : List (List ℕ))
+    → text ++ fold (λ line fragment. line ++ fragment) first more
+    ≡ fold (λ line fragment. line ++ fragment) (text ++ first) more
+added text first [] = refl
+added text first (fragment ∷ more) =
+    added text (first ++ fragment) more
+    ∙ ap (λ line. fold (λ line fragment. line ++ fragment) line more) (sym (append_assoc text first fragment))
 
 -- the fragments of a robot's line
 pub robot_line_added : (text name : List ℕ) (i damage : ℕ) (is_alive : Bool)
@@ -36,8 +29,8 @@ pub robot_line_added : (text name : List ℕ) (i damage : ℕ) (is_alive : Bool)
     ((((((((text ++ codes "  ") ++ decimal (i + 1)) ++ codes ") ") ++ state_text is_alive) ++ codes " damage ")
     ++ column 3 damage) ++ codes "% ") ++ name) ++ codes "\n"
 robot_line_added text name i damage is_alive =
-    added text (codes "  ") (decimal (i + 1)) (codes ") ") (state_text is_alive) (codes " damage ") (column 3 damage)
-    (codes "% ") name (codes "\n")
+    added text (codes "  ") (decimal (i + 1) ∷ codes ") " ∷ state_text is_alive ∷ codes " damage " ∷ column 3 damage
+    ∷ codes "% " ∷ name ∷ codes "\n" ∷ [])
 
 -- the fragments of a score's line
 pub score_line_added : (text name : List ℕ) (i : ℕ) (score : Score)
@@ -47,23 +40,8 @@ pub score_line_added : (text name : List ℕ) (i : ℕ) (score : Score)
     codes " tied ") ++ decimal score.tied) ++ codes " lost ") ++ decimal score.lost) ++ codes " ") ++ name)
     ++ codes "\n"
 score_line_added text name i score =
-    let line : List ℕ =
-    codes "  " ++ decimal (i + 1) ++ codes ") won " ++ decimal score.won ++ codes " tied " ++ decimal score.tied ++
-    codes " lost " ++ decimal score.lost in
-    let rest : List ℕ = line ++ codes " " ++ name in
-    sym (append_assoc text rest (codes "\n"))
-    ∙ ap (λ l. l ++ codes "\n") (sym (append_assoc text (line ++ codes " ") name)
-    ∙ ap (λ l. l ++ name) (sym (append_assoc text line (codes " "))
-    ∙
-    ap (λ l. l ++ codes " ")
-    (sym
-    (added_eight text (codes "  ") (decimal (i + 1)) (codes ") won ") (decimal score.won) (codes " tied ")
-    (decimal score.tied) (codes " lost ") (decimal score.lost)))))
-
--- six fragments after a text
-added_six : (text a b c d e f : List ℕ)
-    → text ++ (((((a ++ b) ++ c) ++ d) ++ e) ++ f) ≡ (((((text ++ a) ++ b) ++ c) ++ d) ++ e) ++ f
-added_six text a b c d e f = simp append_assoc
+    added text (codes "  ") (decimal (i + 1) ∷ codes ") won " ∷ decimal score.won ∷ codes " tied " ∷ decimal score.tied
+    ∷ codes " lost " ∷ decimal score.lost ∷ codes " " ∷ name ∷ codes "\n" ∷ [])
 
 -- the fragments of a report
 pub report_added : (text : List ℕ) (k : ℕ) (names : List (List ℕ)) (outcome : Outcome)
@@ -73,8 +51,8 @@ pub report_added : (text : List ℕ) (k : ℕ) (names : List (List ℕ)) (outcom
     ++ lines_text (robot_lines names outcome)
 unfolding report
 report_added text k names outcome =
-    added_six text (codes "Match ") (decimal k) (codes ": cycles = ") (decimal outcome.cycles) (codes "\n")
-    (lines_text (robot_lines names outcome))
+    added text (codes "Match ") (decimal k ∷ codes ": cycles = " ∷ decimal outcome.cycles ∷ codes "\n"
+    ∷ lines_text (robot_lines names outcome) ∷ [])
 
 -- the line of one robot
 pub robot_line_at : (names : List (List ℕ)) (outcome : Outcome) (i : ℕ) (name : List ℕ) → i < length outcome.damages →
@@ -96,14 +74,19 @@ score_line_at names scores i name within named =
     (omega arith))
 
 -- a robot's file: the only one, or the one with the robot's index
-pub paired_at : {A : Type 0} (xs : List A) (robot file : ℕ) (d : A) → robot < length (paired xs)
-    → (length xs ≡ 1 → file ≡ 0) → (length xs ≢ 1 → file ≡ robot) → get_or (paired xs) robot d ≡ get_or xs file d
-paired_at [] robot file d within one several = absurd (omega arith)
-paired_at (x ∷ []) zero file d within one several = rw (one refl) refl
-paired_at (x ∷ []) (suc zero) file d within one several = rw (one refl) refl
-paired_at (x ∷ []) (suc (suc n)) file d within one several = absurd (omega arith)
-paired_at (x ∷ y ∷ xs) robot file d within one several =
-    let same : file ≡ robot = several (λ e. omega (arith, e)) in rw same refl
+paired_at : {A : Type 0} (xs : List A) (robot : ℕ) (d : A) → robot < length (paired xs)
+    → get_or (paired xs) robot d ≡ get_or xs (min robot (length xs - 1)) d
+paired_at [] robot d within = absurd (omega (arith, within))
+paired_at (x ∷ []) zero d within = refl
+paired_at (x ∷ []) (suc zero) d within = refl
+paired_at (x ∷ []) (suc (suc n)) d within = absurd (omega (arith, within))
+paired_at (x ∷ y ∷ xs) robot d within =
+    let same : min robot (length (x ∷ y ∷ xs) - 1) ≡ robot = omega (arith, within) in rw same refl
+
+-- there is a file
+pub some_paired : {A : Type 0} (xs : List A) (robot : ℕ) → robot < length (paired xs) → 0 < length xs
+some_paired [] robot within = absurd (omega (arith, within))
+some_paired (x ∷ xs) robot within = omega arith
 
 -- two lists of one length have one length when a single robot of each is paired
 pub length_paired : {A B : Type 0} (xs : List A) (ys : List B) → length xs ≡ length ys →
@@ -116,27 +99,18 @@ length_paired (x ∷ []) (y ∷ z ∷ ys) same = absurd (omega (arith, same))
 length_paired (x ∷ w ∷ xs) (y ∷ []) same = absurd (omega (arith, same))
 length_paired (x ∷ w ∷ xs) (y ∷ z ∷ ys) same = same
 
--- there is such a file
-paired_within : {A : Type 0} (xs : List A) (robot file : ℕ) → robot < length (paired xs)
-    → (length xs ≡ 1 → file ≡ 0) → (length xs ≢ 1 → file ≡ robot) → file < length xs
-paired_within [] robot file within one several = absurd (omega arith)
-paired_within (x ∷ []) robot file within one several = omega (arith, one refl)
-paired_within (x ∷ y ∷ xs) robot file within one several = omega (arith, several (λ e. omega (arith, e)))
-
 -- the name of a robot's file
-pub robot_name_is : {X : Type 0} (bytes : X → List ℕ) (words : List X) (robot file : ℕ) (x : X) (word name : List ℕ)
-    → robot < length (paired words) → (length words ≡ 1 → file ≡ 0) → (length words ≢ 1 → file ≡ robot)
-    → word ≡ bytes (get_or words file x) → name ≡ file_name word →
-    name ≡ get_or (robot_names (map bytes words)) robot []
-robot_name_is {X} bytes words robot file x word name within one several is named =
+pub robot_name_is : {X : Type 0} (bytes : X → List ℕ) (words : List X) (robot file : ℕ) (x : X) (word : List ℕ)
+    → robot < length (paired words) → file ≡ min robot (length words - 1) → word ≡ bytes (get_or words file x)
+    → file_name word ≡ get_or (robot_names (map bytes words)) robot []
+robot_name_is {X} bytes words robot file x word within here is =
     let names : List (List ℕ) = map file_name (map bytes words) in
     let same : length names ≡ length words = length-map (map bytes words) file_name ∙ length-map words bytes in
-    let here : file < length words = paired_within words robot file within one several in
-    let there : file < length (map bytes words) = omega (arith, length-map words bytes) in
-    let robots : robot < length (paired names) = omega (arith, within, length_paired names words same) in
-    named ∙ ap file_name (is ∙ sym (get_or-map bytes words file x [] here))
-    ∙ sym (paired_at names robot file [] robots (λ e. one (sym same ∙ e)) (λ ne. several (λ e. ne (same ∙ e)))
-    ∙ get_or-map file_name (map bytes words) file [] [] there)
+    let some = some_paired words robot within in
+    let last : min robot (length names - 1) ≡ file = omega (arith, same, here) in
+    ap file_name (is ∙ sym (get_or-map bytes words file x [] (omega (arith, here, some))))
+    ∙ sym (get_or-map file_name (map bytes words) file [] [] (omega (arith, here, some, length-map words bytes)))
+    ∙ sym (rw last at (paired_at names robot [] (omega (arith, within, length_paired names words same))))
 
 -- a line for each robot
 pub length_robot_lines : (names : List (List ℕ)) (outcome : Outcome) →

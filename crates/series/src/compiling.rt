@@ -115,7 +115,7 @@ fn compile_file<K: TakesPrograms, F: Feed, O: Sink, E: Sink>(
     maker.restart(profile);
     match parse_into(feed, maker, names) {
         Ok(()) => {
-            match keeper.take_program(name, names.pools(), maker, out) {
+            match keeper.take_program(name, names, maker, out) {
                 Ok(()) => Ok(Status::Done),
                 Err(DeviceFault) => Err(CompileFault::Write),
             }

@@ -5,6 +5,7 @@ ghost use Rattle.code.specs.Finishing.{MakerRepresentsFile, RepresentsSomeFile};
 ghost use Rattle.code.specs.Generation.{Program, code_of};
 ghost use Rattle.grammar.specs.Profile.{Profile};
 ghost use Rattle.grammar.specs.Tree.{File};
+ghost use Rattle.parser.specs.ScopedCursors.{pools_in};
 ghost use Rattle.series.specs.Compiling.{listed, listing_piece};
 ghost use Rattle.series.specs.Pieces.{taken_by_sinks};
 ghost use Rattle.series.specs.ProgramKeeping.{CanKeep, and_program};
@@ -16,7 +17,7 @@ ghost use Rattle.sinks.specs.Puts.{CanFail, CountsSink};
 
 use battles::Programs;
 use code::{Maker, Program};
-use grammar::Pools;
+use grammar::Scope;
 use listings::{put_code, put_listing};
 use settings::Mode;
 use sinks::Sink;
@@ -31,23 +32,23 @@ pub trait TakesPrograms {
     ghost mode: { Self → Mode };
 
     /// Takes the program of the file that was reported to the maker, of this name and with these names in it. Puts its
-    /// listing, if listings are asked for.
+    /// listing, if listings are asked for. The scope is of no more use then, so its names may be taken too.
     fn take_program<S: Sink>(
         &mut self,
         name: &[u8],
-        names: &Pools,
+        names: &mut Scope,
         maker: &mut Maker,
         out: &mut S,
     ) -> Result<(), DeviceFault>
-        requires made { RepresentsSomeFile maker.old names.now }
+        requires made { RepresentsSomeFile maker.old (pools_in names.old) }
         requires keeps { CanKeep maker.old.profile (kept self.old) }
         requires countable { CanFail (S.written out.old) }
         ensures mode { mode self.new ≡ mode self.old }
-        ensures kept { (p : Profile) (file : File) → MakerRepresentsFile maker.old p names.now file
+        ensures kept { (p : Profile) (file : File) → MakerRepresentsFile maker.old p (pools_in names.old) file
             → kept self.new ≡ and_program (kept self.old) (code_of p file) }
-        ensures output { (p : Profile) (file : File) (faults : SinkState) → MakerRepresentsFile maker.old p names.now file
+        ensures output { (p : Profile) (file : File) (faults : SinkState) → MakerRepresentsFile maker.old p (pools_in names.old) file
             → PutsPieces result (taken_by_sinks (S.written out.old) faults) (taken_by_sinks (S.written out.new) faults)
-            (listed (mode self.old) (listing_piece name.now names.now (code_of p file))) }
+            (listed (mode self.old) (listing_piece name.now (pools_in names.old) (code_of p file))) }
         ensures count { CountsSink result (S.written out.old) (S.written out.new) };
 }
 
@@ -80,16 +81,16 @@ impl TakesPrograms for Keeper {
     fn take_program<S: Sink>(
         &mut self,
         name: &[u8],
-        names: &Pools,
+        names: &mut Scope,
         maker: &mut Maker,
         out: &mut S,
     ) -> Result<(), DeviceFault> {
         let file = self.programs.len();
         let mut program = Program::default();
-        maker.finish_into(names, &mut program);
+        maker.finish_into(names.pools(), &mut program);
         self.programs.add_translated(program);
         match self.mode {
-            Mode::Listing => put_listing(out, name, names, self.programs.program(file)),
+            Mode::Listing => put_listing(out, name, names.pools(), self.programs.program(file)),
             Mode::Matches => Ok(()),
         }
     }
@@ -107,10 +108,11 @@ impl TakesPrograms for Lister {
     fn take_program<S: Sink>(
         &mut self,
         name: &[u8],
-        names: &Pools,
+        names: &mut Scope,
         maker: &mut Maker,
         out: &mut S,
     ) -> Result<(), DeviceFault> {
+        let names = names.pools();
         maker.end_code(names);
         put_code(
             out,

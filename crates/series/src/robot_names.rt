@@ -7,10 +7,11 @@ ghost use Rattle.series.specs.RobotNames.{robot_names};
 use sinks::file_name;
 
 /// Returns the name of a robot's file, by the words of all files. A single file is two robots.
+#[tactic(auto, using(crate::proofs::TextsLemmas::some_paired))]
 pub(crate) fn robot_name<'a>(words: &[&'a str], robot: usize) -> &'a [u8]
     requires { robot < length (paired words.now) }
     ensures { result.now ≡ slice_index_or (robot_names (map (λ word. word.now) words.now)) robot [] }
 {
-    let file = if words.len() == 1 { 0 } else { robot };
+    let file = robot.min(words.len() - 1);
     file_name(words[file].as_bytes())
 }

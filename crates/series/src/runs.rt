@@ -1,6 +1,6 @@
 //! Runs: files are compiled, and listed or sent to matches.
 
-ghost use Rattle.std.specs.Prelude.{◌≡◌, ◌-◌, ◌^◌, ◌<◌, List, length, map, MatchResult, IfOk, IfSome};
+ghost use Rattle.std.specs.Prelude.{◌≡◌, ◌-◌, ◌^◌, ◌<◌, List, length, map, IfOk, IfSome};
 ghost use Rattle.battles.specs.Programs.{AreOfProfile};
 ghost use Rattle.code.specs.Codes.{AreProgramsOf};
 ghost use Rattle.grammar.specs.Tree.{File};
@@ -19,13 +19,13 @@ ghost use Rattle.settings.specs.declared.settings.Mode.TheVariants.{Matches};
 
 use crate::compiling::compile_all;
 use crate::keeping::{Keeper, Lister};
-use crate::run_results::{RunFault, SeriesFault, Status};
+use crate::run_results::{RunFault, Status};
 use crate::series::Series;
 use battles::Programs;
 use grammar::laws::resolved_files;
 use settings::{Mode, Settings};
 use sinks::Sink;
-use tokens::Feed;
+use tokens::{DeviceFault, Feed};
 
 /// Runs what the settings ask for: each of their words has the feed of its file, in order.
 ///
@@ -80,7 +80,10 @@ fn play_files<F: Feed, O: Sink, E: Sink>(
         Ok(Status::Done) => {
             // For the proof alone: a file that compiles is resolved.
             resolved_files();
-            play_all(&keeper.programs, settings, out)
+            match play_all(&keeper.programs, settings, out) {
+                Ok(()) => Ok(Status::Done),
+                Err(DeviceFault) => Err(RunFault::Write),
+            }
         }
         Ok(Status::Faulty) => Ok(Status::Faulty),
         Err(fault) => Err(fault),
@@ -92,26 +95,20 @@ fn play_all<O: Sink>(
     programs: &Programs,
     settings: &Settings,
     out: &mut O,
-) -> Result<Status, RunFault>
+) -> Result<(), DeviceFault>
     requires manned { length programs.now ≡ length settings.now.file_words }
     requires profile { AreOfProfile settings.now.profile programs.now }
     requires countable { CanFail (O.written out.old) }
     ensures output { (files : List File) (faults : SinkState) → AreProgramsOf programs.now settings.now.profile files
         → PutsPieces result (taken_by_sinks (O.written out.old) faults) (taken_by_sinks (O.written out.new) faults)
         (playing settings.now files) }
-    ensures answer { MatchResult result (λ status. status ≡ Status.Done) (λ fault. fault ≡ RunFault.Write) }
     ensures count { CountsSink result (O.written out.old) (O.written out.new) }
 {
     let mut series = Series::new(programs, settings);
     for _ in 0..settings.matches() {
-        if let Err(SeriesFault::Write) = series.next(out) {
-            return Err(RunFault::Write);
-        }
+        series.next(out)?;
     }
-    match series.finish(out) {
-        Ok(()) => Ok(Status::Done),
-        Err(SeriesFault::Write) => Err(RunFault::Write),
-    }
+    series.finish(out)
 }
 
 /// Compiles each file and lists it, or puts its diagnostic. Returns the programs if no file has a fault.

@@ -21,4 +21,5 @@ returns c =
     (rw c.mode.ensures at c.in-Some.ensures.value)
     (rw c.as_mut_slice.ensures.value c.feeds_of-feeds.ensures.bytes)
     c.clear.ensures.text c.clear-2.ensures.text c.run-ran.ensures.output)
-    (only_full c.as_mut_slice.result.now c.run-ran.new.feeds c.run-ran.result _ _ _ _ c.run-ran.ensures.failures))
+    (only_full c.as_mut_slice.result.now c.run-ran.new.feeds c.run-ran.result _ _ c.run-ran.new.out c.run-ran.new.err
+    c.run-ran.ensures.failures))

@@ -3,28 +3,24 @@ use Rattle.series.proofs.runs.compile_files.Goals as goal
 pub compile_all-requires-clause-ready : goal.compile_all-requires-clause-ready
 compile_all-requires-clause-ready g c = c.requires.ready
 
-pub returns-in-Ok-Done-clause-over : goal.returns-in-Ok-Done-clause-over
-returns-in-Ok-Done-clause-over g c = record {
-  output = λ sources are. (
-    (c.in-Ok-Done.ensures.over.output sources are).output.0,
-    rw c.in-Ok-Done.field-0-is at (c.in-Ok-Done.ensures.over.output sources are).programs,
-  );
-  read = c.in-Ok-Done.ensures.over.read;
-  failures = c.in-Ok-Done.ensures.over.failures;
+pub returns-in-Ok-Done : goal.returns-in-Ok-Done
+returns-in-Ok-Done g c = record {
+  over = record {
+    output = λ sources are.
+        let made = c.in-Ok-Done.ensures.over.output sources are in
+        (made.output.0, rw c.in-Ok-Done.field-0-is at made.programs);
+    read = c.in-Ok-Done.ensures.over.read;
+    failures = c.in-Ok-Done.ensures.over.failures;
+  };
+  manned = c.in-Ok-Done.ensures.keeps.manned c.in-Ok-Done.field-0-is;
+  profile = c.in-Ok-Done.ensures.keeps.alike;
 }
-
-pub returns-in-Ok-Done-clause-manned : goal.returns-in-Ok-Done-clause-manned
-returns-in-Ok-Done-clause-manned g c = c.in-Ok-Done.ensures.keeps.manned c.in-Ok-Done.field-0-is
-
-pub returns-in-Ok-Done-clause-profile : goal.returns-in-Ok-Done-clause-profile
-returns-in-Ok-Done-clause-profile g c = c.in-Ok-Done.ensures.keeps.alike
 
 pub returns-in-Ok-Faulty-clause-over : goal.returns-in-Ok-Faulty-clause-over
 returns-in-Ok-Faulty-clause-over g c = record {
-  output = λ sources are. (
-    (c.in-Ok-Faulty.ensures.over.output sources are).output.0,
-    rw c.in-Ok-Faulty.field-0-is at (c.in-Ok-Faulty.ensures.over.output sources are).programs,
-  );
+  output = λ sources are.
+      let made = c.in-Ok-Faulty.ensures.over.output sources are in
+      (made.output.0, rw c.in-Ok-Faulty.field-0-is at made.programs);
   read = c.in-Ok-Faulty.ensures.over.read;
   failures = c.in-Ok-Faulty.ensures.over.failures;
 }

@@ -1,46 +1,41 @@
-use Rattle.std.proofs.Common.{◌≡◌, ◌+◌, ◌<◌, ◌∙◌, Ok, refl, arith}
+use Rattle.std.proofs.Common.{◌≡◌, ◌+◌, ◌<◌, ◌∙◌, refl, sym, arith}
+use Rattle.std.proofs.lemmas.Result.{err_from_is_err_and}
 use Rattle.settings.specs.Settings.{Settings}
-use Rattle.series.specs.SeriesSteps.{played_after}
-use Rattle.series.proofs.SeriesLemmas.{next_report, plays}
-use Rattle.series.proofs.PlayingLemmas.{report_written, report_cut, totals_written, totals_cut}
+use Rattle.series.specs.declared.run_results.Step.TheVariants.{Played}
+use Rattle.series.proofs.SeriesLemmas.{next_match}
+use Rattle.series.proofs.PlayingLemmas.{report_written, report_cut, totals_put}
 use Rattle.series.proofs.runs.play_all.Goals as goal
 
 pub loop-preserved : goal.loop-preserved
 loop-preserved g c =
     let settings : Settings = c.args.settings.now in
     let standing = c.loop.invariant.standing in
-    let left : c.loop.counter < settings.matches = omega (arith, c.matches-end.ensures.value) in
-    let step : played_after (Ok c.in_default.field-0) c.loop.counter ≡ c.loop.counter + 1 =
-    plays settings c.loop.counter c.in_default.field-0 left (rw standing at c.in_default.ensures.step) in
+    let next = next_match settings c.loop.counter (settings.first + c.loop.counter)
+    (omega (arith, c.matches-end.ensures.value)) refl in
+    let plays : c.in_ok-next.field-0 ≡ Played (settings.first + c.loop.counter) =
+    (rw standing at c.in_ok-next.ensures.step) ∙ sym next.step in
     record {
-      standing = rw (standing, step) at c.in_default.ensures.after;
-      calm = (rw standing at c.in_default.ensures.fails) ∙ c.loop.invariant.calm;
+      standing = rw (standing, plays) at c.in_ok-next.ensures.after;
+      calm = (rw standing at c.in_ok-next.ensures.fails) ∙ c.loop.invariant.calm;
       writes = λ files faults are.
-          report_written settings files c.loop.counter (settings.first + c.loop.counter) _ _ _ faults.portions refl
+          report_written settings files c.loop.counter _ _ _ faults.portions
           (c.loop.invariant.writes files faults are)
-          (rw (next_report settings files c.loop.counter left) at
-          ((rw standing at c.in_default.ensures.text) refl files are)).0;
+          (rw (← (next.text files)) at ((rw standing at c.in_ok-next.ensures.text) refl files are)).0;
     }
 
-pub returns-in-Err-Write-clause-output : goal.returns-in-Err-Write-clause-output
-returns-in-Err-Write-clause-output g c = λ files faults are.
+pub returns-in_err-next-clause-output : goal.returns-in_err-next-clause-output
+returns-in_err-next-clause-output g c = λ files faults are.
     let settings : Settings = c.args.settings.now in
     let left : c.loop.counter < settings.matches = omega (arith, c.matches-end.ensures.value) in
-    report_cut settings files c.loop.counter (settings.first + c.loop.counter) _ _ _ faults.portions refl left
-    (c.loop.invariant.writes files faults are)
-    (rw (next_report settings files c.loop.counter left) at
-    ((rw c.loop.invariant.standing at c.in-Err-Write.ensures.text) refl files are)).0
+    let next = next_match settings c.loop.counter (settings.first + c.loop.counter) left refl in
+    rw (err_from_is_err_and c.from_residual.result c.from_residual.ensures.1).1
+    (report_cut settings files c.loop.counter _ _ _ faults.portions left (c.loop.invariant.writes files faults are)
+    (rw (← (next.text files)) at ((rw c.loop.invariant.standing at c.in_err-next.ensures.text) refl files are)).0)
 
-pub returns-in-Ok-clause-output : goal.returns-in-Ok-clause-output
-returns-in-Ok-clause-output g c = λ files faults are.
+pub returns-clause-output : goal.returns-clause-output
+returns-clause-output g c = λ files faults are.
     let settings : Settings = c.args.settings.now in
     let all : c.loop.counter ≡ settings.matches = omega (arith, c.matches-end.ensures.value, c.loop.auto.counter-end) in
-    totals_written settings files _ _ _ faults.portions (rw all at (c.loop.invariant.writes files faults are))
-    ((rw c.loop.invariant.standing at c.in-Ok.ensures.text) refl files are).0
-
-pub returns-in-Err-Write-finish-clause-output : goal.returns-in-Err-Write-finish-clause-output
-returns-in-Err-Write-finish-clause-output g c = λ files faults are.
-    let settings : Settings = c.args.settings.now in
-    let all : c.loop.counter ≡ settings.matches = omega (arith, c.matches-end.ensures.value, c.loop.auto.counter-end) in
-    totals_cut settings files _ _ _ faults.portions (rw all at (c.loop.invariant.writes files faults are))
-    ((rw c.loop.invariant.standing at c.in-Err-Write-finish.ensures.text) refl files are).0
+    totals_put settings files _ _ _ faults.portions c.finish.result
+    (rw all at (c.loop.invariant.writes files faults are))
+    ((rw c.loop.invariant.standing at c.finish.ensures.text) refl files are)

@@ -1,57 +1,47 @@
-use Rattle.std.proofs.Common.{◌-◌, length, rules}
-use Rattle.series.specs.Pieces.{taken_by_sinks}
-use Rattle.series.specs.Playing.{playing}
-use Rattle.series.proofs.OutputLemmas.{faulty_run, kept_codes, plays_run, stops_run}
-use Rattle.series.proofs.ReadingLemmas.{cut_behind, reads_played}
+use Rattle.std.proofs.Common.{length, rules}
+use Rattle.series.proofs.OutputLemmas.{faulty_run, kept_codes, played_run, played_stop, stops_run}
+use Rattle.series.proofs.ReadingLemmas.{cut_behind}
 use Rattle.series.specs.SourceContents.{known_to_come}
 use Rattle.series.proofs.runs.play_files.Goals as goal
 
 pub play_all-requires-clause-manned : goal.play_all-requires-clause-manned
 play_all-requires-clause-manned g c = c.in-Ok-Done.ensures.keeps.manned c.in-Ok-Done.field-0-is
 
-pub returns-in-Ok-Done : goal.returns-in-Ok-Done
-returns-in-Ok-Done g c = record {
+pub returns-in-Ok : goal.returns-in-Ok
+returns-in-Ok g c = record {
   output = λ sources are.
-      let compiles = rw c.in-Ok-Done.field-0-is at (c.in-Ok-Done.ensures.over.output sources are).output in
-      let codes = rw c.in-Ok-Done.field-0-is at (c.in-Ok-Done.ensures.over.output sources are).programs in
-      let kept =
-      kept_codes c.resolved_files.ensures c.args.settings.now.profile sources c.compile_all.new.keeper.programs codes
-      in
-      plays_run c.args.settings.now sources kept.0
-      (taken_by_sinks (g.O.Sink.written c.args.out.now) (g.E.Sink.written c.args.err.now))
-      (taken_by_sinks (g.O.Sink.written c.compile_all.new.out) (g.E.Sink.written c.compile_all.new.err))
-      (taken_by_sinks (g.O.Sink.written c.play_all.new.out) (g.E.Sink.written c.compile_all.new.err))
-      c.play_all.result c.requires.matches
-      kept.1 compiles.0 (c.play_all.ensures.output kept.0 (g.E.Sink.written c.compile_all.new.err) kept.2)
-      c.play_all.ensures.answer;
-  read =
-      let settings = c.args.settings.now in
-      let contents = known_to_come g.F.Feed.device c.args.feeds.now in
-      let before = taken_by_sinks (g.O.Sink.written c.args.out.now) (g.E.Sink.written c.args.err.now) in
-      let compiled = taken_by_sinks (g.O.Sink.written c.compile_all.new.out) (g.E.Sink.written c.compile_all.new.err) in
-      let after = taken_by_sinks (g.O.Sink.written c.play_all.new.out) (g.E.Sink.written c.compile_all.new.err) in
-      reads_played settings c.play_all.result contents (known_to_come g.F.Feed.device c.compile_all.new.feeds) before
-      after
-      c.in-Ok-Done.ensures.over.read c.play_all.ensures.answer
-      (λ failed sources are.
-      let compiles = rw c.in-Ok-Done.field-0-is at (c.in-Ok-Done.ensures.over.output sources are).output in
-      let codes = rw c.in-Ok-Done.field-0-is at (c.in-Ok-Done.ensures.over.output sources are).programs in
-      let kept = kept_codes c.resolved_files.ensures settings.profile sources c.compile_all.new.keeper.programs codes in
-      cut_behind settings.mode settings.profile sources (length contents - 1) before compiled after
-      (playing settings kept.0)
-      compiles.0
-      (rw failed at (c.play_all.ensures.output kept.0 (g.E.Sink.written c.compile_all.new.err) kept.2)));
+      let made = rw c.in-Ok-Done.field-0-is at (c.in-Ok-Done.ensures.over.output sources are) in
+      let kept = kept_codes c.resolved_files.ensures c.args.settings.now.profile sources _ made.programs in
+      played_run c.args.settings.now sources kept.0 _ _ _ c.requires.matches kept.1 made.output.0
+      (c.in-Ok.ensures.output kept.0 (g.E.Sink.written c.compile_all.new.err) kept.2);
+  read = c.in-Ok-Done.ensures.over.read;
+  failures = search rules;
+}
+
+pub returns-in-Err-play_all : goal.returns-in-Err-play_all
+returns-in-Err-play_all g c = record {
+  output = λ sources are.
+      let made = rw c.in-Ok-Done.field-0-is at (c.in-Ok-Done.ensures.over.output sources are) in
+      let kept = kept_codes c.resolved_files.ensures c.args.settings.now.profile sources _ made.programs in
+      played_stop c.args.settings.now sources kept.0 _ _ _ c.requires.matches kept.1 made.output.0
+      (c.in-Err-play_all.ensures.output kept.0 (g.E.Sink.written c.compile_all.new.err) kept.2);
+  read = record {
+    count = length (known_to_come g.F.Feed.device c.args.feeds.now);
+    reads = c.in-Ok-Done.ensures.over.read;
+    puts = λ sources are.
+        let made = rw c.in-Ok-Done.field-0-is at (c.in-Ok-Done.ensures.over.output sources are) in
+        let kept = kept_codes c.resolved_files.ensures c.args.settings.now.profile sources _ made.programs in
+        cut_behind _ _ sources _ _ _ _ _ made.output.0
+        (c.in-Err-play_all.ensures.output kept.0 (g.E.Sink.written c.compile_all.new.err) kept.2);
+  };
   failures = search rules;
 }
 
 pub returns-in-Ok-Faulty : goal.returns-in-Ok-Faulty
 returns-in-Ok-Faulty g c = record {
   output = λ sources are.
-      faulty_run c.args.settings.now sources
-      (taken_by_sinks (g.O.Sink.written c.args.out.now) (g.E.Sink.written c.args.err.now))
-      (taken_by_sinks (g.O.Sink.written c.compile_all.new.out) (g.E.Sink.written c.compile_all.new.err))
-      (c.in-Ok-Faulty.ensures.over.output sources are).output.0
-      (rw c.in-Ok-Faulty.field-0-is at (c.in-Ok-Faulty.ensures.over.output sources are).programs);
+      let made = rw c.in-Ok-Faulty.field-0-is at (c.in-Ok-Faulty.ensures.over.output sources are) in
+      faulty_run c.args.settings.now sources _ _ made.output.0 made.programs;
   read = c.in-Ok-Faulty.ensures.over.read;
   failures = c.in-Ok-Faulty.ensures.over.failures;
 }

@@ -1,29 +1,27 @@
-use Rattle.std.proofs.Common.{◌≡◌, ◌∙◌, ◌+◌, ◌<◌, ℕ, List, ap, sym, subst, length, map, true, arith}
+use Rattle.std.proofs.Common.{◌≡◌, ◌∙◌, ◌+◌, ℕ, List, Ok, Err, ap, sym, subst, length, map, true, arith}
+use Rattle.std.proofs.lemmas.List.FromFn.{map-range_with_len_more}
 use Rattle.std.proofs.lemmas.List.{length-map}
-use Rattle.std.specs.Prelude.{nat_eq}
 use Rattle.grammar.specs.Tree.{File}
 use Rattle.code.specs.Codes.{AreProgramsOf}
 use Rattle.settings.specs.Settings.{Settings}
 use Rattle.series.specs.SeriesSteps.{Series, next_text, next_step}
+use Rattle.series.specs.Reports.{report}
 use Rattle.series.specs.RobotNames.{robot_names}
-use Rattle.series.specs.Outcomes.{outcomes}
-use Rattle.sinks.specs.Portions.{Takes, TakesPrefix}
-use Rattle.series.proofs.SeriesLemmas.{is_left, next_is, outcome_is, outcomes_more, step_is}
+use Rattle.series.specs.Outcomes.{outcome_of, outcomes}
+use Rattle.sinks.specs.Puts.{Puts}
+use Rattle.series.proofs.SeriesLemmas.{next_match, outcome_is, report_is}
 use Rattle.series.proofs.TextsLemmas.{length_paired}
+use Rattle.series.proofs.series.Series.next.Given.{Over}
+use Rattle.series.proofs.series.Series.next.Goals.{After-put_report}
 use Rattle.series.proofs.series.Series.next.Goals as goal
 
 pub invariant_of-self : goal.invariant_of-self
 invariant_of-self g c =
     let settings : Settings = c.self.inside.settings.now in
-    let number : ℕ = c.first.result + c.matches.result in
-    let left : c.self.inside.tally.matches < settings.matches =
-    is_left _ _ c.self.invariant.2
-    (ap (λ (s : Series). nat_eq s.played s.settings.matches) c.self.view_is ∙ sym c.is_over.ensures ∙
-    c.if-is_over.false) in
-    let counted = c.count_match.ensures.matches in (
+    let number : ℕ = c.first.result + c.matches-played.result in (
       c.self.invariant.0,
       c.self.invariant.1,
-      omega (arith, left, counted),
+      omega arith,
       λ files are.
           let ended =
           outcome_is settings files number c.battle-outcome.result
@@ -32,61 +30,44 @@ invariant_of-self g c =
           in
           rw (
             c.count_match.ensures.matches,
-            outcomes_more settings files c.self.inside.tally.matches number
-                (omega (arith, c.first.ensures.value, c.matches.ensures)),
+            map-range_with_len_more (outcome_of settings files) settings.first c.self.inside.tally.matches number
+                (omega arith),
             ← ended,
           )
           (c.count_match.ensures.tally (outcomes settings files c.self.inside.tally.matches)
           (c.self.invariant.3 files are)),
     )
 
+-- the report is that of the next match
+report_is_next : (g : Over) (c : After-put_report g) (files : List File)
+    → AreProgramsOf c.self.inside.programs.now c.self.inside.settings.now.profile files
+    → report (c.first.result + c.matches-played.result) (robot_names (map (λ word. word.now) c.file_words.result.now))
+    c.battle-outcome.result
+    ≡ next_text c.self.inside.settings.now files c.self.inside.tally.matches
+report_is_next g c files are =
+    let settings : Settings = c.self.inside.settings.now in
+    let next = next_match settings c.self.inside.tally.matches (c.first.result + c.matches-played.result) (omega arith)
+    (omega arith) in
+    report_is settings files _ _ c.battle-outcome.result _ next (ap robot_names c.file_words.ensures.value)
+    (outcome_is settings files _ c.battle-outcome.result
+    (rw (c.seed-seed.ensures.value, c.limit-limit.ensures.value) at
+    (c.battle-outcome.ensures.battle settings.profile files are)))
+
 pub returns-in-Ok-clause-text : goal.returns-in-Ok-clause-text
 returns-in-Ok-clause-text g c = λ going.
     let Text : Series → Type 0 = λ s. (files : List File) → AreProgramsOf s.programs s.settings.profile files
-    →
-    Takes (g.S.Sink.written c.args.out.now).portions (g.S.Sink.written c.put_report.new.sink).portions
-    (next_text s.settings files s.played)
-    × ((g.S.Sink.written c.put_report.new.sink).failures ≡ (g.S.Sink.written c.args.out.now).failures) in
-    let settings : Settings = c.self.inside.settings.now in
-    let number : ℕ = c.first.result + c.matches.result in
-    let left : c.self.inside.tally.matches < settings.matches =
-    is_left _ _ c.self.invariant.2
-    (ap (λ (s : Series). nat_eq s.played s.settings.matches) c.self.view_is ∙ sym c.is_over.ensures ∙
-    c.if-is_over.false) in
+    → Puts {E = ℕ} (Ok c.in-Ok.field-0) (g.S.Sink.written c.args.out.now) (g.S.Sink.written c.put_report.new.sink)
+    (next_text s.settings files s.played) in
     subst Text c.self.view_is (λ files are.
-    let ended =
-    outcome_is settings files number c.battle-outcome.result
-    (rw (c.seed-seed.ensures.value, c.limit-limit.ensures.value) at
-    (c.battle-outcome.ensures.battle settings.profile files are))
-    in
-    rw (← (next_is settings files c.self.inside.tally.matches number c.battle-outcome.result
-    (robot_names (map (λ word. word.now) c.file_words.result.now))
-    left (omega (arith, c.first.ensures.value, c.matches.ensures)) (ap robot_names c.file_words.ensures.value) ended))
-    c.in-Ok.ensures)
+    rw (report_is_next g (goal.at.returns-in-Ok-clause-text g c).After-put_report files are) at c.in-Ok.ensures)
 
 pub returns-in-Err-clause-text : goal.returns-in-Err-clause-text
 returns-in-Err-clause-text g c = λ going.
     let Text : Series → Type 0 = λ s. (files : List File) → AreProgramsOf s.programs s.settings.profile files
-    →
-    TakesPrefix (g.S.Sink.written c.args.out.now).portions (g.S.Sink.written c.put_report.new.sink).portions
-    (next_text s.settings files s.played)
-    × ((g.S.Sink.written c.put_report.new.sink).failures ≡ (g.S.Sink.written c.args.out.now).failures + 1) in
-    let settings : Settings = c.self.inside.settings.now in
-    let number : ℕ = c.first.result + c.matches.result in
-    let left : c.self.inside.tally.matches < settings.matches =
-    is_left _ _ c.self.invariant.2
-    (ap (λ (s : Series). nat_eq s.played s.settings.matches) c.self.view_is ∙ sym c.is_over.ensures ∙
-    c.if-is_over.false) in
+    → Puts {T = ℕ} (Err c.in-Err.fault) (g.S.Sink.written c.args.out.now) (g.S.Sink.written c.put_report.new.sink)
+    (next_text s.settings files s.played) in
     subst Text c.self.view_is (λ files are.
-    let ended =
-    outcome_is settings files number c.battle-outcome.result
-    (rw (c.seed-seed.ensures.value, c.limit-limit.ensures.value) at
-    (c.battle-outcome.ensures.battle settings.profile files are))
-    in
-    rw (← (next_is settings files c.self.inside.tally.matches number c.battle-outcome.result
-    (robot_names (map (λ word. word.now) c.file_words.result.now))
-    left (omega (arith, c.first.ensures.value, c.matches.ensures)) (ap robot_names c.file_words.ensures.value) ended))
-    c.in-Err.ensures)
+    rw (report_is_next g (goal.at.returns-in-Err-clause-text g c).After-put_report files are) at c.in-Err.ensures)
 
 pub invariant_of-self-in-Err : goal.invariant_of-self-in-Err
 invariant_of-self-in-Err g c = c.self.invariant
@@ -96,13 +77,8 @@ returns-in-Err-clause-after g c = ap (λ (s : Series). record s { failed = true 
 
 pub returns-in-Ok-clause-step : goal.returns-in-Ok-clause-step
 returns-in-Ok-clause-step g c =
-    let settings : Settings = c.self.inside.settings.now in
-    let left : c.self.inside.tally.matches < settings.matches =
-    is_left _ _ c.self.invariant.2
-    (ap (λ (s : Series). nat_eq s.played s.settings.matches) c.self.view_is ∙ sym c.is_over.ensures ∙
-    c.if-is_over.false) in
-    step_is settings c.self.inside.tally.matches (c.first.result + c.matches.result) left
-    (omega (arith, c.first.ensures.value, c.matches.ensures))
+    (next_match c.self.inside.settings.now c.self.inside.tally.matches (c.first.result + c.matches-played.result)
+    (omega arith) (omega arith)).step
     ∙ ap (λ (s : Series). next_step s.settings s.played) c.self.view_is
 
 pub put_report-requires-clause-named : goal.put_report-requires-clause-named

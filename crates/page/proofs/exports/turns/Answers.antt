@@ -1,4 +1,0 @@
-use Rattle.page.proofs.exports.turns.Goals as goal
-
-pub returns : goal.returns
-returns c = record { ending = c.explain_robot.result; is = c.code.ensures; says = c.explain_robot.ensures }
