@@ -307,12 +307,11 @@ class Page:
 
     def fit(self, width: int, height: int) -> None:
         """Gives the inside of a window with a bar a size. While a page is drawn, its inside follows the window later, and still has an old height
-        then. That it has followed is seen by a width that it didn't have: so it gets another one first, and the bar is measured at that."""
-        between = next(it for it in (width + 16, width + 32) if not self.is_wide(it))
-        self.driver.set_window_size(between, height)
-        self.wait(IS_WIDE, between)
-        bar = self.js("return outerHeight - innerHeight")
-        self.driver.set_window_size(width, height + bar)
+        then. That it has followed is seen by a width that it didn't have, so it gets another one before. How high the bar is goes by the width."""
+        for wide in (next(it for it in (width + 16, width + 32) if not self.is_wide(it)), width):
+            self.driver.set_window_size(wide, height)
+            self.wait(IS_WIDE, wide)
+        self.driver.set_window_size(width, height + self.js("return outerHeight - innerHeight"))
         self.wait(f"{IS_WIDE} && Math.abs(innerHeight - arguments[1]) <= 2", width, height)
 
     def is_wide(self, width: int) -> bool:
