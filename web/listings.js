@@ -79,7 +79,7 @@ export class Listing {
             Object.assign(document.createElement("span"), {className: name, textContent: value})));
         row.classList.toggle("heading", isHeading);
         if (!isHeading) {
-            row.dataset.line = line;
+            row.dataset.line = String(line);
             row.ariaLabel = `line ${line}, address ${address}: ${instruction}`;
         }
         return row;

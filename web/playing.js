@@ -99,28 +99,44 @@ export class Playing {
         return this.store.battle;
     }
 
-    /** Begins: the engine answers, the tab's last report is there again, and a match plays: that of a moment, or the first one. */
+    /**
+     * Begins: the engine answers, the tab's last report is there again, and a match plays: that of a moment, or the first one. What is asked
+     * for meanwhile comes in place of it.
+     */
     async begin(moment, isFirst) {
         if (moment || isFirst) {
-            // the film's frame is loaded while the engine starts
+            // the film's frame is there when the engine is
+            this.welcome(isFirst);
             this.places.go("watch");
             this.screen.prepare();
         } else {
             this.screen.leave();
         }
+        const {current} = this.store;
+        const battle = copyOf(this.battle);
+        await this.engine();
+        const kept = keptReport();
+        if (kept && !this.reported) {
+            this.showReport(kept.battle, kept.text);
+        }
+        if (this.isAsked || current !== this.store.current) {
+            this.screen.leave();
+        } else if (isFirst) {
+            await this.present(wishOf(battle, {number: FIRST_MATCH, cycle: 0}), () => {});
+        } else if (moment) {
+            await this.present(wishOf(battle, moment), tellWatched);
+        }
+    }
+
+    /** Waits for the engine, also if a press on Stop starts it anew; throws if it doesn't start. */
+    async engine() {
         try {
             await this.runner.call("ready");
         } catch (fault) {
-            throw new Error(`The page's engine doesn't start: ${fault.message}. Unpack or copy all files of the page once more.`);
-        }
-        const kept = keptReport();
-        if (kept) {
-            this.showReport(kept.battle, kept.text);
-        }
-        if (moment) {
-            await this.present(moment);
-        } else if (isFirst) {
-            await this.presentFirst();
+            if (fault.message !== STOPPED) {
+                throw new Error(`The page's engine doesn't start: ${fault.message}. Unpack or copy all files of the page once more.`);
+            }
+            await this.engine();
         }
     }
 
@@ -256,11 +272,9 @@ export class Playing {
         }
     }
 
-    /** Plays the match of a moment of its own accord, until something is asked for; what has the focus keeps it. */
-    async present(moment, say = tellWatched) {
-        this.places.go("watch");
-        this.screen.prepare();
-        this.presented = this.show(wishOf(copyOf(this.battle), moment), (text, isFault) => this.isRunning || say(text, isFault));
+    /** Plays a match of its own accord, until something is asked for; what has the focus keeps it. */
+    async present(wish, say) {
+        this.presented = this.show(wish, (text, isFault) => this.isRunning || say(text, isFault));
         const isShown = await this.presented;
         this.presented = null;
         if (!isShown) {
@@ -269,12 +283,6 @@ export class Playing {
         if (!isShown && !this.isRunning) {
             this.places.go("write");
         }
-    }
-
-    /** Plays the match that who comes for the first time sees, with what there is to do about it. */
-    presentFirst() {
-        this.welcome(true);
-        return this.present({number: FIRST_MATCH, cycle: 0}, () => {});
     }
 
     /** Whether the words for who comes for the first time are shown. */
@@ -289,6 +297,7 @@ export class Playing {
 
     /** What the page shows of its own accord gives way to what is asked for. */
     async endPresenting() {
+        this.isAsked = true;
         this.welcome(false);
         if (this.presented) {
             this.runner.stop();

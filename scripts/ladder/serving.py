@@ -13,14 +13,14 @@ import tempfile
 import threading
 import time
 from types import FrameType
-from typing import Any, Callable
+from typing import Any, Callable, Iterable
 from urllib.parse import urlsplit
 
 from leagues.store import opened
 from tools.faults import FILE, Fault
 from tools.output import say, show
 from tools.programs import TRACE, installed
-from tools.signals import Stopped, heeded
+from tools.signals import ENDING, Stopped, heeded
 from tournaments.programs import program
 
 from . import accounts, players, schema, workbench
@@ -152,18 +152,22 @@ class Keeper:
             self._end()
 
     def _begin(self, at: int) -> None:
+        """Begins a child. Signals wait until it is known here, and until it heeds them there: one that came beside the fork would be lost."""
+        before = signal.pthread_sigmask(signal.SIG_BLOCK, ENDING)
         child = os.fork()
         if child == 0:
-            self._be(self._works[at])
+            self._be(self._works[at], before)
         self._children[child] = at
+        signal.pthread_sigmask(signal.SIG_SETMASK, before)
 
-    def _be(self, work: Callable[[], None]) -> None:
-        """What a child does: it never comes back."""
+    def _be(self, work: Callable[[], None], signals: Iterable[int]) -> None:
+        """What a child does, once these signals alone wait: it never comes back."""
         status = 1
         try:
             os.close(self._writing)
             for number in heeded():
                 signal.signal(number, stopped)
+            signal.pthread_sigmask(signal.SIG_SETMASK, signals)
             threading.Thread(target=self._mourn, daemon=True).start()
             work()
             status = 0

@@ -16,6 +16,9 @@ from .base import SECONDS, Base, Ladder, other
 
 # How many kills; by hand LADDER_KILLS makes them 30 of each.
 KILLS = int(os.environ.get("LADDER_KILLS", "5"))
+# A signal that comes while the keeper, or a child that it began, is still busy with the fork.
+BESIDE_A_FORK = ("after_in_parent=lambda: os.kill(os.getpid(), signal.SIGTERM)",
+                 "after_in_child=lambda: (time.sleep(0.5), os.kill(os.getppid(), signal.SIGTERM), time.sleep(2))")
 
 
 class Crashes(Base):
@@ -62,6 +65,17 @@ class Crashes(Base):
             two.settled(matches)
         two.end()
         yield from self._verified(two)
+
+    def a_signal_beside_a_fork_is_not_lost(self) -> Iterator[str]:
+        """Nor in what Python does of its own before the keeper, or its child, goes on: there an exception would be swallowed."""
+        for at, hook in enumerate(BESIDE_A_FORK):
+            ladder = self._made(f"fork{at}")
+            os.makedirs(folder := self._at(f"hook{at}"))
+            with open(f"{folder}/sitecustomize.py", "w", encoding="utf-8") as file:
+                file.write(f"import os, signal, time\nos.register_at_fork({hook})\n")
+            said = Ladder(ladder.folder, self._environment | {"PYTHONPATH": folder}).run("serve", "--port", "0", status=128 + signal.SIGTERM)
+            if said != "league: stopped while no series was played\n":
+                yield f"{hook}: {said}"
 
     def _verified(self, ladder: Ladder) -> Iterator[str]:
         """All matches of today's versions are there once, older ones have none beyond; the league plays on, and its archive is right."""

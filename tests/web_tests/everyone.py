@@ -30,7 +30,7 @@ def widths(page: Page) -> list[str]:
     wrong = []
     for width in WIDTHS:
         page.size(width, HEIGHT)
-        page.open()
+        page.fresh()
         page.run()
         page.js("document.querySelectorAll('details').forEach(it => { it.open = true; })")
         wide = page.js("return document.documentElement.scrollWidth - document.documentElement.clientWidth")

@@ -26,6 +26,10 @@ WATCH = """if (top === window) { const look = () => { const player = document.ge
 # the editor's script doesn't come
 NO_EDITOR = """const append = Element.prototype.append;
     Element.prototype.append = function (...parts) { if (!parts[0]?.src?.endsWith('/codemirror.js')) append.apply(this, parts); }"""
+# the engine hears nothing until it is let go
+HELD = """const {postMessage} = Worker.prototype, held = [];
+    Worker.prototype.postMessage = function (...words) { const post = () => postMessage.apply(this, words); if (window.isFree) post(); else held.push(post); };
+    window.free = () => { window.isFree = true; held.splice(0).forEach(post => post()); }"""
 # notes what listens, and which buttons and fields of the page that is first shown do nothing: neither they nor their form listens. Each by its
 # name, or by the words on it
 LISTENING = """if (top === window) { const add = EventTarget.prototype.addEventListener, heard = new Map();
@@ -252,6 +256,27 @@ def before_the_editor(page: Page) -> list[str]:
     return [] if report.startswith("Match 1: ") and not mirrors else [f"{report[:80]} {mirrors}"]
 
 
+def before_the_engine(page: Page) -> list[str]:
+    """What is asked for before the engine is there comes in place of the match that plays of its own accord, and Stop ends that alone."""
+    wrong = []
+    page.size(360, 740)
+    for presses, (line, said), place in ((["run"], ("said", "Done in "), "fight"), (["run", "stop"], ("said", "Stopped. "), "fight"),
+                                         (["watch"], ("told", "Match 1 can be watched"), "watch"), (["to-write"], ("said", ""), "write")):
+        page.forget()
+        with page.before(HELD):
+            page.driver.get(page.address)
+            page.wait("return document.getElementById('main')?.hidden === false")
+            for name in presses:
+                page.click(name)
+            page.js("free()")
+        page.wait("return document.getElementById(arguments[0]).textContent.startsWith(arguments[1])", line, said)
+        page.wait("return document.querySelector('.CodeMirror')")
+        seen = page.js("return [document.getElementById('main').hidden, document.getElementById('main').dataset.place, document.getElementById('welcome').hidden]")
+        wrong += [] if seen == [False, place, place != "write"] else [f"{presses}: {seen}"]
+    page.whole_window()
+    return wrong
+
+
 def heard(page: Page) -> list[str]:
     """No press is lost: what is shown does what it says from the first moment on, or is disabled until it does."""
     page.forget()
@@ -278,7 +303,7 @@ SHOWN: dict[str, Callable[[Page], list[str]]] = {
     "in sight": in_sight, "drawers": drawers, "places": places, "a robot that beats it": beat, "at once": at_once, "by a link": by_link, "a link that is faulty": faulty_link,
     "coming back": back, "its robots": samples_are_there,
 }
-DRIVEN: dict[str, Callable[[Page], list[str]]] = {"no motion": calm, "in order": in_order, "before the editor": before_the_editor, "no press is lost": heard, "soon": soon}
+DRIVEN: dict[str, Callable[[Page], list[str]]] = {"no motion": calm, "in order": in_order, "before the editor": before_the_editor, "before the engine": before_the_engine, "no press is lost": heard, "soon": soon}
 
 
 def tests(is_chromium: bool = False) -> Tests:

@@ -4,6 +4,7 @@ from __future__ import annotations
 
 import json
 import os
+import re
 import tempfile
 import time
 from typing import Any
@@ -15,6 +16,7 @@ OWN = "main() { while (1) drive(10, 20); }"
 FRIEND = "main() { while (1) drive(30, 40); }"
 NO_DATABASE = "Object.defineProperty(window, 'indexedDB', {get() { return undefined; }});"
 BLOCKED = NO_DATABASE + "Object.defineProperty(window, 'localStorage', {get() { throw new DOMException('no', 'SecurityError'); }})"
+FILL = "let text = 'x'.repeat(1 << 20); while (text) try { localStorage.setItem('filler' + localStorage.length, text); } catch { text = text.slice(0, text.length >> 1); }"
 MIRROR = "document.querySelector('.CodeMirror').CodeMirror"
 
 
@@ -152,8 +154,7 @@ def full(page: Page) -> list[str]:
 def fills(page: Page) -> list[str]:
     """Fills the storage, and frees it again."""
     page.write(OWN)
-    page.js("let text = 'x'.repeat(1 << 20); while (text) try { localStorage.setItem('filler' + localStorage.length, text); }"
-            " catch { text = text.slice(0, text.length >> 1); }")
+    page.js(FILL)
     page.write(OWN + "/* more and more */" * 20)
     told = page.seen("unkept")
     page.js("Object.keys(localStorage).filter(it => it.startsWith('filler')).forEach(it => localStorage.removeItem(it))")
@@ -161,6 +162,25 @@ def fills(page: Page) -> list[str]:
     later = page.seen("unkept")
     right = told.startswith("The storage is full: your last changes aren't kept.") and later == ""
     return [] if right and OWN in sources(page) else [f"full: {told!r}, later {later!r}"]
+
+
+def making_room(page: Page) -> list[str]:
+    """Where there is no more room the oldest versions without a name go first, and the page says how many."""
+    page.forget()
+    with page.before(NO_DATABASE):
+        page.open()
+        texts = [f"/* {number} */ main() {{ }}\n" + "/* a long text */\n" * 1000 for number in range(5)]
+        for number, text in enumerate(texts):
+            if number == 4:
+                page.js(FILL)
+            page.write(text)
+            page.run()
+        page.wait("return document.getElementById('noted').textContent.startsWith('To make room, the oldest ')")
+        told, kept = page.seen("noted"), sources(page)
+        page.js("Object.keys(localStorage).filter(it => it.startsWith('filler')).forEach(it => localStorage.removeItem(it))")
+    gone = re.match(r"To make room, the oldest (\d) versions? without a name went, up to that of ", told)
+    right = gone and [text in kept for text in texts] == [number >= int(gone[1]) for number in range(5)]
+    return [] if right else [f"{told} {[text in kept for text in texts]}"]
 
 
 def undo(page: Page) -> list[str]:
@@ -332,6 +352,6 @@ def own_link(page: Page) -> list[str]:
 
 def tests() -> Tests:
     """The tests by their names."""
-    all_: list[Any] = [a_sample, a_link, a_link_in_the_open_page, next_day, many_steps, two_tabs, removing, full, undo, opening, saving, former,
+    all_: list[Any] = [a_sample, a_link, a_link_in_the_open_page, next_day, many_steps, two_tabs, removing, full, making_room, undo, opening, saving, former,
                         undo_leaves_newer, replaced_is_found, versions, carried, own_link]
     yield from ((f"nothing is lost: {test.__name__.replace('_', ' ')}", test) for test in all_)

@@ -42,6 +42,7 @@ const look = () => {
 };
 requestAnimationFrame(look);"""
 PICTURES = 4
+IS_WIDE = "return Math.abs(innerWidth - arguments[0]) <= 2"
 # follows a link to a battle, and empties the diagnostic as soon as its robots are shown: a robot from before that is compiled meanwhile says
 # nothing later
 FOLLOWS = """window.isShown = false;
@@ -301,11 +302,21 @@ class Page:
             self.driver.execute_cdp_cmd("Emulation.setDeviceMetricsOverride",
                                         {"width": width, "height": height, "deviceScaleFactor": 1, "mobile": False})
         else:
-            self.driver.set_window_size(width, height)
-            around = self.js("return outerHeight - innerHeight")
-            self.driver.set_window_size(width, height + around)
-            self.wait("return Math.abs(innerWidth - arguments[0]) <= 2 && Math.abs(innerHeight - arguments[1]) <= 2", width, height)
+            self.fit(width, height)
         self.settle()
+
+    def fit(self, width: int, height: int) -> None:
+        """Gives the inside of a window with a bar a size. While a page is drawn, its inside follows the window later, and still has an old height
+        then. That it has followed is seen by a width that it didn't have, so it gets another one before. How high the bar is goes by the width."""
+        for wide in (next(it for it in (width + 16, width + 32) if not self.is_wide(it)), width):
+            self.driver.set_window_size(wide, height)
+            self.wait(IS_WIDE, wide)
+        self.driver.set_window_size(width, height + self.js("return outerHeight - innerHeight"))
+        self.wait(f"{IS_WIDE} && Math.abs(innerHeight - arguments[1]) <= 2", width, height)
+
+    def is_wide(self, width: int) -> bool:
+        """Whether the window's inside has a width, to two points."""
+        return bool(self.js(IS_WIDE, width))
 
     def settle(self) -> None:
         """Waits until the layout stands still: of the window and of each frame in it, for some pictures one after another."""

@@ -3,7 +3,7 @@
 from __future__ import annotations
 
 from .battles import Battle, Settings
-from .keeping import BLOCKED, NO_DATABASE, OWN
+from .keeping import BLOCKED, FILL, NO_DATABASE, OWN
 from .pages import Page, Tests
 
 PLAYER = "document.getElementById('film').contentWindow.player"
@@ -19,7 +19,6 @@ FOUR = [(f"{name}.r", b"main() { while (1) drive(0, 0); }") for name in ("a", "b
 LARGE = """const size = name => parseFloat(it.defaultView.getComputedStyle(it.querySelector(name)).fontSize);
     return [Boolean(it.fullscreenElement), size('.robots .name'), size('.robots .percent'), it.querySelector('.robots .bar').offsetHeight]"""
 ASKS = "const it = new Event('beforeunload', {cancelable: true}); dispatchEvent(it); return it.defaultPrevented"
-FILL = "let text = 'x'.repeat(1 << 20); while (text) try { localStorage.setItem('filler' + localStorage.length, text); } catch { text = text.slice(0, text.length >> 1); }"
 
 
 def keys(page: Page) -> list[str]:

@@ -176,7 +176,8 @@ def policy(page: Page, folder: str) -> list[str]:
     wrong += [] if told and "default-src 'none'" in told[1] and not {"'unsafe-inline'", "'unsafe-eval'", "*"} & set(scripts) else [f"{told}"]
     for address in (page.address, "file://" + os.path.join(os.path.abspath(folder), "index.html")):
         other = Page(page.driver, address)
-        other.open()
+        # a test before may have kept a battle that no match is played of
+        other.fresh()
         # the driver's own call may generate code, so this is tried after it
         tries = {"eval": "return new Promise(done => setTimeout(() => { try { (0, eval)('1'); done('ran'); } catch { done('refused'); } }))",
                  "inline": "window.ran = 'refused'; const it = document.createElement('script'); it.textContent = 'window.ran = \"ran\"'; document.body.append(it); return window.ran",
