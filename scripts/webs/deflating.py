@@ -13,9 +13,9 @@ from typing import Iterator, Sequence
 LEAST, MOST, WINDOW = 3, 258, 32768
 END = 256
 # how many places are looked at for a copy, and how often costs are taken from what was made by them
-MOST_TRIES, ROUNDS = 200, 3
+MOST_TRIES, ROUNDS = 2000, 6
 # how many symbols a part has between which a block may begin, and how many bits the head of a block takes, about
-PART, HEAD = 700, 550
+PART, HEAD = 150, 500
 LONGEST_CODE, LONGEST_CODE_OF_LENGTHS = 15, 7
 ORDER = (16, 17, 18, 0, 8, 7, 9, 6, 10, 5, 11, 4, 12, 3, 13, 2, 14, 1, 15)
 

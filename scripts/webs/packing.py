@@ -5,7 +5,7 @@ import lzma
 import struct
 
 # literals go by three bits of the byte before, nothing goes by the place: the best of all ways for the module
-WAY = {"id": lzma.FILTER_LZMA1, "dict_size": 1 << 24, "lc": 3, "lp": 0, "pb": 0, "mode": lzma.MODE_NORMAL, "mf": lzma.MF_BT4, "nice_len": 273, "depth": 1000}
+WAY = {"id": lzma.FILTER_LZMA1, "dict_size": 1 << 24, "lc": 3, "lp": 0, "pb": 0, "mode": lzma.MODE_NORMAL, "mf": lzma.MF_BT4, "nice_len": 128, "depth": 1000}
 
 
 def packed(data: bytes) -> str:
