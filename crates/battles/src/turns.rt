@@ -59,6 +59,19 @@ pub(crate) fn take_turn(
     }
 }
 
+/// Answers a question of a live robot that goes on by operations.
+#[inline(always)]
+pub(crate) fn answer(arena: &mut Arena, robot: usize, question: Question) -> i32 {
+    match question {
+        Question::Draw(_, limit) => arena.draw(limit),
+        Question::Ask(_, intrinsic, word) => arena.ask(robot, intrinsic, [word, 0]),
+        Question::Scan(_, degree, resolution) => arena.scan(robot, degree, resolution),
+        Question::Cannon(_, degree, range) => arena.cannon(robot, degree, range),
+        Question::Drive(_, degree, speed) => arena.drive(robot, degree, speed),
+        Question::Restart | Question::Plain(_) => unreachable!(),
+    }
+}
+
 /// Answers a live robot whose plain machine asks. It stays out of the loop that runs robots.
 #[cold]
 #[inline(never)]
