@@ -1,5 +1,5 @@
 -- What playing an interval needs of the machines and the arena, and what it keeps.
-use Rattle.std.specs.Prelude.{◌≡◌, ◌≢◌, ℕ, ◌<◌, ◌≤◌, ◌+◌, ◌*◌, List, Bool, true, Option, Some, None, length, slice_index_or, nat_le}
+use Rattle.std.specs.Prelude.{◌≡◌, ◌≢◌, ℕ, ◌<◌, ◌≤◌, ◌*◌, List, Bool, true, length, slice_index_or, nat_le}
 use Rattle.arena.specs.Field.{live_count}
 use Rattle.arena.specs.Arena.{Arena, is_live}
 use Rattle.arena.specs.declared.rules.TheConstants.{MOST_ROBOTS}
@@ -7,14 +7,12 @@ use Rattle.engine.specs.Executables.{Executable}
 use Rattle.engine.specs.declared.engines.Engine.{Engine}
 use Rattle.engine.specs.Engines.{EngineFits}
 use Rattle.engine.specs.declared.questions.Question.{Question}
-use Rattle.engine.specs.Questions.{IsAsked, cell_of, want_of}
-use Rattle.engine.specs.declared.phases.Phase.TheVariants.{Running, Asked}
-use Rattle.engine.specs.Windows.{placed}
+use Rattle.engine.specs.Questions.{IsAsked, want_of}
 use Rattle.code.specs.declared.want.Want.TheVariants.{Quiet}
 use Rattle.battles.specs.declared.intervals.TheConstants.{MOST_AHEAD}
 use Rattle.battles.specs.Battle.{Behaviour, BattleState, update_cycles}
 use Rattle.battles.specs.Carrying.{Runner, EachFits, HasReached}
-use Rattle.battles.specs.Intervals.{AreTurnNumbers, AreWaiting, EndsAlone, LeadsAlone, WaitsToDraw, periods}
+use Rattle.battles.specs.Intervals.{AreTurnNumbers, AreWaiting, WaitsToDraw, periods}
 
 -- a robot of the field for each machine
 pub record HaveFieldRobots (runners : List Runner) (arena : Arena) : Type 0 where
@@ -58,22 +56,6 @@ pub record MayRunAhead (cycles farthest : ℕ) : Type 0 where
 pub record RanWithin (limit n : ℕ) (exe : Executable) (runner : Runner) : Type 0 where
   pub most : n ≤ limit
   pub waits : n < limit → WaitsToDraw exe runner
-
--- what is asked at a place of a window has a cell for its reply
-abbrev pub AsksReply : Executable → (pc early : ℕ) → Engine → Type 0
-AsksReply exe pc early machine =
-    (q : Question) → IsAsked exe (placed Asked pc early machine) q → cell_of q ≢ None
-
--- A window at a question: its turn is taken, and the window goes on behind it, or it ends after n cycles.
-abbrev pub TookTurn : (free : Type 0) (i : ℕ) → Executable → (most at pc early : ℕ) → Engine → Arena → Option ℕ → Runner
-    → Arena → Type 0
-TookTurn free i exe most at pc early machine arena None after grown =
-    (at < most) × LeadsAlone free i exe most at (placed Asked pc early machine) arena (at + 1)
-    (placed Running (pc + 1) 0 after.machine) grown
-    × KeepsPlayable exe (placed Running (pc + 1) 0 after.machine) arena grown
-TookTurn free i exe most at pc early machine arena (Some n) after grown =
-    RanWithin most n exe after × EndsAlone free i exe most at (placed Asked pc early machine) arena n after grown
-    × KeepsPlayable exe after.machine arena grown
 
 -- An interval of w cycles: each robot has the number of its next turn. Those that aren't there have no turn in it.
 pub record IsInterval (exes : List Executable) (next : List ℕ) (w : ℕ) (runners : List Runner)
