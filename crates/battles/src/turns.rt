@@ -78,7 +78,8 @@ pub(crate) fn answer(arena: &mut Arena, robot: usize, question: Question) -> i32
         Question::Scan(_, degree, resolution) => arena.scan(robot, degree, resolution),
         Question::Cannon(_, degree, range) => arena.cannon(robot, degree, range),
         Question::Drive(_, degree, speed) => arena.drive(robot, degree, speed),
-        Question::Restart | Question::Plain(_) => unreachable!(),
+        Question::Restart => unreachable!(),
+        Question::Plain(_) => unreachable!(),
     }
 }
 
