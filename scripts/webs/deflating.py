@@ -13,9 +13,10 @@ from typing import Iterator, Sequence
 LEAST, MOST, WINDOW = 3, 258, 32768
 END = 256
 # how many places are looked at for a copy, and how often costs are taken from what was made by them
-MOST_TRIES, ROUNDS = 2000, 6
-# how many symbols a part has between which a block may begin, and how many bits the head of a block takes, about
-PART, HEAD = 150, 500
+MOST_TRIES, ROUNDS = 1000, 5
+# how many symbols a part has at least between which a block may begin, how many parts there are at most, and how many bits the head of
+# a block takes, about
+LEAST_PART, MOST_PARTS, HEAD = 150, 250, 500
 LONGEST_CODE, LONGEST_CODE_OF_LENGTHS = 15, 7
 ORDER = (16, 17, 18, 0, 8, 7, 9, 6, 10, 5, 11, 4, 12, 3, 13, 2, 14, 1, 15)
 
@@ -162,7 +163,8 @@ def bits_of(counts: Counter[int]) -> float:
 
 def split(symbols: list[Symbol]) -> list[Block]:
     """Symbols in blocks: of all ways to begin a block at each so many symbols that which takes the fewest bits."""
-    parts = [Block(symbols[at:at + PART]) for at in range(0, len(symbols), PART)]
+    part = max(LEAST_PART, len(symbols) // MOST_PARTS)
+    parts = [Block(symbols[at:at + part]) for at in range(0, len(symbols), part)]
     costs, begins = [0.0], [0]
     for end in range(1, len(parts) + 1):
         best, begin = float("inf"), 0
@@ -178,7 +180,7 @@ def split(symbols: list[Symbol]) -> list[Block]:
     cuts = [len(parts)]
     while cuts[-1]:
         cuts.append(begins[cuts[-1]])
-    return [Block(symbols[begin * PART:end * PART]) for end, begin in zip(cuts, cuts[1:])][::-1]
+    return [Block(symbols[begin * part:end * part]) for end, begin in zip(cuts, cuts[1:])][::-1]
 
 
 def code_lengths(counts: dict[int, int], size: int, most: int) -> list[int]:
