@@ -9,14 +9,14 @@ use crate::fixes::{Fix, Trouble, fix_of_fault, fix_of_warning};
 use crate::notes_read::{FITS, HINT, MET, first_words, said};
 use crate::parts_left_out::LeftOut;
 use crate::places::token_of_note;
-use crate::rows::{Subject, add_position, add_range, begin_row};
+use crate::rows::{Subject, add_position, add_range};
 use crate::token_rows::end_of;
 use derivations::{Located, locate};
 use explanations::{Declarations, Search, explain_found, warnings_up_to};
 use grammar::Diagnostic;
 use recovery::{MOST_FAULTS, Rest};
 use std::alloc::AllocError;
-use tools::{Draft, Object, Text};
+use tools::{Draft, Object, Text, begin_row};
 
 /// Adds the rows of the warnings about a source: about what stands before its fault, which is at the token of an index, if
 /// it has one. The variables are those that it declares up to there.

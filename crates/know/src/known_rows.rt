@@ -1,14 +1,14 @@
 //! What is known of the language, and of a robot before it fights, as rows.
 
 use crate::robots::Robot;
-use crate::rows::{Subject, add_position, add_range, begin_row};
+use crate::rows::{Subject, add_position, add_range};
 use cycles::{Counted, Runs, Span, all_runs, turns};
 use derivations::{locate, name_text};
 use facts::add_room;
-use grammar::{Intrinsic, Name};
+use grammar::Name;
 use room::{Room, all_needs};
 use std::alloc::{AllocError, Global};
-use tools::{Draft, Fault, Object, Text, kind_of};
+use tools::{Draft, Fault, Object, Text, add_intrinsics, begin_row, kind_of};
 
 /// The words of the language that have a use.
 const WORDS: &str = "if else while return int long auto register";
@@ -27,13 +27,7 @@ pub fn add_words(text: &mut Draft, alloc: Global) -> Result<(), AllocError> {
             text.add("\n");
         }
     }
-    for intrinsic in &Intrinsic::ALL {
-        let mut row = begin_row(text, "intrinsic");
-        row.words("name", intrinsic.name());
-        row.number("arguments", u64::from(intrinsic.argument_count()));
-        row.end();
-        text.add("\n");
-    }
+    add_intrinsics(text);
     Ok(())
 }
 

@@ -40,7 +40,8 @@ use std::alloc::{AllocError, Global};
 use std::process::ExitCode;
 use tokens::{MemoryFeed, Token, WINDOW_BYTES};
 use tools::{
-    Draft, Fault, Options, PROFILE_OPTIONS, ProgramFrame, Text, Work, Wrong, profile, write_text,
+    Draft, Fault, Options, PROFILE_OPTIONS, ProgramFrame, Text, Work, Wrong, begin_row, profile,
+    write_text,
 };
 
 /// The program's name, its line of wrong usage, and its options.

@@ -4,7 +4,7 @@ use derivations::Located;
 use grammar::Profile;
 use std::alloc::Global;
 use std::str;
-use tools::{Draft, Object};
+use tools::Object;
 
 /// A source that is told of.
 #[derive(Clone, Copy)]
@@ -25,13 +25,6 @@ impl<'a> Subject<'a> {
         let (start, end) = place;
         str::from_utf8(self.source.get(start..end).unwrap_or(&[])).unwrap_or("?")
     }
-}
-
-/// Begins a row of a kind at the end of a text.
-pub fn begin_row<'t>(text: &'t mut Draft, kind: &str) -> Object<'t> {
-    let mut row = Object::begin(text);
-    row.words("row", kind);
-    row
 }
 
 /// Adds the place of bytes: how many are before them, and how many there are up to their last one.

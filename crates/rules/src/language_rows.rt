@@ -1,15 +1,14 @@
-//! All diagnostics, intrinsic functions, punctuators and words, a row each.
+//! All diagnostics, punctuators and words, a row each.
 
 ghost use Rattle.std.specs.Prelude.{◌≡◌, Some, IfSome};
 ghost use Rattle.grammar.specs.Faults.{fault_code_number};
 
 use crate::punctuators::{Spelling, punctuators, token_of};
-use crate::rows::begin_row;
-use grammar::{Code, Intrinsic, operator_from, store_operator};
+use grammar::{Code, operator_from, store_operator};
 use std::alloc::AllocError;
 use std::str;
 use tokens::{Keyword, Token};
-use tools::{Draft, Text};
+use tools::{Draft, Text, begin_row};
 
 /// The words that the language keeps for itself, in the order of letters. What each is, the lexer says.
 const WORDS: &str =
@@ -52,17 +51,6 @@ fn diagnostic_numbered(number: u64) -> Option<Code>
         15 => Some(Code::FunctionNotDefined),
         16 => Some(Code::NoMainFunction),
         _ => None,
-    }
-}
-
-/// Adds a row for each intrinsic function, with how many arguments it uses.
-pub fn add_intrinsics(text: &mut Draft) {
-    for intrinsic in &Intrinsic::ALL {
-        let mut row = begin_row(text, "intrinsic");
-        row.words("name", intrinsic.name());
-        row.number("arguments", u64::from(intrinsic.argument_count()));
-        row.end();
-        text.add("\n");
     }
 }
 

@@ -1,13 +1,13 @@
 //! What a run and a source may be, what a run is if nothing is said, and the profiles, as rows.
 
-use crate::rows::{add_numbers, begin_row};
+use crate::rows::add_numbers;
 use grammar::{MOST_NAMES, MOST_NESTED, MOST_PROFILE, Profile};
 use settings::{
     CYCLES_DEFAULT, FIRST_DEFAULT, MATCHES_DEFAULT, MOST_CYCLES, MOST_FILES, MOST_FIRST_MATCH,
     MOST_MATCHES, PROFILE_DEFAULT, SEED_DEFAULT,
 };
 use tokens::{MOST_CONSTANT_VALUE, MOST_NAME_BYTES, MOST_SOURCE_BYTES};
-use tools::{Draft, Text};
+use tools::{Draft, Text, begin_row};
 
 /// The greatest numbers of a run and of a source.
 const MOST: [(&str, u64); 11] = [

@@ -10,10 +10,10 @@ mod punctuators;
 mod rows;
 
 use crate::field_rows::add_field;
-use crate::language_rows::{add_diagnostics, add_intrinsics, add_punctuators, add_words};
+use crate::language_rows::{add_diagnostics, add_punctuators, add_words};
 use crate::limit_rows::{add_defaults, add_most, add_profiles};
 use std::process::ExitCode;
-use tools::{Draft, Fault, Options, ProgramFrame, Work, write_text};
+use tools::{Draft, Fault, Options, ProgramFrame, Work, add_intrinsics, write_text};
 
 /// The program's name, its line of wrong usage, and its options.
 const FRAME: ProgramFrame = ProgramFrame {

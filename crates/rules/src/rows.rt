@@ -1,13 +1,6 @@
-//! A row: an object on a line.
+//! A row of numbers.
 
-use tools::{Draft, Object, Text};
-
-/// Begins a row of a kind at the end of a text.
-pub fn begin_row<'t>(text: &'t mut Draft, kind: &str) -> Object<'t> {
-    let mut row = Object::begin(text);
-    row.words("row", kind);
-    row
-}
+use tools::{Draft, Text, begin_row};
 
 /// Adds a row of numbers with their names.
 pub fn add_numbers(text: &mut Draft, kind: &str, numbers: &[(&str, u64)]) {
