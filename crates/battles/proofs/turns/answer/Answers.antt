@@ -40,7 +40,8 @@ returns-in-Ask-clause-reply c = λ r f trace wants live field.
     let same : c.ask.result ≡ (answer f c.args.robot c.in-Ask.intrinsic (c.in-Ask.word ∷ pos 0 ∷ [])).0 =
     rw (to_z-of_z w32 c.in-Ask.word word) at (c.ask.ensures.reply f field) in
     rw (
-      step_asks r c.args.robot f trace c.in-Ask.intrinsic (c.in-Ask.word ∷ pos 0 ∷ []) live (wants ∙ ap want_of c.in-Ask.is),
+      step_asks r c.args.robot f trace c.in-Ask.intrinsic (c.in-Ask.word ∷ pos 0 ∷ []) live
+          (wants ∙ ap want_of c.in-Ask.is),
       to_z-of_z w32 c.ask.result fits,
     )
     (ap (λ (x : ℤ). trace ++ x ∷ []) (sym same))
@@ -60,7 +61,8 @@ returns-in-Scan-clause-reply c = λ r f trace wants live field.
     let same : c.scan.result ≡ (answer f c.args.robot Scan (c.in-Scan.degree ∷ c.in-Scan.resolution ∷ [])).0 =
     simp to_z-of_z at (c.scan.ensures f field) in
     rw (
-      step_asks r c.args.robot f trace Scan (c.in-Scan.degree ∷ c.in-Scan.resolution ∷ []) live (wants ∙ ap want_of c.in-Scan.is),
+      step_asks r c.args.robot f trace Scan (c.in-Scan.degree ∷ c.in-Scan.resolution ∷ []) live
+          (wants ∙ ap want_of c.in-Scan.is),
       to_z-of_z w32 c.scan.result fits,
     )
     (ap (λ (x : ℤ). trace ++ x ∷ []) (sym same))
@@ -82,7 +84,8 @@ returns-in-Cannon-clause-reply c = λ r f trace wants live field.
     let same : c.cannon.result ≡ (answer f c.args.robot Cannon (c.in-Cannon.degree ∷ c.in-Cannon.range ∷ [])).0 =
     simp to_z-of_z at (c.cannon.ensures.reply f field) in
     rw (
-      step_asks r c.args.robot f trace Cannon (c.in-Cannon.degree ∷ c.in-Cannon.range ∷ []) live (wants ∙ ap want_of c.in-Cannon.is),
+      step_asks r c.args.robot f trace Cannon (c.in-Cannon.degree ∷ c.in-Cannon.range ∷ []) live
+          (wants ∙ ap want_of c.in-Cannon.is),
       to_z-of_z w32 c.cannon.result fits,
     )
     (ap (λ (x : ℤ). trace ++ x ∷ []) (sym same))
@@ -102,7 +105,8 @@ returns-in-Drive-clause-reply c = λ r f trace wants live field.
     let same : c.drive.result ≡ (answer f c.args.robot Drive (c.in-Drive.degree ∷ c.in-Drive.speed ∷ [])).0 =
     c.drive.ensures.reply f field in
     rw (
-      step_asks r c.args.robot f trace Drive (c.in-Drive.degree ∷ c.in-Drive.speed ∷ []) live (wants ∙ ap want_of c.in-Drive.is),
+      step_asks r c.args.robot f trace Drive (c.in-Drive.degree ∷ c.in-Drive.speed ∷ []) live
+          (wants ∙ ap want_of c.in-Drive.is),
       to_z-of_z w32 c.drive.result fits,
     )
     (ap (λ (x : ℤ). trace ++ x ∷ []) (sym same))
