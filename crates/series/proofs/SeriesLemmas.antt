@@ -1,6 +1,6 @@
 -- What a series counted and wrote, match by match.
 use Rattle.std.proofs.Common.{zero, suc, cond, inl, inr, ◌≡◌, ℕ, ◌+◌, ◌<◌, ◌≤◌, Bool, true, false, not, List, [], ◌∷◌, ◌++◌, length, get_or, map, refl, ap, ◌∙◌, arith}
-use Rattle.std.specs.Prelude.{◌&&◌, ◌||◌, ◌==◌, nat_le, nat_lt, count_by, if◌then◌else◌}
+use Rattle.std.specs.Prelude.{◌&&◌, ◌||◌, ◌==◌, nat_eq, nat_le, nat_lt, count_by, if◌then◌else◌}
 use Rattle.std.specs.List.{range_with_len}
 use Rattle.std.proofs.lemmas.List.Sums.{fold-append, get_or-le-sum_by}
 use Rattle.std.proofs.lemmas.List.{get_or_past, length-map}
@@ -96,6 +96,10 @@ outcome_is settings files number outcome is = is
 pub record IsNext (settings : Settings) (played number : ℕ) : Type 0 where
   pub step : Played number ≡ next_step settings played
   pub text : (files : List File) → report_text settings files number ≡ next_text settings files played
+
+-- a match is left
+pub is_left : (played matches : ℕ) → played ≤ matches → nat_eq played matches ≡ false → played < matches
+is_left played matches most other = grind (arith, nat_tests)
 
 -- that is so if a match is left
 pub next_match : (settings : Settings) (played number : ℕ) → played < settings.matches

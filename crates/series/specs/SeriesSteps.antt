@@ -5,6 +5,7 @@ use Rattle.code.specs.Generation.{Program}
 use Rattle.battles.specs.Battle.{Outcome}
 use Rattle.settings.specs.SettingsLimits.{most_files}
 use Rattle.settings.specs.Settings.{Settings}
+use Rattle.series.specs.declared.run_results.SeriesFault.{SeriesFault}
 use Rattle.series.specs.declared.run_results.Step.{Step}
 use Rattle.series.specs.declared.run_results.Step.TheVariants.{Played, Over}
 use Rattle.series.specs.declared.totals.Score.{Score}
@@ -22,7 +23,7 @@ next_text settings files played =
     []
 
 -- a match counts as played if its report was written
-abbrev pub played_after : {E : Type 0} → Result Step E → ℕ → ℕ
+abbrev pub played_after : Result Step SeriesFault → ℕ → ℕ
 played_after (Ok (Played k)) played = played + 1
 played_after (Ok Over) played = played
 played_after (Err fault) played = played

@@ -18,7 +18,7 @@ pub use compiling::compile_all;
 pub use diagnostic_lines::put_diagnostic;
 pub use keeping::TakesPrograms;
 pub use listings::put_listing;
-pub use run_results::{RunFault, Status, Step};
+pub use run_results::{RunFault, SeriesFault, Status, Step};
 pub use runs::{compile_files, run};
 pub use series::Series;
 pub use settings::{

@@ -1,5 +1,12 @@
 //! How a step of a series ends, and how a run does.
 
+/// What stopped a series.
+#[derive(Clone, Copy, Debug, PartialEq, Eq)]
+pub enum SeriesFault {
+    /// Writing failed.
+    Write,
+}
+
 /// What a step of a series did.
 #[derive(Clone, Copy, Debug, PartialEq, Eq)]
 pub enum Step {

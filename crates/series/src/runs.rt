@@ -19,13 +19,13 @@ ghost use Rattle.settings.specs.declared.settings.Mode.TheVariants.{Matches};
 
 use crate::compiling::compile_all;
 use crate::keeping::{Keeper, Lister};
-use crate::run_results::{RunFault, Status};
+use crate::run_results::{RunFault, SeriesFault, Status};
 use crate::series::Series;
 use battles::Programs;
 use grammar::laws::resolved_files;
 use settings::{Mode, Settings};
 use sinks::Sink;
-use tokens::{DeviceFault, Feed};
+use tokens::Feed;
 
 /// Runs what the settings ask for: each of their words has the feed of its file, in order.
 ///
@@ -82,7 +82,7 @@ fn play_files<F: Feed, O: Sink, E: Sink>(
             resolved_files();
             match play_all(&keeper.programs, settings, out) {
                 Ok(()) => Ok(Status::Done),
-                Err(DeviceFault) => Err(RunFault::Write),
+                Err(SeriesFault::Write) => Err(RunFault::Write),
             }
         }
         Ok(Status::Faulty) => Ok(Status::Faulty),
@@ -95,7 +95,7 @@ fn play_all<O: Sink>(
     programs: &Programs,
     settings: &Settings,
     out: &mut O,
-) -> Result<(), DeviceFault>
+) -> Result<(), SeriesFault>
     requires manned { length programs.now ≡ length settings.now.file_words }
     requires profile { AreOfProfile settings.now.profile programs.now }
     requires countable { CanFail (O.written out.old) }

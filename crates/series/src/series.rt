@@ -1,6 +1,6 @@
 //! Series of matches: match after match, each report before the next match, and then the totals.
 
-ghost use Rattle.std.specs.Prelude.{◌≡◌, ℕ, ◌+◌, ◌-◌, ◌^◌, ◌<◌, ◌≤◌, List, length, is_err, false, true, IfOk};
+ghost use Rattle.std.specs.Prelude.{◌≡◌, ℕ, ◌+◌, ◌-◌, ◌^◌, ◌<◌, ◌≤◌, List, length, is_err, nat_eq, false, true, IfOk};
 ghost use Rattle.battles.specs.Programs.{AreOfProfile};
 ghost use Rattle.code.specs.Codes.{AreProgramsOf};
 ghost use Rattle.grammar.specs.Tree.{File};
@@ -10,7 +10,7 @@ ghost use Rattle.series.specs.Outcomes.{outcomes, totals_text};
 ghost use Rattle.sinks.specs.Puts.{CanFail, Puts};
 
 use crate::reports::put_report;
-use crate::run_results::Step;
+use crate::run_results::{SeriesFault, Step};
 use crate::totals::{Tally, put_totals};
 use battles::{Machines, Programs, battle};
 use settings::Settings;
@@ -76,9 +76,9 @@ impl<'a> Series<'a> {
     ///
     /// # Errors
     ///
-    /// If the sink fails, which then has a prefix of the report: the match doesn't count as played. From then on each
-    /// call fails and writes nothing.
-    pub fn next<S: Sink>(&mut self, out: &mut S) -> Result<Step, DeviceFault>
+    /// `Write` if the sink fails, which then has a prefix of the report: the match doesn't count as played. From then
+    /// on each call answers `Write` and writes nothing.
+    pub fn next<S: Sink>(&mut self, out: &mut S) -> Result<Step, SeriesFault>
         requires { CanFail (S.written out.old) }
         ensures step { IfOk result (λ step. step ≡ next_step self.old.settings self.old.played) }
         ensures after { self.new ≡ record self.old
@@ -92,13 +92,12 @@ impl<'a> Series<'a> {
             (S.written out.old) (S.written out.new) }
     {
         if self.failed {
-            return Err(DeviceFault);
+            return Err(SeriesFault::Write);
         }
-        let played = self.tally.matches();
-        if played == self.settings.matches() {
+        if self.is_over() {
             return Ok(Step::Over);
         }
-        let number = self.settings.first() + played;
+        let number = self.settings.first() + self.tally.matches();
         let (seed, limit) = (self.settings.seed(), self.settings.limit());
         let outcome = battle(self.programs, &mut self.machines, seed, number, limit);
         match put_report(out, number, &outcome, self.settings.file_words()) {
@@ -106,9 +105,9 @@ impl<'a> Series<'a> {
                 self.tally.count_match(&outcome);
                 Ok(Step::Played(number))
             }
-            Err(fault) => {
+            Err(DeviceFault) => {
                 self.failed = true;
-                Err(fault)
+                Err(SeriesFault::Write)
             }
         }
     }
@@ -117,8 +116,8 @@ impl<'a> Series<'a> {
     ///
     /// # Errors
     ///
-    /// If the sink fails, which then has a prefix of the totals, or if it failed before.
-    pub fn finish<S: Sink>(&mut self, out: &mut S) -> Result<(), DeviceFault>
+    /// `Write` if the sink fails, which then has a prefix of the totals, or if it failed before.
+    pub fn finish<S: Sink>(&mut self, out: &mut S) -> Result<(), SeriesFault>
         requires over { self.old.played ≡ self.old.settings.matches }
         requires countable { CanFail (S.written out.old) }
         ensures after { self.new ≡ record self.old { failed = is_err result } }
@@ -130,11 +129,22 @@ impl<'a> Series<'a> {
             (S.written out.old) (S.written out.new) }
     {
         if self.has_failed() {
-            return Err(DeviceFault);
+            return Err(SeriesFault::Write);
         }
-        let put = put_totals(out, &self.tally, self.settings.file_words());
-        self.failed = put.is_err();
-        put
+        match put_totals(out, &self.tally, self.settings.file_words()) {
+            Ok(()) => Ok(()),
+            Err(DeviceFault) => {
+                self.failed = true;
+                Err(SeriesFault::Write)
+            }
+        }
+    }
+
+    /// Reports whether all matches were played.
+    pub fn is_over(&self) -> bool
+        ensures { result ≡ nat_eq self.now.played self.now.settings.matches }
+    {
+        self.tally.matches() == self.settings.matches()
     }
 
     /// Reports whether a write has failed.

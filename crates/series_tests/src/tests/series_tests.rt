@@ -1,25 +1,26 @@
 //! A series, match by match, and what it answers after a write has failed.
 
 use crate::tests::checks::{game_of_one, programs_of, short_matches};
-use series::{MemorySink, Series, Step, compile_files};
+use series::{MemorySink, Series, SeriesFault, Step, compile_files};
 use std::process::Abort;
 use std::test::Fail;
-use tokens::{DeviceFault, MemoryFeed};
+use tokens::MemoryFeed;
 
-/// What a call for the next match answers, and how many portions were put so far.
-type Answered = (Result<Step, DeviceFault>, usize);
+/// What a call for the next match answers, whether the series is over then, and how many portions were put so far.
+type Answered = (Result<Step, SeriesFault>, bool, usize);
 
 /// Plays a series of two short matches call by call, and compares what each call answers.
 fn check_calls(rt: &impl Abort, out: &mut MemorySink, calls: &[Answered]) -> Result<(), Fail> {
     let settings = game_of_one(short_matches(2), "a.r");
     let programs = programs_of(b"main(){}", &settings)?;
     let mut series = Series::new(&programs, &settings);
-    for (answer, portions) in calls {
+    for (answer, is_over, portions) in calls {
         if out.failures() > 1 {
             return Err("a call that failed was made again".into());
         }
         assert_eq!(rt; series.next(out), *answer);
         assert_eq!(rt; series.has_failed(), answer.is_err());
+        assert_eq!(rt; series.is_over(), *is_over);
         assert_eq!(rt; out.portions().len(), *portions);
     }
     Ok(())
@@ -29,9 +30,9 @@ fn check_calls(rt: &impl Abort, out: &mut MemorySink, calls: &[Answered]) -> Res
 fn matches_are_played_one_by_one(rt: HostRuntime) -> Result<(), Fail> {
     let mut out = MemorySink::new(rt.alloc());
     let calls = [
-        (Ok(Step::Played(1)), 1),
-        (Ok(Step::Played(2)), 2),
-        (Ok(Step::Over), 2),
+        (Ok(Step::Played(1)), false, 1),
+        (Ok(Step::Played(2)), true, 2),
+        (Ok(Step::Over), true, 2),
     ];
     check_calls(&rt, &mut out, &calls)
 }
@@ -39,7 +40,7 @@ fn matches_are_played_one_by_one(rt: HostRuntime) -> Result<(), Fail> {
 #[test]
 fn a_series_stops_at_a_failed_report(rt: HostRuntime) -> Result<(), Fail> {
     let mut out = MemorySink::new(rt.alloc()).with_room(10);
-    let stopped = (Err(DeviceFault), 1);
+    let stopped = (Err(SeriesFault::Write), false, 1);
     check_calls(&rt, &mut out, &[stopped, stopped])?;
     assert_eq!(rt; out.joined()?.as_slice(), b"Match 1: c".as_slice());
     assert_eq!(rt; out.failures(), 1);
@@ -53,13 +54,13 @@ fn a_series_stops_at_failed_totals(rt: HostRuntime) -> Result<(), Fail> {
     let mut series = Series::new(&programs, &settings);
     let mut out = MemorySink::new(rt.alloc()).failing_after(1);
     assert_eq!(rt; series.next(&mut out), Ok(Step::Played(1)));
-    let Ok(Step::Over) = series.next(&mut out) else {
+    if !series.is_over() {
         return Err("a match is left".into());
-    };
-    assert_eq!(rt; series.finish(&mut out), Err(DeviceFault));
+    }
+    assert_eq!(rt; series.finish(&mut out), Err(SeriesFault::Write));
     assert!(rt; series.has_failed());
-    assert_eq!(rt; series.next(&mut out), Err(DeviceFault));
-    assert_eq!(rt; series.finish(&mut out), Err(DeviceFault));
+    assert_eq!(rt; series.next(&mut out), Err(SeriesFault::Write));
+    assert_eq!(rt; series.finish(&mut out), Err(SeriesFault::Write));
     assert_eq!(rt; out.portions().len(), 1);
     assert_eq!(rt; out.failures(), 1);
     Ok(())

@@ -18,13 +18,13 @@ returns-in-Ok g c = record {
   failures = search rules;
 }
 
-pub returns-in-Err-play_all : goal.returns-in-Err-play_all
-returns-in-Err-play_all g c = record {
+pub returns-in-Err-Write : goal.returns-in-Err-Write
+returns-in-Err-Write g c = record {
   output = λ sources are.
       let made = rw c.in-Ok-Done.field-0-is at (c.in-Ok-Done.ensures.over.output sources are) in
       let kept = kept_codes c.resolved_files.ensures c.args.settings.now.profile sources _ made.programs in
       played_stop c.args.settings.now sources kept.0 _ _ _ c.requires.matches kept.1 made.output.0
-      (c.in-Err-play_all.ensures.output kept.0 (g.E.Sink.written c.compile_all.new.err) kept.2);
+      (c.in-Err-Write.ensures.output kept.0 (g.E.Sink.written c.compile_all.new.err) kept.2);
   read = record {
     count = length (known_to_come g.F.Feed.device c.args.feeds.now);
     reads = c.in-Ok-Done.ensures.over.read;
@@ -32,7 +32,7 @@ returns-in-Err-play_all g c = record {
         let made = rw c.in-Ok-Done.field-0-is at (c.in-Ok-Done.ensures.over.output sources are) in
         let kept = kept_codes c.resolved_files.ensures c.args.settings.now.profile sources _ made.programs in
         cut_behind _ _ sources _ _ _ _ _ made.output.0
-        (c.in-Err-play_all.ensures.output kept.0 (g.E.Sink.written c.compile_all.new.err) kept.2);
+        (c.in-Err-Write.ensures.output kept.0 (g.E.Sink.written c.compile_all.new.err) kept.2);
   };
   failures = search rules;
 }
