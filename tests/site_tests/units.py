@@ -312,11 +312,12 @@ def columns_of_tables() -> Results:
         yield f"columns of {name} without a cell or a value", all(it.cell or it.value or it.help for it in them)
         yield f"titles of columns of {name}", all(bool(it.title) == bool(it.cell) for it in them)
     lookup = lookups.Lookup(made.league(3))
-    more = [columns.Column[Standing]("half", "Half", "number", lambda _, row: f"{row.score.played / 2:g} <", 15, lambda _, row: row.score.played / 2),
-            *columns.STANDINGS]
+    last = max(it.order for it in columns.STANDINGS)
+    more = [columns.Column[Standing]("half", "Half", "number", lambda _, row: f"{row.score.played / 2:g} <", last + 1,
+                                     lambda _, row: row.score.played / 2), *columns.STANDINGS]
     csv = columns.written(lookup, more, lookup.facts.standings).splitlines()
     # each has played ten against each of two
-    yield f"one more in the data {csv}", csv[0].endswith(",close,half") and all(line.endswith(",10.0") for line in csv[1:])
+    yield f"one more in the data {csv}", csv[0].endswith(",half") and all(line.endswith(",10.0") for line in csv[1:])
     page = columns.tabled(columns.View(lookup), more, "Table", lookup.facts.standings)
     yield "one more on the page", page.count('<th scope="col" class="number">Half</th><th scope="col" class="number">Rank</th>') == 1 and page.count(
         '<td class="number">10 &lt;</td>') == 3
