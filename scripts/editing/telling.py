@@ -53,13 +53,13 @@ def of_function(text: Text, known: Known, name: Name, manual: dict[str, Entry]) 
 
 
 def room(text: Text, known: Known, offset: int) -> list[str]:
-    """The room that a call of the function at an offset needs, in words; nothing if it isn't known."""
+    """The room that a call of the function at an offset needs at most, in words; nothing if it isn't known."""
     row = next((need for need in known.needs if offset_of(text, need) == offset), None)
     if not row:
         return []
     if row["words"] is None:
         return ["no room is enough for one, since it can come back"]
-    return [f"one needs {counted(row['words'], 'word')} and {counted(row['frames'], 'frame')}"]
+    return [f"one needs at most {counted(row['words'], 'word')} and {counted(row['frames'], 'frame')}"]
 
 
 def counted(count: int, what: str) -> str:

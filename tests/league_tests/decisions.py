@@ -124,6 +124,17 @@ class Decisions(Base):
                     wrong.append(f"{it}: {found}, not {wanted}")
         return wrong
 
+    def what_many_matches_say(self) -> list[str]:
+        """Without ties the average of (p / m)**w ((1 - p) / (1 - m))**l over all chances p is w! l! / ((w + l + 1)! m**w (1 - m)**l)."""
+        wrong = []
+        for won, lost in ((0, 1), (3, 2), (60, 40), (500, 500), (2500, 1500), (9000, 1000), (20_000, 21_000)):
+            for mean in (0.3, 0.5, 0.52, 0.7):
+                wanted = (math.lgamma(won + 1) + math.lgamma(lost + 1) - math.lgamma(won + lost + 2)
+                          - won * math.log(mean) - lost * math.log(1 - mean))
+                found = sequential.against(Score(won, 0, lost), mean)
+                wrong += [] if abs(found - wanted) < 1e-3 else [f"{won} and {lost} by {mean}: {found}, not {wanted}"]
+        return wrong
+
     def intervals_agree_with_decisions(self) -> list[str]:
         """Of all counts of up to 24 matches a half is outside of the interval just if a side is decided; the share is inside of it."""
         wrong = []

@@ -3,9 +3,11 @@
 from __future__ import annotations
 
 import random
+from collections import Counter
 from decimal import Decimal
+from unittest.mock import patch
 
-from leagues import ladders, likeness, missing, seasons
+from leagues import ladders, likeness, missing, past, seasons
 from leagues.entries import ADD, CHANGE, WITHDRAW, Entry
 from leagues.main import command
 from leagues.words import Words
@@ -106,6 +108,18 @@ class Pieces(Base):
         ):
             if (it := ["".join(part) for part in seasons.promoted(before, moves)]) != after:
                 wrong.append(f"{before} becomes {it}, and not {after}")
+        return wrong
+
+    def differences_of_archives(self) -> list[str]:
+        """Of any number of rows that only one of two archives has: the first twenty are told, and of the others how many they are."""
+        wrong = []
+        for gone, added in ((0, 0), (1, 0), (0, 19), (7, 12), (20, 0), (13, 7), (21, 0), (10, 11), (30, 15)):
+            texts = ([f"old {at}" for at in range(gone)], [f"new {at}" for at in range(added)])
+            with patch.object(past, "rows", side_effect=[Counter(["same", *it]) for it in texts]):
+                found = [*past.differences(None, None, 1)]  # type: ignore[arg-type]
+            wanted = [f"is gone: {it}" for it in texts[0]] + [f"was added: {it}" for it in texts[1]]
+            more = [f"and {len(wanted) - 20} more rows"] if len(wanted) > 20 else []
+            wrong += [] if found == wanted[:20] + more else [f"{gone} and {added}: {found}"]
         return wrong
 
     def gaps_by_hand(self) -> list[str]:

@@ -14,6 +14,7 @@ from typing import Any
 import packages
 from harness import PATIENCE
 from replays.films import Film
+from tools.faults import Fault
 
 from .made import BEGIN, END, FILM, INSIDE, tabbed
 
@@ -103,6 +104,21 @@ class Films:
         film.read(text.splitlines(keepends=True))
         got = self._answers({"packed": film.packed(), "text": ""})[0]["text"]
         return [] if got == text.replace(tabbed("10 1 refused 0 500\n"), "") else [got]
+
+    def names_in_their_order(self) -> list[str]:
+        """The name of each robot comes once, that of the first one first: else a line can't be read, and the line is told."""
+        wrong = []
+        for numbers, line in (("12", 0), ("21", 2), ("11", 3), ("13", 3), ("122", 4), ("1231", 5)):
+            text = HEAD + "".join(f"0 {number} name {number}.r\n" for number in numbers)
+            text += "".join(f"0 {number} at 1 2 0 0 0\n9 {number} end 0\n" for number in sorted({*numbers}))
+            try:
+                Film().read(tabbed(text).splitlines(keepends=True))
+                found = ""
+            except Fault as why:
+                found = str(why)
+            wanted = f"line {line} of the film can't be read" if line else ""
+            wrong += [] if found.startswith(wanted) and bool(found) == bool(wanted) else [f"{numbers}: {found!r}"]
+        return wrong
 
     def bursts_belong_to_their_shots(self) -> list[str]:
         """Of two missiles in the air the later one bursts first; the third is in the air at the end: 14 updates and 700 metres."""

@@ -21,7 +21,7 @@ from harness import skip
 from packages import lacking
 from results.scores import Score
 from results.standings import Rating, Standing
-from sites import addresses, charts, colours, columns, commands, index, links, lookups, names, notables, places, robot_data, scales, shares, sources, sums
+from sites import addresses, charts, colours, columns, commands, heat, index, links, lookups, names, notables, places, robot_data, scales, shares, sources, sums
 from sites.facts import Battle, BySeat, Pair, Seat, Series, Settings, Stay, Table, Version
 from sites.gathering import Gathering, Losses
 from sites.markup import Markup, block, escaped, tag
@@ -78,6 +78,18 @@ def results() -> Results:
         "Shots fired": "20.0 a match", "Shots that hit": "5.0 a match (25.0 %)", "Damage to others": "12.0 % a match",
         "Damage by shots of others": "60.0 % a match", "Damage by its own shots": "20.0 % a match",
         "Damage by walls": "16.0 % a match", "Damage by collisions": "4.0 % a match"}
+    yield from shots_by_whom()
+    legend = re.findall(r'class="h(\d+)"', heat.legend())
+    yield f"a legend of all colours {legend}", [*map(int, legend)] == [*range(colours.STEPS + 1)]
+
+
+def shots_by_whom() -> Results:
+    """What a robot lost by its own shots and by those of others, whichever robot it is."""
+    lost = [10, 20, 30, 40]
+    for number, own in enumerate(lost, 1):
+        row = {"robot": number, "lost_by_walls": 0, "lost_by_collisions": 0, "lost_by_shots_of": lost, "took_from": [0] * 4, "fired": 0, "hit": 0}
+        found = dict(sums.rows(json.dumps({"robots": [row]}) + "\n"))
+        yield f"shots by whom of robot {number}", (found["Damage by its own shots"], found["Damage by shots of others"]) == (f"{own} %", f"{100 - own} %")
 
 
 def file_names() -> Results:
@@ -301,6 +313,8 @@ def axes() -> Results:
     yield "a place beyond is the end", it.at(5000) == 100 and it.at(-5000) == 0
     yield "round numbers", it.ticks() == [0, 20, 40, 60]
     yield "one value", scales.scale([7.0], 0, 10).at(7) == 5
+    close = scales.scale([7.0, 7.5], 0, 10)
+    yield "values that are close have room", (close.low, close.high) == (6.0, 8.5)
 
 
 def columns_of_tables() -> Results:

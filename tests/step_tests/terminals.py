@@ -17,7 +17,7 @@ sys.path.append(str(SCRIPT.parent))
 from harness import PATIENCE, skip  # noqa: E402
 from packages import lacking  # noqa: E402
 from stepping.moments import Call, Moment, Question, Robot  # noqa: E402
-from stepping.screens import Piece, filled, screen, width  # noqa: E402
+from stepping.screens import PROMPT, Piece, filled, fitted_lines, prompt, screen, width  # noqa: E402
 from stepping.sources import Source  # noqa: E402
 
 NUMBERS = itertools.count()
@@ -78,6 +78,28 @@ class Terminals(Base):
                     found = screen(session, ["said " * 30, "more"], "typed", columns, rows)  # type: ignore[arg-type]
                     widths = {sum(width(piece.text) for piece in row) for row in found[:-1]} - {columns}
                     wrong += [f"{columns} {rows}: {len(found)} rows, {widths}"] if len(found) != rows or widths else []
+        return wrong[:5]
+
+    def lines_that_are_left_out_are_counted(self) -> list[str]:
+        """Of any number of lines in any number of rows: those that are shown, and those that the last row counts, are all."""
+        wrong = []
+        for many, rows in itertools.product(range(9), repeat=2):
+            lines = [f"line {number}" for number in range(many)]
+            if many <= rows:
+                wanted = lines + [""] * (rows - many)
+            else:
+                wanted = [*lines[:rows - 1], f".. and {many - (rows - 1)} more"] if rows else []
+            wrong += differ(fitted_lines(lines, rows), wanted)
+        return wrong[:5]
+
+    def the_end_of_what_is_typed_is_shown(self) -> list[str]:
+        """Of any length in any number of columns: as many letters of its end as there is room for, and the last column is the cursor's."""
+        wrong = []
+        for columns, many in itertools.product(range(1, 30), range(30)):
+            typed = "".join(map(chr, range(97, 97 + many)))
+            room = columns - 1 - len(PROMPT)
+            wanted = PROMPT + typed[-room:] if room > 0 else (PROMPT + typed[-1:])[:columns - 1]
+            wrong += differ(prompt(typed, columns), wanted)
         return wrong[:5]
 
     def what_a_screen_shows(self) -> list[str]:

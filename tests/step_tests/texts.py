@@ -36,6 +36,11 @@ class Texts(Base):
         return differ(answers[3:8] + answers[9:], [["n = 0"], ["main.n = 0"], ["n = 0"], ["no externals"], [
             "#0  down, line 11", "#1  down, line 10", "#2  down, line 10", "#3  main, line 3"], ["n = 1"]])
 
+    def a_variable_of_the_innermost_call(self) -> list[str]:
+        """Of a function that calls itself the name has the value in the innermost call, in whichever it is asked: 2, 1 and 0."""
+        answers = self._answers(["b 9", *["c", "print down.n"] * 3], "-l100", "deep.r")
+        return differ(answers[3::2], [["down.n = 2"], ["down.n = 1"], ["down.n = 0"]])
+
     def externals(self) -> list[str]:
         """After the second turn `seen` is 2."""
         answers = self._answers(["watch seen", "c", "c", "print seen", "info externals", "print looker"], "-l100", "looker.r")
