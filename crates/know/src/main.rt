@@ -29,7 +29,7 @@ use crate::inputs::source_given;
 use crate::known_rows::{add_known, add_words};
 use crate::name_rows::add_names;
 use crate::parts_left_out::LeftOut;
-use crate::rows::{Subject, begin_row};
+use crate::rows::Subject;
 use crate::token_rows::add_tokens;
 use crate::walkable::walkable;
 use derivations::{Located, compile, locate};

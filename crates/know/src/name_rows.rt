@@ -1,10 +1,10 @@
 //! Names with what they are where they stand, functions and loops, as rows: found by a walk along tokens.
 
-use crate::rows::{add_range, begin_row};
+use crate::rows::add_range;
 use derivations::{Event, Item, Located, Meaning, Role, SemanticAction, Walk, name_text};
 use grammar::{Callee, Profile, Var, intrinsic_named};
 use tokens::{Name, Token};
-use tools::{Array, Draft, Object, Text};
+use tools::{Array, Draft, Object, Text, begin_row};
 
 /// What a name names.
 #[derive(Clone, Copy, PartialEq, Eq)]

@@ -1,10 +1,9 @@
 //! The tokens of a source as a row: of each its kind and the place of its bytes.
 
-use crate::rows::begin_row;
 use derivations::Located;
 use recovery::past_fault;
 use tokens::Token;
-use tools::{Array, Draft, Text, kind_of};
+use tools::{Array, Draft, Text, begin_row, kind_of};
 
 /// Adds a row with all tokens of a source, those past its lexical errors and these themselves among them.
 pub fn add_tokens(text: &mut Draft, source: &[u8], tokens: &[Located]) {
