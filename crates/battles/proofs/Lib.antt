@@ -13,4 +13,3 @@ pub mod Asking
 pub mod Alone
 pub mod Beginnings
 pub mod Manned
-pub mod InWindows

@@ -6,4 +6,3 @@ pub mod Pairing
 pub mod Carrying
 pub mod KnownBattles
 pub mod IntervalKeeping
-pub mod Windows
