@@ -18,14 +18,16 @@ use grammar::Intrinsic;
 /// Takes the next turn of a live robot, whose machine asks this. No turn hurts a robot. A function that moves, shoots,
 /// looks or draws is called by its name. Each call has a reply of its own: one reply after all of them takes longer.
 #[inline(always)]
-pub(crate) fn take_turn(
+pub(crate) fn take_turn<'a>(
     machine: &mut Engine,
-    exe: &Executable<'_>,
+    exe: &Executable<'a>,
+    kept: &Executable<'a>,
     arena: &mut Arena,
     robot: usize,
     question: Question,
 )
-    requires { MayTakeTurn robot exe.now machine.old arena.old question }
+    requires same { kept.now ≡ exe.now }
+    requires may { MayTakeTurn robot exe.now machine.old arena.old question }
     ensures field { (r : Behaviour) (f : Field) (trace : List ℤ) → r trace ≡ want_of question
         → is_live_at f robot ≡ true → RepresentsField arena.old f → RepresentsField arena.new (robot_turn r robot f trace).0 }
     ensures trace { (r : Behaviour) (f : Field) (trace : List ℤ) → r trace ≡ want_of question
@@ -48,13 +50,13 @@ pub(crate) fn take_turn(
         Question::Drive(_, degree, speed) => {
             machine.reply(exe, question, arena.drive(robot, degree, speed));
         }
-        Question::Restart => machine.restart(exe),
+        Question::Restart => machine.restart(kept),
         Question::Plain(want) => match want {
             Want::Ask(intrinsic, words) => {
                 machine.reply(exe, question, ask_plainly(arena, robot, intrinsic, words));
             }
             // no quiet want is asked (`some` of `MayTakeTurn`), so it wants a restart
-            _ => machine.restart(exe),
+            _ => machine.restart(kept),
         },
     }
 }
