@@ -68,9 +68,6 @@ impl<'a> Executables<'a> {
         requires { robot < length self.now }
         ensures { slice_get self.now robot ≡ Some result }
     {
-        match &self.exes.as_slice()[robot] {
-            Some(exe) => exe.again(),
-            None => unreachable!(),
-        }
+        self.kept_executable(robot).again()
     }
 }
