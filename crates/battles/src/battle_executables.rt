@@ -49,7 +49,8 @@ impl<'a> Executables<'a> {
         self.exes.len()
     }
 
-    /// Lends the executable of the robot with this number where it is kept.
+    /// Lends the executable of the robot with this number where it is kept: a function out of line takes this one, since
+    /// the robot's own would be written to memory for it.
     #[inline(always)]
     pub(crate) fn kept_executable(&self, robot: usize) -> &Executable<'a>
         requires { robot < length self.now }

@@ -16,7 +16,8 @@ use engine::{Engine, Executable, Question};
 use grammar::Intrinsic;
 
 /// Takes the next turn of a live robot, whose machine asks this. No turn hurts a robot. A function that moves, shoots,
-/// looks or draws is called by its name. Each call has a reply of its own: one reply after all of them takes longer.
+/// looks or draws is called by its name. Each call has a reply of its own: one reply after all of them takes longer. A
+/// restart is lent the executable that is kept.
 #[inline(always)]
 pub(crate) fn take_turn<'a>(
     machine: &mut Engine,
