@@ -29,6 +29,7 @@ evaluates (token.Punctuator punctuator.OpenCurly) plain = absurd (cc)
 evaluates (token.Punctuator m) plain = record { chosen = λ after. refl; shallow = λ after. refl }
 evaluates (token.Keyword keyword.If) plain = absurd (cc)
 evaluates (token.Keyword keyword.While) plain = absurd (cc)
+evaluates (token.Keyword keyword.Do) plain = absurd (cc)
 evaluates (token.Keyword keyword.Return) plain = absurd (cc)
 evaluates t plain = record { chosen = λ after. refl; shallow = λ after. refl }
 
@@ -103,6 +104,9 @@ if_begins = record { chosen = λ after. refl; nested = λ after. refl; emits = �
 pub while_begins :
     Begins keyword.While (Exactly punctuator.OpenRound ∷ Part Expression ∷ frame_items frame.While) (BeginWhile ∷ [])
 while_begins = record { chosen = λ after. refl; nested = λ after. refl; emits = λ scope. refl }
+
+pub do_begins : Begins keyword.Do (Make Empty ∷ Part Statement ∷ frame_items frame.Do) (BeginWhile ∷ [])
+do_begins = record { chosen = λ after. refl; nested = λ after. refl; emits = λ scope. refl }
 
 pub return_chosen : (t : Token) → is_keyword keyword.Return t ≡ true →
     Chooses Statement t (AKeyword keyword.Return ∷ Part Back ∷ Exactly punctuator.Semicolon ∷ Make GiveBack ∷ [])

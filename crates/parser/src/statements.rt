@@ -15,7 +15,8 @@ use grammar::{Action, Build, ParseFault};
 use tokens::{Feed, Keyword, Punctuator, Token};
 
 impl<F: Feed, B: Build> Automaton<'_, '_, '_, F, B> {
-    /// `stmt → • ;`, `• block`, `• if ( expr ) stmt elsepart`, `• while ( expr ) stmt`, `• return back ;` and `• expr ;`
+    /// `stmt → • ;`, `• block`, `• if ( expr ) stmt elsepart`, `• while ( expr ) stmt`, `• do stmt while ( expr ) ;`,
+    /// `• return back ;` and `• expr ;`
     pub fn statement(&mut self) -> Result<Front, ParseFault>
         requires at { IsAt B.stands Front.Statement self.old }
         ensures moves { Moves result B.denied B.stands Front.Statement self.old self.new }
@@ -27,6 +28,7 @@ impl<F: Feed, B: Build> Automaton<'_, '_, '_, F, B> {
             Token::Punctuator(Punctuator::OpenCurly) => self.begin_block(),
             Token::Keyword(Keyword::If) => self.if_statement(),
             Token::Keyword(Keyword::While) => self.while_statement(),
+            Token::Keyword(Keyword::Do) => self.do_statement(),
             Token::Keyword(Keyword::Return) => self.return_statement(),
             _ => self.evaluation(),
         }
@@ -163,6 +165,53 @@ impl<F: Feed, B: Build> Automaton<'_, '_, '_, F, B> {
         ensures falls { Falls result Front.Enclosing (with_frame Frame.Loop self.old) self.new }
         ensures builder { KeepsBuilder self.old self.new }
     {
+        self.builder.act(Action::EndWhile)?;
+        self.depth -= 1;
+        Ok(Front::Enclosing)
+    }
+
+    // stmt → do stmt while ( expr ) ;
+
+    /// `stmt → • do stmt while ( expr ) ;`
+    #[tactic(auto, using(crate::proofs::AutomatonLaws::place))]
+    fn do_statement(&mut self) -> Result<Front, ParseFault>
+        requires at { IsAt B.stands Front.Statement self.old }
+        requires starts { IsNextKeyword keyword.Do self.old.tokens }
+        ensures moves { Moves result B.denied B.stands Front.Statement self.old self.new }
+        ensures falls { Falls result Front.Statement self.old self.new }
+        ensures builder { KeepsBuilder self.old self.new }
+    {
+        self.check_nesting()?;
+        self.builder.act(Action::BeginWhile)?;
+        self.tokens.advance()?;
+        self.depth += 1;
+        self.frames.push(Frame::Do);
+        Ok(Front::Statement)
+    }
+
+    /// `stmt → do stmt • while ( expr ) ;`
+    #[tactic(auto, using(crate::proofs::AutomatonLaws::place))]
+    pub fn do_test(&mut self) -> Result<Front, ParseFault>
+        requires at { IsAt B.stands Front.Enclosing (with_frame Frame.Do self.old) }
+        ensures moves { Moves result B.denied B.stands Front.Enclosing (with_frame Frame.Do self.old) self.new }
+        ensures falls { Falls result Front.Enclosing (with_frame Frame.Do self.old) self.new }
+        ensures builder { KeepsBuilder self.old self.new }
+    {
+        self.tokens.expect_keyword(Keyword::While)?;
+        self.tokens.expect(Punctuator::OpenRound)?;
+        self.frames.push(Frame::DoTest);
+        Ok(Front::Expression)
+    }
+
+    /// `stmt → do stmt while ( expr • ) ;`
+    pub fn end_do(&mut self) -> Result<Front, ParseFault>
+        requires at { IsAt B.stands Front.Enclosing (with_frame Frame.DoTest self.old) }
+        ensures moves { Moves result B.denied B.stands Front.Enclosing (with_frame Frame.DoTest self.old) self.new }
+        ensures falls { Falls result Front.Enclosing (with_frame Frame.DoTest self.old) self.new }
+        ensures builder { KeepsBuilder self.old self.new }
+    {
+        self.tokens.expect(Punctuator::CloseRound)?;
+        self.tokens.expect(Punctuator::Semicolon)?;
         self.builder.act(Action::EndWhile)?;
         self.depth -= 1;
         Ok(Front::Enclosing)
