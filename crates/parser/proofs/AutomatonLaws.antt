@@ -25,7 +25,7 @@ use Rattle.parser.specs.declared.frames.Front.{Front}
 use Rattle.parser.specs.declared.frames.Front.TheVariants as front
 use Rattle.parser.specs.declared.frames.TheConstants.{MOST_FRAMES}
 use Rattle.grammar.specs.declared.operators.TheConstants.{UNARY_LEVEL}
-use Rattle.parser.specs.Automata.{Fits, HasMore, InExpression, IsAt, IsTooDeep, Moves, OnExpr, Stands, Start, Takes, Trees, all_tails, front_items, stack_of, tails}
+use Rattle.parser.specs.Automata.{Fits, HasMore, InExpression, IsAt, IsDone, IsTooDeep, Moves, OnExpr, Stands, Start, Takes, Trees, all_tails, front_items, stack_of, tails}
 use Rattle.parser.specs.Paths.{HasTold, Origin, Path, Refused}
 use Rattle.parser.specs.ScopedCursors.{ScopedCursor, next_at, taken_at, token_of}
 use Rattle.parser.specs.Segment.{FailsAt}
@@ -122,10 +122,20 @@ pub has_place : (frames : List Frame) (n : ℕ) → n < UNARY_LEVEL → Takes n 
     nested_count (stack_of frames) ≤ MOST_NESTED → length frames < MOST_FRAMES
 has_place frames n small t few = omega (arith, small, few, few_frames n frames (omega (arith, small)) t)
 
+-- where a statement is derived
+pub place : (frames : List Frame) → Takes 0 frames → nested_count (stack_of frames) ≤ MOST_NESTED →
+    length frames < MOST_FRAMES
+place frames t few = has_place frames 0 (omega arith) t few
+
 -- so there is while fewer constructs are open than the most, whatever the level is
 pub has_room : (frames : List Frame) (n : ℕ) → n ≤ UNARY_LEVEL → Takes n frames →
     nested_count (stack_of frames) < MOST_NESTED → length frames < MOST_FRAMES
 has_room frames n small t few = omega (arith, small, few, few_frames n frames small t)
+
+-- a statement was derived
+pub statement_done : {frames : List Frame} {next : Token} {values : List PartialTree} → Takes 0 frames →
+    IsDone frames next values
+statement_done takes = record { level = 0; takes = takes; ends = tt }
 
 -- an expression is to be derived
 pub awaits : {frames : List Frame} {trees : Type 0} → Takes 1 frames → trees → InExpression 1 frames trees
@@ -181,18 +191,6 @@ pub nests : {F B : Type 0} {o : Origin} {denied : Type 0} {told : List Action �
     Refused o denied told f at.tokens
 nests {stack = stack} {symbol = symbol} h depth n fails =
     rw n.is (faulty (Part symbol ∷ []) stack h (fails (nested_count stack) (rw depth n.deep)))
-
--- at a statement that this keyword begins
-pub word_nests : {F B : Type 0} (denied : Type 0) (stands : B → Representation) {at : Automaton F B}
-    (result : Result Front ParseFault) {f : ParseFault} (w : Keyword) (items : List Item) →
-    IsErrAnd result (λ e. e ≡ f) → IsTooDeep at f → is_keyword w (token_of at.tokens) ≡ true →
-    ChoosesAny Statement (token_of at.tokens) (AKeyword w ∷ items) →
-    ((after : Token) → enters Statement (token_of at.tokens) after ≡ true) →
-    Moves result denied stands front.Statement at at
-word_nests denied stands result w items is deep starts chosen enters = rw (passed_on result is) (λ o h.
-    nests h.path h.depth deep (λ depth.
-    token_too_deep _ _ h.path.ready.near depth Statement (AKeyword w) items (chooses_any h.path.ready.sound chosen)
-    (λ after more. enters after) starts))
 
 -- Operators.
 

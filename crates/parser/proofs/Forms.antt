@@ -3,9 +3,14 @@ use Rattle.std.proofs.Common.{◌≡◌, [], ◌∷◌, refl, true, false}
 use Rattle.tokens.specs.declared.located_tokens.Punctuator.TheVariants as punctuator
 use Rattle.tokens.specs.declared.located_tokens.Token.{Token}
 use Rattle.tokens.specs.declared.located_tokens.Token.TheVariants as token
+use Rattle.tokens.specs.declared.located_tokens.Keyword.{Keyword}
 use Rattle.tokens.specs.declared.located_tokens.Keyword.TheVariants as keyword
+use Rattle.grammar.specs.declared.actions.Action.{Action}
+use Rattle.grammar.specs.declared.actions.Action.TheVariants.{BeginWhile}
 use Rattle.grammar.specs.Grammar.{AKeyword, Back, Block, Decide, DecideElse, Declarations, ElsePart, Empty, Evaluate, Exactly, Expression, GiveBack, Item, Make, Part, Repeat, Close, Statement, Statements, Zero, is_punctuator, is_keyword, enters}
 use Rattle.std.specs.Prelude.{List}
+use Rattle.grammar.specs.Scope.{Scope}
+use Rattle.grammar_laws.specs.Emission.{on_choice}
 use Rattle.parser.specs.Forms.{begins_statement}
 use Rattle.parser.proofs.Parts.{Chooses, punctuator_is, word_is}
 
@@ -95,19 +100,17 @@ behind_while = Make Empty ∷ Part Statement ∷ Make Repeat ∷ Close ∷ []
 abbrev pub conditioned : List Item → List Item
 conditioned items = Exactly punctuator.OpenRound ∷ Part Expression ∷ Exactly punctuator.CloseRound ∷ items
 
-pub if_chosen : (t : Token) → is_keyword keyword.If t ≡ true →
-    Chooses Statement t (AKeyword keyword.If ∷ conditioned behind_if)
-if_chosen t is after = rw (word_is keyword.If t is) refl
+-- this keyword begins a nested statement with these items behind it, and its choice emits these actions
+pub record Begins (w : Keyword) (items : List Item) (more : List Action) : Type 0 where
+  pub chosen : Chooses Statement (token.Keyword w) (AKeyword w ∷ items)
+  pub nested : (after : Token) → enters Statement (token.Keyword w) after ≡ true
+  pub emits : (scope : Scope) → on_choice Statement (token.Keyword w) scope ≡ more
 
-pub if_enters : (t : Token) → is_keyword keyword.If t ≡ true → (after : Token) → enters Statement t after ≡ true
-if_enters t is after = rw (word_is keyword.If t is) refl
+pub if_begins : Begins keyword.If (conditioned behind_if) []
+if_begins = record { chosen = λ after. refl; nested = λ after. refl; emits = λ scope. refl }
 
-pub while_chosen : (t : Token) → is_keyword keyword.While t ≡ true →
-    Chooses Statement t (AKeyword keyword.While ∷ conditioned behind_while)
-while_chosen t is after = rw (word_is keyword.While t is) refl
-
-pub while_enters : (t : Token) → is_keyword keyword.While t ≡ true → (after : Token) → enters Statement t after ≡ true
-while_enters t is after = rw (word_is keyword.While t is) refl
+pub while_begins : Begins keyword.While (conditioned behind_while) (BeginWhile ∷ [])
+while_begins = record { chosen = λ after. refl; nested = λ after. refl; emits = λ scope. refl }
 
 pub return_chosen : (t : Token) → is_keyword keyword.Return t ≡ true →
     Chooses Statement t (AKeyword keyword.Return ∷ Part Back ∷ Exactly punctuator.Semicolon ∷ Make GiveBack ∷ [])

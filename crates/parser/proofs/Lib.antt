@@ -15,6 +15,7 @@ pub mod Built
 pub mod PathLaws
 pub mod ListPaths
 pub mod AutomatonLaws
+pub mod Reaching
 pub mod StatementSteps
 pub mod Operators
 pub mod AssignmentForms

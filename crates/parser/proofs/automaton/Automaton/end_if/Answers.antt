@@ -1,20 +1,18 @@
-use Rattle.std.proofs.Common.{arith}
+use Rattle.std.proofs.Common.{refl, arith}
 use Rattle.grammar.specs.Grammar.{DecideElse}
-use Rattle.parser.proofs.Passing.{passed_on}
-use Rattle.parser.proofs.AutomatonLaws.{comes_to, refuses}
-use Rattle.parser.proofs.PathLaws.{closed, made, may, told_more, out_of_memory}
+use Rattle.parser.proofs.AutomatonLaws.{statement_done}
+use Rattle.parser.proofs.Reaching.{begun, comes, done, emits, may_act, starves, told}
 use Rattle.parser.proofs.automaton.Automaton.end_if.Goals as goal
 
 pub act-requires : goal.act-requires
-act-requires g c =
-    let h = c.requires.at.is in record { follows = may h.acts h.told h.new (made DecideElse tt h.path) }
+act-requires g c = record { follows = may_act c.requires.at (emits DecideElse tt (λ values n. refl) begun) }
 
 pub returns-in_err-act-clause-moves : goal.returns-in_err-act-clause-moves
 returns-in_err-act-clause-moves g c =
-    rw (passed_on c.from_residual.result c.from_residual.ensures.1) (λ o h.
-    out_of_memory h.path (refuses c.in_err-act.field-0.0 _ c.in_err-act.ensures.judged))
+    starves _ _ c.from_residual.result c.in_err-act.field-0.0 c.from_residual.ensures.1 c.in_err-act.ensures.judged
+    begun
 
 pub returns-clause-moves : goal.returns-clause-moves
 returns-clause-moves g c = λ o h.
-    comes_to h (closed (made DecideElse tt h.path)) (told_more _ _ c.in_ok-act.ensures.ok h.told)
-    (omega (arith, h.depth)) (omega (arith, h.few)) (record { level = 0; takes = h.fits.takes.1; ends = tt })
+    comes h (done (told c.in_ok-act.ensures.ok (emits DecideElse tt (λ values n. refl) begun)) o h) (omega (arith, h.depth))
+    (omega (arith, h.few)) (statement_done h.fits.takes.1)

@@ -1,12 +1,10 @@
-use Rattle.std.proofs.Common.{refl, arith}
-use Rattle.parser.proofs.AutomatonLaws.{awaits, comes_to, has_place}
+use Rattle.std.proofs.Common.{refl}
+use Rattle.parser.proofs.AutomatonLaws.{awaits}
 use Rattle.parser.proofs.StatementSteps.{evaluation_path}
+use Rattle.parser.proofs.Reaching.{along, begun, comes}
 use Rattle.parser.proofs.automaton.Automaton.evaluation.Goals as goal
-
-pub push-requires : goal.push-requires
-push-requires g c = let h = c.requires.at.is in has_place _ 0 (omega arith) h.fits (rw h.depth h.few)
 
 pub returns-clause-moves : goal.returns-clause-moves
 returns-clause-moves g c = λ o h.
     rw c.push.ensures
-    (comes_to h (evaluation_path c.requires.starts h.path) h.told h.depth h.few (awaits (refl, h.fits) tt))
+    (comes h (along (evaluation_path c.requires.starts) begun o h) h.depth h.few (awaits (refl, h.fits) tt))

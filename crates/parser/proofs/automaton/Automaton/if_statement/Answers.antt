@@ -1,42 +1,30 @@
-use Rattle.std.proofs.Common.{◌+◌, [], ◌∷◌, refl, ap, arith}
+use Rattle.std.proofs.Common.{refl, arith}
 use Rattle.tokens.specs.declared.located_tokens.Punctuator.TheVariants as punctuator
 use Rattle.tokens.specs.declared.located_tokens.Keyword.TheVariants as keyword
 use Rattle.grammar.specs.Grammar.{AKeyword, Exactly}
-use Rattle.parser.proofs.Passing.{passed_on}
-use Rattle.parser.proofs.AutomatonLaws.{awaits, comes_to, has_place, word_nests}
-use Rattle.parser.proofs.Forms.{behind_if, conditioned, if_chosen, if_enters}
-use Rattle.parser.proofs.PathLaws.{falls, token_falls, token_past}
-use Rattle.parser.proofs.StatementSteps.{if_path}
+use Rattle.parser.proofs.AutomatonLaws.{awaits}
+use Rattle.parser.proofs.Forms.{if_begins}
+use Rattle.parser.proofs.Reaching.{begun, comes, matched, misfits, nests_word, stops, taken, worded}
 use Rattle.parser.proofs.automaton.Automaton.if_statement.Goals as goal
-
-pub push-requires : goal.push-requires
-push-requires g c = let h = c.requires.at.is in has_place _ 0 (omega arith) h.fits (rw h.depth h.few)
 
 pub returns-in_err-check_nesting-clause-moves : goal.returns-in_err-check_nesting-clause-moves
 returns-in_err-check_nesting-clause-moves g c =
-    word_nests _ _ c.from_residual.result keyword.If (conditioned behind_if) c.from_residual.ensures.1
-    c.in_err-check_nesting.ensures.refused c.requires.starts (if_chosen _ c.requires.starts)
-    (if_enters _ c.requires.starts)
+    nests_word _ c.from_residual.result if_begins c.from_residual.ensures.1 c.in_err-check_nesting.ensures.refused
+    c.requires.starts
 
 pub returns-in_err-advance-clause-moves : goal.returns-in_err-advance-clause-moves
 returns-in_err-advance-clause-moves g c =
-    rw (passed_on c.from_residual-in_err-advance.result c.from_residual-in_err-advance.ensures.1) (λ o h.
-    token_falls (AKeyword keyword.If) c.requires.starts h.told c.in_err-advance.ensures.kept
-    c.in_err-advance.ensures.consumes
-    (if_path c.requires.starts (rw h.depth c.in_ok-check_nesting.ensures.ok) h.path))
+    stops _ _ c.from_residual-in_err-advance.result (AKeyword keyword.If) c.from_residual-in_err-advance.ensures.1 c.requires.starts c.in_err-advance.ensures.kept
+    c.in_err-advance.ensures.consumes (worded if_begins c.requires.starts c.in_ok-check_nesting.ensures.ok)
 
 pub returns-in_err-expect-clause-moves : goal.returns-in_err-expect-clause-moves
 returns-in_err-expect-clause-moves g c =
-    rw (passed_on c.from_residual-in_err-expect.result c.from_residual-in_err-expect.ensures.1) (λ o h.
-    falls (Exactly punctuator.OpenRound ∷ []) _ c.in_err-expect.field-0.0
-    (token_past (AKeyword keyword.If) c.requires.starts c.in_ok-advance.ensures.consumes c.in_ok-advance.ensures.kept
-    (if_path c.requires.starts (rw h.depth c.in_ok-check_nesting.ensures.ok) h.path)) h.told
-    c.in_err-expect.ensures.kept c.in_err-expect.ensures.matches)
+    misfits _ _ c.from_residual-in_err-expect.result (Exactly punctuator.OpenRound) c.from_residual-in_err-expect.ensures.1 c.in_err-expect.ensures.kept
+    c.in_err-expect.ensures.matches (taken c.requires.starts c.in_ok-advance.ensures.consumes c.in_ok-advance.ensures.kept
+    (worded if_begins c.requires.starts c.in_ok-check_nesting.ensures.ok))
 
 pub returns-clause-moves : goal.returns-clause-moves
 returns-clause-moves g c = λ o h.
-    rw c.push.ensures (comes_to h
-    (c.in_ok-expect.ensures.passes _ _ _ _
-    (token_past (AKeyword keyword.If) c.requires.starts c.in_ok-advance.ensures.consumes c.in_ok-advance.ensures.kept
-    (if_path c.requires.starts (rw h.depth c.in_ok-check_nesting.ensures.ok) h.path))) h.told
-    (ap (λ n. n + 1) h.depth) (omega (arith, c.in_ok-check_nesting.ensures.ok)) (awaits (refl, h.fits) tt))
+    rw c.push.ensures (comes h (matched c.in_ok-expect.ensures.passes (taken c.requires.starts c.in_ok-advance.ensures.consumes c.in_ok-advance.ensures.kept
+    (worded if_begins c.requires.starts c.in_ok-check_nesting.ensures.ok)) o h) (omega (arith, h.depth))
+    (omega (arith, c.in_ok-check_nesting.ensures.ok)) (awaits (refl, h.fits) tt))
