@@ -2,6 +2,7 @@
 use Rattle.std.proofs.Common.{◌≡◌, ℕ, ◌<◌, ◌≤◌, List, [], ◌∷◌, ◌++◌, refl, true}
 use Rattle.std.specs.Prelude.{Result, Err, IsErrAnd}
 use Rattle.tokens.specs.declared.located_tokens.Keyword.{Keyword}
+use Rattle.tokens.specs.declared.located_tokens.Punctuator.TheVariants as punctuator
 use Rattle.grammar.specs.declared.actions.Action.{Action}
 use Rattle.grammar.specs.declared.build.BuildFault.{BuildFault}
 use Rattle.grammar.specs.declared.diagnostics.ParseFault.{ParseFault}
@@ -10,7 +11,7 @@ use Rattle.grammar.specs.declared.name_limits.TheConstants.{MOST_NESTED}
 use Rattle.grammar.specs.Building.{AppendsAll, MayFollow, Refuses, Representation}
 use Rattle.grammar.specs.Derivation.{PartialTree}
 use Rattle.grammar.specs.Faults.{nested_count}
-use Rattle.grammar.specs.Grammar.{AKeyword, Close, Item, Make, SemanticAction, Statement, is_keyword}
+use Rattle.grammar.specs.Grammar.{AKeyword, Close, Exactly, Item, Make, SemanticAction, Statement, is_keyword, is_punctuator}
 use Rattle.grammar.proofs.Steps.{IsWanted}
 use Rattle.grammar_laws.specs.Emission.{and_then, on_rule}
 use Rattle.parser.specs.declared.automaton.Automaton.{Automaton}
@@ -18,15 +19,16 @@ use Rattle.parser.specs.declared.frames.Front.{Front}
 use Rattle.parser.specs.declared.frames.Front.TheVariants as front
 use Rattle.parser.specs.Advancing.{HasAdvanced, Stopped}
 use Rattle.parser.specs.Automata.{Fits, IsAt, IsTooDeep, Moves, Stands, Start, front_items, stack_of}
-use Rattle.parser.specs.Paths.{HasTold, Origin, Passes, Path}
+use Rattle.parser.specs.Paths.{HasTold, Passes, Path}
 use Rattle.parser.specs.ScopedCursors.{ScopedCursor, scope_of, taken_at, token_of}
 use Rattle.parser.specs.Segment.{FailsAt, GoesPast, Refused as IsRefused, StopsAt}
 use Rattle.parser.proofs.AutomatonLaws.{comes_to, nests, refuses, told_all}
-use Rattle.parser.proofs.Forms.{Begins}
+use Rattle.parser.proofs.Forms.{Begins, in_braces}
 use Rattle.parser.proofs.Parts.{word_is}
 use Rattle.parser.proofs.Passing.{passed_on}
 use Rattle.parser.proofs.PathLaws.{IsInside, closed, falls, made, may, opened, out_of_memory, token_falls, token_past}
 use Rattle.parser.proofs.Productions.{chooses_any, token_too_deep}
+use Rattle.parser.proofs.StatementSteps.{Turns, braces_path}
 
 -- The derivation has come to these items. These actions are due: it emitted them, and the builder was told all before.
 pub record Reaches {B : Type 0} (o : Start B) (stands : B → Representation) (items : List Item) (due : List Action)
@@ -44,7 +46,6 @@ Way {B = B} stands front old items due tokens now =
     (o : Start B) → Stands o stands front old → Reaches o stands items due tokens now
 
 module _ {F B : Type 0} {stands : B → Representation} {front : Front} {old : Automaton F B} where
-
   -- Further on the way.
 
   pub begun : Way stands front old (front_items front (token_of old.tokens) ++ stack_of old.frames) [] old.tokens
@@ -109,13 +110,11 @@ module _ {F B : Type 0} {stands : B → Representation} {front : Front} {old : A
       }
 
   -- a symbol was replaced
-  pub along : {items left : List Item} {more : List Action} {at : ScopedCursor} {now : Representation} →
-      ({o : Origin} {values : List PartialTree} {acts : List Action} → Path o items values acts at →
-      Path o left values (and_then acts more) at) → Way stands front old items [] at now →
-      Way stands front old left more at now
-  along path way = λ o h.
+  pub turned : {items left : List Item} {at : ScopedCursor} {now : Representation} → Turns items left at →
+      Way stands front old items [] at now → Way stands front old left [] at now
+  turned turns way = λ o h.
       let r = way o h in
-      record { values = r.values; acts = r.acts; path = path r.path; told = r.told; new = r.new }
+      record { values = r.values; acts = r.acts; path = turns _ _ _ r.path; told = r.told; new = r.new }
 
   -- Where it comes to.
 
@@ -155,31 +154,45 @@ module _ {F B : Type 0} {stands : B → Representation} {front : Front} {old : A
 
   -- one of the builder
   pub starves : {items : List Item} {due : List Action} {now : Representation} (denied : Type 0)
-      (new : Automaton F B) (result : Result Front ParseFault) (e : BuildFault) → IsErrAnd result (λ e. e ≡ parse_fault.Memory) →
-      Refuses {A = Unit {0}} (Err e) denied → Way stands front old items due new.tokens now → Moves result denied stands front old new
+      (new : Automaton F B) (result : Result Front ParseFault) (e : BuildFault) →
+      IsErrAnd result (λ e. e ≡ parse_fault.Memory) →
+      Refuses {A = Unit {0}} (Err e) denied → Way stands front old items due new.tokens now →
+      Moves result denied stands front old new
   starves denied new result e is judged way = rw (passed_on result is) (λ o h.
       let r = way o h in
       out_of_memory r.path (refuses e _ judged))
 
--- At a statement that a keyword begins.
+-- At a statement that is nested.
 
-module _ {F B : Type 0} {stands : B → Representation} {at : Automaton F B} {w : Keyword} {items : List Item}
-    {more : List Action}
-  where
-    pub worded : Begins w items more → is_keyword w (token_of at.tokens) ≡ true → at.depth < MOST_NESTED →
-        Way stands front.Statement at (AKeyword w ∷ items ++ stack_of at.frames) more at.tokens (stands at.builder.now)
-    worded b starts few = λ o h.
-        let is = word_is w (token_of at.tokens) starts in
-        along (opened Statement (AKeyword w ∷ items) (λ after last. rw is (b.chosen after)) (rw h.depth few)
-        (rw is (b.emits (scope_of at.tokens)))) begun o h
+module _ {F B : Type 0} {stands : B → Representation} {at : Automaton F B} where
+  -- begun by a keyword
+  pub worded : {w : Keyword} {items : List Item} {more : List Action} → Begins w items more →
+      is_keyword w (token_of at.tokens) ≡ true → at.depth < MOST_NESTED →
+      Way stands front.Statement at (AKeyword w ∷ items ++ stack_of at.frames) more at.tokens (stands at.builder.now)
+  worded {w = w} {items = items} b starts few = λ o h.
+      let is = word_is w (token_of at.tokens) starts in
+      record {
+        values = h.values;
+        acts = h.acts;
+        path = opened Statement (AKeyword w ∷ items) (λ after last. rw is (b.chosen after)) (rw h.depth few)
+            (rw is (b.emits (scope_of at.tokens))) h.path;
+        told = h.told;
+        new = h.new;
+      }
 
-    -- the most constructs are open
-    pub nests_word : (denied : Type 0) (result : Result Front ParseFault) {f : ParseFault} → Begins w items more →
-        IsErrAnd result (λ e. e ≡ f) → IsTooDeep at f → is_keyword w (token_of at.tokens) ≡ true →
-        Moves result denied stands front.Statement at at
-    nests_word denied result b failed deep starts =
-        let is = word_is w (token_of at.tokens) starts in
-        rw (passed_on result failed) (λ o h. nests h.path h.depth deep (λ depth.
-        token_too_deep _ _ h.path.ready.near depth Statement (AKeyword w) items
-        (chooses_any h.path.ready.sound (λ after. rw is (b.chosen after))) (λ after last. rw is (b.nested after))
-        starts))
+  -- by a brace
+  pub braced : is_punctuator punctuator.OpenCurly (token_of at.tokens) ≡ true → at.depth < MOST_NESTED →
+      Way stands front.Statement at (Exactly punctuator.OpenCurly ∷ in_braces ++ stack_of at.frames) [] at.tokens
+      (stands at.builder.now)
+  braced starts few = λ o h. turned (braces_path starts (rw h.depth few)) begun o h
+
+-- a keyword would open one more than the most
+pub nests_word : {F B : Type 0} (denied : Type 0) (stands : B → Representation) {at : Automaton F B}
+    (result : Result Front ParseFault) {f : ParseFault} {w : Keyword} {items : List Item} {more : List Action} →
+    Begins w items more → IsErrAnd result (λ e. e ≡ f) → IsTooDeep at f →
+    is_keyword w (token_of at.tokens) ≡ true → Moves result denied stands front.Statement at at
+nests_word denied stands {at = at} result {w = w} {items = items} b failed deep starts =
+    let is = word_is w (token_of at.tokens) starts in
+    rw (passed_on result failed) (λ o h. nests h.path h.depth deep (λ depth.
+    token_too_deep _ _ h.path.ready.near depth Statement (AKeyword w) items
+    (chooses_any h.path.ready.sound (λ after. rw is (b.chosen after))) (λ after last. rw is (b.nested after)) starts))

@@ -18,50 +18,54 @@ use Rattle.parser.proofs.Forms.{BeginsBlock, Evaluates, begins_block, else_chose
 use Rattle.parser.proofs.Parts.{punctuator_is, word_is}
 use Rattle.parser.proofs.PathLaws.{chosen, opened}
 
-module _ {o : Origin} {stack : List Item} {values : List PartialTree} {acts : List Action} {at : ScopedCursor} where
+-- before a token is taken, these items are replaced by those
+abbrev pub Turns : List Item → List Item → ScopedCursor → Type 0
+Turns before after at = (o : Origin) (values : List PartialTree) (acts : List Action) →
+    Path o before values acts at → Path o after values acts at
+
+module _ {stack : List Item} {at : ScopedCursor} where
   pub empty_path : is_punctuator punctuator.Semicolon (token_of at) ≡ true →
-      Path o (Part Statement ∷ stack) values acts at →
-      Path o (Exactly punctuator.Semicolon ∷ stack) values acts at
-  empty_path is h =
+      Turns (Part Statement ∷ stack) (Exactly punctuator.Semicolon ∷ stack) at
+  empty_path is o values acts h =
       chosen {more = []} Statement (Exactly punctuator.Semicolon ∷ []) (λ after last. empty_chosen _ is after)
       (λ after last. empty_shallow _ is after) (rw (punctuator_is punctuator.Semicolon (token_of at) is) refl) h
 
-  pub else_path : is_keyword keyword.Else (token_of at) ≡ true → Path o (Part ElsePart ∷ stack) values acts at →
-      Path o (AKeyword keyword.Else ∷ Make Empty ∷ Part Statement ∷ Make DecideElse ∷ stack) values acts at
-  else_path is h =
+  pub else_path : is_keyword keyword.Else (token_of at) ≡ true →
+      Turns (Part ElsePart ∷ stack) (AKeyword keyword.Else ∷ Make Empty ∷ Part Statement ∷ Make DecideElse ∷ stack) at
+  else_path is o values acts h =
       chosen {more = []} ElsePart (AKeyword keyword.Else ∷ Make Empty ∷ Part Statement ∷ Make DecideElse ∷ [])
       (λ after last. else_chosen _ is after) (λ after last. refl) refl h
 
-  pub no_else_path : is_keyword keyword.Else (token_of at) ≡ false → Path o (Part ElsePart ∷ stack) values acts at →
-      Path o (Make Decide ∷ stack) values acts at
-  no_else_path other h =
+  pub no_else_path : is_keyword keyword.Else (token_of at) ≡ false →
+      Turns (Part ElsePart ∷ stack) (Make Decide ∷ stack) at
+  no_else_path other o values acts h =
       chosen {more = []} ElsePart (Make Decide ∷ []) (λ after last. no_else_chosen _ other after) (λ after last. refl)
       refl
       h
 
-  pub return_path : is_keyword keyword.Return (token_of at) ≡ true → Path o (Part Statement ∷ stack) values acts at →
-      Path o (AKeyword keyword.Return ∷ Part Back ∷ Exactly punctuator.Semicolon ∷ Make GiveBack ∷ stack) values acts at
-  return_path is h =
+  pub return_path : is_keyword keyword.Return (token_of at) ≡ true →
+      Turns (Part Statement ∷ stack)
+      (AKeyword keyword.Return ∷ Part Back ∷ Exactly punctuator.Semicolon ∷ Make GiveBack ∷ stack) at
+  return_path is o values acts h =
       chosen {more = []} Statement
       (AKeyword keyword.Return ∷ Part Back ∷ Exactly punctuator.Semicolon ∷ Make GiveBack ∷ [])
       (λ after last. return_chosen _ is after) (λ after last. return_shallow _ is after)
       (rw (word_is keyword.Return (token_of at) is) refl) h
 
-  pub zero_path : is_punctuator punctuator.Semicolon (token_of at) ≡ true → Path o (Part Back ∷ stack) values acts at →
-      Path o (Make Zero ∷ stack) values acts at
-  zero_path is h =
+  pub zero_path : is_punctuator punctuator.Semicolon (token_of at) ≡ true →
+      Turns (Part Back ∷ stack) (Make Zero ∷ stack) at
+  zero_path is o values acts h =
       chosen {more = []} Back (Make Zero ∷ []) (λ after last. zero_chosen _ is after) (λ after last. refl) refl h
 
   pub value_path : is_punctuator punctuator.Semicolon (token_of at) ≡ false →
-      Path o (Part Back ∷ stack) values acts at →
-      Path o (Part Expression ∷ stack) values acts at
-  value_path other h =
+      Turns (Part Back ∷ stack) (Part Expression ∷ stack) at
+  value_path other o values acts h =
       chosen {more = []} Back (Part Expression ∷ []) (λ after last. value_chosen _ other after) (λ after last. refl)
       refl h
 
-  pub evaluation_path : begins_statement (token_of at) ≡ false → Path o (Part Statement ∷ stack) values acts at →
-      Path o (Part Expression ∷ Exactly punctuator.Semicolon ∷ Make Evaluate ∷ stack) values acts at
-  evaluation_path plain h =
+  pub evaluation_path : begins_statement (token_of at) ≡ false →
+      Turns (Part Statement ∷ stack) (Part Expression ∷ Exactly punctuator.Semicolon ∷ Make Evaluate ∷ stack) at
+  evaluation_path plain o values acts h =
       let e : Evaluates (token_of at) = evaluates (token_of at) plain in
       chosen {more = []} Statement (Part Expression ∷ Exactly punctuator.Semicolon ∷ Make Evaluate ∷ [])
       (λ after last. e.chosen after) (λ after last. e.shallow after) (emits (token_of at) _ plain) h
@@ -72,27 +76,26 @@ module _ {o : Origin} {stack : List Item} {values : List PartialTree} {acts : Li
       emits t scope plain = refl
 
   pub block_path : is_punctuator punctuator.OpenCurly (token_of at) ≡ true →
-      Path o (Part Statement ∷ stack) values acts at →
-      Path o (Part Block ∷ stack) values acts at
-  block_path is h =
+      Turns (Part Statement ∷ stack) (Part Block ∷ stack) at
+  block_path is o values acts h =
       let b : BeginsBlock (token_of at) = begins_block (token_of at) is in
       chosen {more = []} Statement (Part Block ∷ []) (λ after last. b.statement after) (λ after last. b.shallow after)
       (rw (punctuator_is punctuator.OpenCurly (token_of at) is) refl) h
 
   pub braces_path : is_punctuator punctuator.OpenCurly (token_of at) ≡ true → nested_count stack < MOST_NESTED →
-      Path o (Part Block ∷ stack) values acts at →
-      Path o (Exactly punctuator.OpenCurly ∷ in_braces ++ stack) values acts at
-  braces_path is few h =
+      Turns (Part Statement ∷ stack) (Exactly punctuator.OpenCurly ∷ in_braces ++ stack) at
+  braces_path is few o values acts h =
       let b : BeginsBlock (token_of at) = begins_block (token_of at) is in
-      opened {more = []} Block (Exactly punctuator.OpenCurly ∷ in_braces) (λ after last. b.chosen after) few refl h
+      opened {more = []} Block (Exactly punctuator.OpenCurly ∷ in_braces) (λ after last. b.chosen after) few refl
+      (block_path is o values acts h)
 
   pub statement_path : is_punctuator punctuator.CloseCurly (token_of at) ≡ false →
-      Path o (Part Statements ∷ stack) values acts at → Path o (Part Statement ∷ Part Statements ∷ stack) values acts at
-  statement_path other h =
+      Turns (Part Statements ∷ stack) (Part Statement ∷ Part Statements ∷ stack) at
+  statement_path other o values acts h =
       chosen {more = []} Statements (Part Statement ∷ Part Statements ∷ []) (λ after last. more_chosen _ other after)
       (λ after last. refl) refl h
 
   pub no_statement_path : is_punctuator punctuator.CloseCurly (token_of at) ≡ true →
-      Path o (Part Statements ∷ stack) values acts at → Path o stack values acts at
-  no_statement_path is h =
+      Turns (Part Statements ∷ stack) stack at
+  no_statement_path is o values acts h =
       chosen {more = []} Statements [] (λ after last. end_chosen _ is after) (λ after last. refl) refl h

@@ -4,13 +4,13 @@ use Rattle.grammar.specs.Grammar.{Decide, is_keyword}
 use Rattle.parser.specs.ScopedCursors.{token_of}
 use Rattle.parser.proofs.AutomatonLaws.{statement_done}
 use Rattle.parser.proofs.StatementSteps.{no_else_path}
-use Rattle.parser.proofs.Reaching.{along, begun, comes, done, emits, may_act, starves, told}
+use Rattle.parser.proofs.Reaching.{begun, comes, done, emits, may_act, starves, told, turned}
 use Rattle.parser.proofs.automaton.Automaton.else_part.Goals as goal
 
 pub act-requires : goal.act-requires
 act-requires g c =
     let other : is_keyword keyword.Else (token_of c.args.self.now.tokens) ≡ false = cc in
-    record { follows = may_act c.requires.at (emits Decide tt (λ values n. refl) (along (no_else_path other) begun)) }
+    record { follows = may_act c.requires.at (emits Decide tt (λ values n. refl) (turned (no_else_path other) begun)) }
 
 pub returns-in_err-act-clause-moves : goal.returns-in_err-act-clause-moves
 returns-in_err-act-clause-moves g c =
@@ -21,5 +21,6 @@ pub returns-clause-moves : goal.returns-clause-moves
 returns-clause-moves g c =
     let other : is_keyword keyword.Else (token_of c.args.self.now.tokens) ≡ false = cc in
     λ o h.
-    comes h (done (told c.in_ok-act.ensures.ok (emits Decide tt (λ values n. refl) (along (no_else_path other) begun))) o h)
+    comes h
+    (done (told c.in_ok-act.ensures.ok (emits Decide tt (λ values n. refl) (turned (no_else_path other) begun))) o h)
     (omega (arith, h.depth)) (omega (arith, h.few)) (statement_done h.fits.takes.1)

@@ -19,14 +19,14 @@ report_end-requires g c =
     record {
       follow =
           rw c.variable_count-variables.ensures.count
-          (end_follows (no_statement_path c.requires.starts h.path) h.told h.new);
+          (end_follows (no_statement_path c.requires.starts _ _ _ h.path) h.told h.new);
     }
 
 pub returns-in_err-report_end-clause-moves : goal.returns-in_err-report_end-clause-moves
 returns-in_err-report_end-clause-moves g c =
     rw (passed_on c.from_residual.result c.from_residual.ensures.1) (λ o h.
     rw c.in_err-report_end.ensures.kept.tokens (end_refused c.in_err-report_end.field-0.0
-    (no_statement_path c.requires.starts h.path) c.requires.starts h.told h.new
+    (no_statement_path c.requires.starts _ _ _ h.path) c.requires.starts h.told h.new
     c.in_err-report_end.ensures.ends))
 
 pub returns-in_err-advance-clause-moves : goal.returns-in_err-advance-clause-moves
@@ -43,7 +43,7 @@ returns-in_err-advance-clause-moves g c =
     c.in_err-advance.ensures.consumes (subst (λ (t : ScopedCursor). Path o.origin
     (Exactly punctuator.CloseCurly ∷ Close ∷ Part Source ∷ stack_of c.args.self.now.frames) []
     (h.acts ++ end_actions (length (scope_of c.args.self.now.tokens).current.variables)) t) (sym same)
-    (function_ends (no_statement_path c.requires.starts h.path) h.told h.new closes)))
+    (function_ends (no_statement_path c.requires.starts _ _ _ h.path) h.told h.new closes)))
 
 pub returns-clause-moves : goal.returns-clause-moves
 returns-clause-moves g c =
@@ -61,6 +61,6 @@ returns-clause-moves g c =
     (subst (λ (t : ScopedCursor). Path o.origin
     (Exactly punctuator.CloseCurly ∷ Close ∷ Part Source ∷ stack_of c.args.self.now.frames) []
     (h.acts ++ end_actions (length (scope_of c.args.self.now.tokens).current.variables)) t) (sym same)
-    (function_ends (no_statement_path c.requires.starts h.path) h.told h.new closes))))
+    (function_ends (no_statement_path c.requires.starts _ _ _ h.path) h.told h.new closes))))
     (told_more _ _ closes.added h.told) (omega (arith, h.depth)) (omega (arith, h.few))
     (h.fits.takes.1, refl))

@@ -14,5 +14,6 @@ returns-in_err-act-clause-moves g c =
 
 pub returns-clause-moves : goal.returns-clause-moves
 returns-clause-moves g c = λ o h.
-    comes h (done (told c.in_ok-act.ensures.ok (emits DecideElse tt (λ values n. refl) begun)) o h) (omega (arith, h.depth))
+    comes h (done (told c.in_ok-act.ensures.ok (emits DecideElse tt (λ values n. refl) begun)) o h)
+    (omega (arith, h.depth))
     (omega (arith, h.few)) (statement_done h.fits.takes.1)

@@ -4,27 +4,31 @@ use Rattle.tokens.specs.declared.located_tokens.Keyword.TheVariants as keyword
 use Rattle.grammar.specs.Grammar.{AKeyword, Exactly}
 use Rattle.parser.proofs.AutomatonLaws.{awaits}
 use Rattle.parser.proofs.Forms.{if_begins}
-use Rattle.parser.proofs.Reaching.{begun, comes, matched, misfits, nests_word, stops, taken, worded}
+use Rattle.parser.proofs.Reaching.{comes, matched, misfits, nests_word, stops, taken, worded}
 use Rattle.parser.proofs.automaton.Automaton.if_statement.Goals as goal
 
 pub returns-in_err-check_nesting-clause-moves : goal.returns-in_err-check_nesting-clause-moves
 returns-in_err-check_nesting-clause-moves g c =
-    nests_word _ c.from_residual.result if_begins c.from_residual.ensures.1 c.in_err-check_nesting.ensures.refused
+    nests_word _ _ c.from_residual.result if_begins c.from_residual.ensures.1 c.in_err-check_nesting.ensures.refused
     c.requires.starts
 
 pub returns-in_err-advance-clause-moves : goal.returns-in_err-advance-clause-moves
 returns-in_err-advance-clause-moves g c =
-    stops _ _ c.from_residual-in_err-advance.result (AKeyword keyword.If) c.from_residual-in_err-advance.ensures.1 c.requires.starts c.in_err-advance.ensures.kept
+    stops _ _ c.from_residual-in_err-advance.result (AKeyword keyword.If) c.from_residual-in_err-advance.ensures.1
+    c.requires.starts c.in_err-advance.ensures.kept
     c.in_err-advance.ensures.consumes (worded if_begins c.requires.starts c.in_ok-check_nesting.ensures.ok)
 
 pub returns-in_err-expect-clause-moves : goal.returns-in_err-expect-clause-moves
 returns-in_err-expect-clause-moves g c =
-    misfits _ _ c.from_residual-in_err-expect.result (Exactly punctuator.OpenRound) c.from_residual-in_err-expect.ensures.1 c.in_err-expect.ensures.kept
-    c.in_err-expect.ensures.matches (taken c.requires.starts c.in_ok-advance.ensures.consumes c.in_ok-advance.ensures.kept
+    misfits _ _ c.from_residual-in_err-expect.result (Exactly punctuator.OpenRound)
+    c.from_residual-in_err-expect.ensures.1 c.in_err-expect.ensures.kept
+    c.in_err-expect.ensures.matches (taken c.requires.starts c.in_ok-advance.ensures.consumes
+    c.in_ok-advance.ensures.kept
     (worded if_begins c.requires.starts c.in_ok-check_nesting.ensures.ok))
 
 pub returns-clause-moves : goal.returns-clause-moves
 returns-clause-moves g c = λ o h.
-    rw c.push.ensures (comes h (matched c.in_ok-expect.ensures.passes (taken c.requires.starts c.in_ok-advance.ensures.consumes c.in_ok-advance.ensures.kept
+    rw c.push.ensures (comes h (matched c.in_ok-expect.ensures.passes (taken c.requires.starts
+    c.in_ok-advance.ensures.consumes c.in_ok-advance.ensures.kept
     (worded if_begins c.requires.starts c.in_ok-check_nesting.ensures.ok)) o h) (omega (arith, h.depth))
     (omega (arith, c.in_ok-check_nesting.ensures.ok)) (awaits (refl, h.fits) tt))
