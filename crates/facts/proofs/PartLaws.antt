@@ -68,7 +68,8 @@ pub has_parts : (p : Profile) (bytes : List ℕ) (names : Pools) (spans : Source
     AreNamesOf p bytes names → AreSpansOf Questions p (Some bytes) spans →
     map cycles_told functions ≡ map (cycles_of_run names) spans.runs.items →
     map cycles_told loops ≡ map (cycles_of_turn names) spans.turns.items →
-    ((file : File) (kind : ℕ) (asked : Intrinsic) → compiled p bytes ≡ Ok file → slice_get all_intrinsics kind ≡ Some asked
+    ((file : File) (kind : ℕ) (asked : Intrinsic) → compiled p bytes ≡ Ok file →
+    slice_get all_intrinsics kind ≡ Some asked
     → HaveQuestions p file functions loops kind asked) → HasParts p bytes functions loops
 has_parts p bytes names spans functions loops called are runs turns questions =
     let file = same_file p bytes called.file are.file called.is (are.is bytes refl) in

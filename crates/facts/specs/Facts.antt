@@ -87,8 +87,8 @@ abbrev pub back_among : List ℕ → (again : Option ℕ) → List ℕ
 back_among numbers None = []
 back_among numbers (Some again) = take 1 (drop again numbers)
 
--- The functions of the file that these bytes are that call one another where main needs most, each once, and how many of
--- them stand before the one that the last one calls, if it calls one.
+-- The functions of the file that these bytes are that call one another where main needs most, each once, and how many
+-- of them stand before the one that the last one calls, if it calls one.
 pub record HasChain (profile : Profile) (bytes : List ℕ) (chain : Chain) : Type 0 where
   pub file : File
   pub is : compiled profile bytes ≡ Ok file

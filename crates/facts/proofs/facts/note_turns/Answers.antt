@@ -10,7 +10,8 @@ loop-index-preserved c =
     let l = c.loop-index in
     elim c.match-get.branch [
       | in-Some w ↦
-          let inside : c.loop-index.index < length c.loop-index.parts = omega (arith, c.loop-index-test.true, l.invariant.long) in
+          let inside : c.loop-index.index < length c.loop-index.parts =
+          omega (arith, c.loop-index-test.true, l.invariant.long) in
           record {
             long = ap length w.parts-is ∙ length-set l.parts l.index w.noted.result ∙ l.invariant.long;
             same =
