@@ -53,9 +53,6 @@ fn a_series_stops_at_failed_totals(rt: HostRuntime) -> Result<(), Fail> {
     let mut series = Series::new(&programs, &settings);
     let mut out = MemorySink::new(rt.alloc()).failing_after(1);
     assert_eq!(rt; series.next(&mut out), Ok(Step::Played(1)));
-    let Ok(Step::Over) = series.next(&mut out) else {
-        return Err("a match is left".into());
-    };
     assert_eq!(rt; series.finish(&mut out), Err(DeviceFault));
     assert!(rt; series.has_failed());
     assert_eq!(rt; series.next(&mut out), Err(DeviceFault));
