@@ -49,6 +49,18 @@ impl<'a> Executables<'a> {
         self.exes.len()
     }
 
+    /// Lends the executable of the robot with this number.
+    #[inline(always)]
+    pub(crate) fn lent(&self, robot: usize) -> &Executable<'a>
+        requires { robot < length self.now }
+        ensures { slice_get self.now robot ≡ Some result.now }
+    {
+        match &self.exes.as_slice()[robot] {
+            Some(exe) => exe,
+            None => unreachable!(),
+        }
+    }
+
     /// Returns the executable of the robot with this number: one of its own, so that the program is not looked up again
     /// after each of the robot's turns.
     #[inline(always)]

@@ -21,6 +21,7 @@ use grammar::Intrinsic;
 pub(crate) fn take_turn(
     machine: &mut Engine,
     exe: &Executable<'_>,
+    home: &Executable<'_>,
     arena: &mut Arena,
     robot: usize,
     question: Question,
@@ -48,13 +49,13 @@ pub(crate) fn take_turn(
         Question::Drive(_, degree, speed) => {
             machine.reply(exe, question, arena.drive(robot, degree, speed));
         }
-        Question::Restart => machine.restart(exe),
+        Question::Restart => machine.restart(home),
         Question::Plain(want) => match want {
             Want::Ask(intrinsic, words) => {
                 machine.reply(exe, question, ask_plainly(arena, robot, intrinsic, words));
             }
             // no quiet want is asked (`some` of `MayTakeTurn`), so it wants a restart
-            _ => machine.restart(exe),
+            _ => machine.restart(home),
         },
     }
 }
