@@ -1,0 +1,1 @@
+main(){int i; while(1){ i = speed(); }}
