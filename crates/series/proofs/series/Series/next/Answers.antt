@@ -45,7 +45,8 @@ invariant_of-self g c =
 next_is : (g : Over) (c : After-put_report g)
     → IsNext c.self.inside.settings.now c.self.inside.tally.matches (c.first.result + c.matches.result)
 next_is g c = next_match _ _ _ (is_left _ _ c.self.invariant.2
-    (ap (λ (s : Series). nat_eq s.played s.settings.matches) c.self.view_is ∙ sym c.is_over.ensures ∙ c.if-is_over.false))
+    (ap (λ (s : Series). nat_eq s.played s.settings.matches) c.self.view_is ∙ sym c.is_over.ensures ∙
+    c.if-is_over.false))
     (omega arith)
 
 -- the report is that one's
