@@ -4,6 +4,16 @@ use std::alloc::AllocError;
 use std::fmt;
 use tools::Plain;
 
+const NO_COMMAND: &str = "not at, next, last, all, value, calls, code or quit";
+
+const NO_EVENT: &str = "not line, in, ask, restart, hurt, hit, change or value";
+
+const NOT_ONE: &str = "in several functions, so it wants one: FUNCTION.NAME";
+
+const ACTS: &str = "an expression calls nothing and sets nothing";
+
+const NO_PART: &str = "not where EXPRESSION, count NUMBER, or after all show EXPRESSION";
+
 /// Why a command isn't answered.
 #[derive(Clone, Copy)]
 pub enum Refusal<'a> {
@@ -43,48 +53,32 @@ pub enum Refusal<'a> {
 
 impl<'a> fmt::Display for Refusal<'a> {
     fn fmt<W: fmt::Write>(&self, f: &mut fmt::Formatter<W>) -> fmt::Result {
-        let (word, says) = match *self {
-            Refusal::NoText => return f.write_str("the line is no text"),
-            Refusal::Memory => return f.write_str("out of memory"),
-            Refusal::Form(form) => {
-                f.write_str("the form is ")?;
-                return f.write_str(form);
-            }
-            Refusal::Call(frames) => {
-                return write!(f, "{frames}: no call is open with so many frames");
-            }
+        match *self {
+            Refusal::NoText => f.write_str("the line is no text"),
+            Refusal::Memory => f.write_str("out of memory"),
+            Refusal::Form(form) => write!(f, "the form is {form}"),
+            Refusal::Call(frames) => write!(f, "{frames}: no call is open with so many frames"),
             Refusal::Number(word, least, most) => {
-                return write!(f, "{}: no number from {least} to {most}", Plain(word));
+                write!(f, "{}: no number from {least} to {most}", Plain(word))
             }
-            Refusal::Command(word) => {
-                (word, "not at, next, last, all, value, calls, code or quit")
-            }
-            Refusal::Event(word) => {
-                (
-                    word,
-                    "not line, in, ask, restart, hurt, hit, change or value",
-                )
-            }
-            Refusal::Lines(word) => (word, "no lines, as 3 or 5,8-12"),
-            Refusal::NoCode(word) => (word, "no code in these lines"),
-            Refusal::Function(word) => (word, "no intrinsic function"),
-            Refusal::Name(word) => (word, "no variable"),
-            Refusal::Several(word) => (
-                word,
-                "in several functions, so it wants one: FUNCTION.NAME",
-            ),
-            Refusal::Expression(words) => (words, "no expression"),
-            Refusal::Acts(words) => (words, "an expression calls nothing and sets nothing"),
-            Refusal::Count(words) => (words, "not as 3, >= 3 or % 3"),
-            Refusal::Part(words) => {
-                (
-                    words,
-                    "not where EXPRESSION, count NUMBER, or after all show EXPRESSION",
-                )
-            }
-        };
-        write!(f, "{}: {says}", Plain(word))
+            Refusal::Command(word) => refuse(f, word, NO_COMMAND),
+            Refusal::Event(word) => refuse(f, word, NO_EVENT),
+            Refusal::Lines(word) => refuse(f, word, "no lines, as 3 or 5,8-12"),
+            Refusal::NoCode(word) => refuse(f, word, "no code in these lines"),
+            Refusal::Function(word) => refuse(f, word, "no intrinsic function"),
+            Refusal::Name(word) => refuse(f, word, "no variable"),
+            Refusal::Several(word) => refuse(f, word, NOT_ONE),
+            Refusal::Expression(words) => refuse(f, words, "no expression"),
+            Refusal::Acts(words) => refuse(f, words, ACTS),
+            Refusal::Count(words) => refuse(f, words, "not as 3, >= 3 or % 3"),
+            Refusal::Part(words) => refuse(f, words, NO_PART),
+        }
     }
+}
+
+/// Writes words that a command isn't answered for, and why.
+fn refuse<W: fmt::Write>(f: &mut fmt::Formatter<W>, words: &str, why: &str) -> fmt::Result {
+    write!(f, "{}: {why}", Plain(words))
 }
 
 impl<'a> From<AllocError> for Refusal<'a> {
