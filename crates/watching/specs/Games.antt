@@ -2,9 +2,10 @@
 use Rattle.std.specs.Prelude.{◌≡◌, ◌⊎◌, ◌<◌, ◌≤◌, ◌+◌, ◌*◌, ◌/◌, ℕ, Bool, true, false, List, length}
 use Rattle.arena.specs.Arena.{Arena}
 use Rattle.battles.specs.Battle.{Behaviour, BattleState, is_over, state_after, turns, update_cycles}
+use Rattle.battles.specs.Carrying.{AreRobotsOf}
 use Rattle.code.specs.Generation.{Program}
 use Rattle.watching.specs.Pilot.{Pilot}
-use Rattle.watching.specs.Played.{HavePlayed, IsEndOf}
+use Rattle.watching.specs.Played.{HavePlayed, IsEndOf, codes_of, exes_of}
 use Rattle.watching.specs.declared.games.PlayEnd.{PlayEnd}
 
 -- its field, how far it has come, and its limit of cycles
@@ -26,6 +27,15 @@ pub record HaveTakenTurns (codes : List Program) (robots : List Behaviour) (open
   pub played : HavePlayed codes seats game.arena
       (turns robots (length robots) (state_after robots opening game.ending.cycles))
   pub ends : IsEndOf robots opening game.limit game.ending
+
+-- The robots take their turns of the next cycle: each keeps its program, and the cycle hasn't ended.
+pub record TakesTurns (old new : Game) (before after : List Pilot) : Type 0 where
+  pub battle : (robots : List Behaviour) (s : BattleState) → AreRobotsOf (exes_of (codes_of before)) robots
+      → HasCome (codes_of before) robots s before old → HaveTakenTurns (codes_of before) robots s after new
+  pub codes : codes_of after ≡ codes_of before
+  pub manned : length new.arena.robots ≡ length after
+  pub ending : new.ending ≡ old.ending
+  pub limit : new.limit ≡ old.limit
 
 -- one cycle more of the same match
 pub record GoesOn (old new : Game) : Type 0 where

@@ -8,7 +8,7 @@ ghost use Rattle.arena.specs.Representing.{RepresentsField};
 ghost use Rattle.battles.specs.Battle.{Behaviour, BattleState, first_state, is_due, state_after, turns};
 ghost use Rattle.battles.specs.Carrying.{AreRobotsOf, EachIsAheadOf};
 ghost use Rattle.code.specs.Generation.{Program};
-ghost use Rattle.watching.specs.Games.{EndsWell, GoesOn, HasCome, HasEnded, HaveTakenTurns};
+ghost use Rattle.watching.specs.Games.{EndsWell, GoesOn, HasCome, HasEnded, HaveTakenTurns, TakesTurns};
 ghost use Rattle.watching.specs.Pilot.{Pilot};
 ghost use Rattle.watching.specs.Played.{HavePlayed, HaveUpdated, IsPlayed, codes_of, exes_of, runners_of};
 ghost use Rattle.watching.specs.Sights.{Begins, Sight, Updated, Updates, cycle_sights, sights_of, turns_sights, update_sights};
@@ -118,13 +118,7 @@ impl Game {
     pub fn take_turns<W: Watcher>(&mut self, pilots: &mut [Pilot<'_>], watcher: &mut W)
         requires manned { length self.old.arena.robots ≡ length pilots.old }
         requires goes_on { self.old.ending.is_over ≡ false }
-        ensures battle { (robots : List Behaviour) (s : BattleState) → AreRobotsOf (exes_of (codes_of pilots.old)) robots
-            → HasCome (codes_of pilots.old) robots s pilots.old self.old
-            → HaveTakenTurns (codes_of pilots.old) robots s pilots.new self.new }
-        ensures codes { codes_of pilots.new ≡ codes_of pilots.old }
-        ensures manned { length self.new.arena.robots ≡ length pilots.new }
-        ensures ending { self.new.ending ≡ self.old.ending }
-        ensures limit { self.new.limit ≡ self.old.limit }
+        ensures turns { TakesTurns self.old self.new pilots.old pilots.new }
         ensures told { (robots : List Behaviour) (s : BattleState) (sights : List Sight)
             → AreRobotsOf (exes_of (codes_of pilots.old)) robots
             → HasCome (codes_of pilots.old) robots s pilots.old self.old → W.told watcher.old sights → W.told watcher.new
@@ -161,13 +155,13 @@ impl Game {
         let is_decided = update_after(&mut self.arena, watcher, cycle);
         self.ending = PlayEnd {
             cycles: cycle,
-            is_over: is_last(is_decided, cycle, self.limit),
+            is_over: is_last_of_match(is_decided, cycle, self.limit),
         };
     }
 }
 
-/// Reports whether a cycle is a match's last one: it decides the match, or reaches the limit.
-fn is_last(is_decided: bool, cycle: u32, limit: u32) -> bool
+/// Reports whether a cycle is the last one of a match: it decides the match, or reaches the limit.
+fn is_last_of_match(is_decided: bool, cycle: u32, limit: u32) -> bool
     ensures { result ≡ (is_decided || cycle == limit) }
 {
     is_decided || cycle == limit

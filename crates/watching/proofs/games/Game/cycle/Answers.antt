@@ -8,12 +8,12 @@ pub returns-clause-told : goal.returns-clause-told
 returns-clause-told g c = λ robots s sights are come told.
     let n = c.args.self.now.ending.cycles in
     let now = state_after robots s n in
-    let turned = c.take_turns.ensures.battle robots s are come in
+    let turned = c.take_turns.ensures.turns.battle robots s are come in
     let field = (turns robots (length robots) now).field in
     rw (cycle_is robots (n + 1) now)
     (two_told (g.W.Watcher.told c.end_cycle.new.watcher) sights (turns_sights robots (n + 1) now (length robots))
     (update_sights (n + 1) field)
-    (rw c.take_turns.ensures.ending at (c.end_cycle.ensures.told
+    (rw c.take_turns.ensures.turns.ending at (c.end_cycle.ensures.told
     (turns robots (length robots) (state_after robots s c.take_turns.new.self.ending.cycles)).field
     (sights ++ turns_sights robots (n + 1) now (length robots)) turned.played.field
     (c.take_turns.ensures.told robots s sights are come told))))

@@ -15,9 +15,9 @@ returns-clause-battle g c = λ codes robots s seats turned.
     let counted : IsCounted old = c.self.invariant.0 in
     comes_on codes robots s seats old (the_view (record {
       arena = c.update_after-is_decided.new.arena;
-      ending = record { cycles = old.ending.cycles + 1; is_over = c.is_last.result };
+      ending = record { cycles = old.ending.cycles + 1; is_over = c.is_last_of_match.result };
       limit = old.limit;
-    })) c.update_after-is_decided.result (counted.goes_on on) on refl refl c.is_last.ensures
+    })) c.update_after-is_decided.result (counted.goes_on on) on refl refl c.is_last_of_match.ensures
     (c.update_after-is_decided.ensures.battle codes robots s seats old.ending.cycles refl) before
 
 pub returns-clause-told : goal.returns-clause-told

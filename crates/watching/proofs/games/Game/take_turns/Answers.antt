@@ -6,14 +6,21 @@ use Rattle.watching.specs.Sights.{turns_sights}
 use Rattle.watching.specs.contracts.games.Game.{the_view}
 use Rattle.watching.proofs.games.Game.take_turns.Goals as goal
 
-pub returns-clause-battle : goal.returns-clause-battle
-returns-clause-battle g c = λ robots s are come.
+pub returns-clause-turns : goal.returns-clause-turns
+returns-clause-turns g c =
     let codes = codes_of c.args.pilots.now in
     let old = the_view c.self.inside in
-    let came : HasCome codes robots s c.args.pilots.now old = rw c.self.view_is come in
     record {
-      played = c.turns.ensures.state robots (state_after robots s old.ending.cycles) are came.played;
-      ends = came.ends;
+      battle = λ robots s are come.
+          let came : HasCome codes robots s c.args.pilots.now old = rw c.self.view_is come in
+          record {
+            played = c.turns.ensures.state robots (state_after robots s old.ending.cycles) are came.played;
+            ends = came.ends;
+          };
+      codes = c.turns.ensures.codes;
+      manned = search;
+      ending = search;
+      limit = search;
     }
 
 pub returns-clause-told : goal.returns-clause-told
