@@ -280,14 +280,6 @@ impl Arena {
         let _ = &self.updates;
     }
 
-    /// Proves that each robot has its missiles.
-    pub(crate) fn prove_slots(&self)
-        ensures { length self.now.slots ≡ length self.now.robots }
-    {
-        // For the proof alone: a field that is read brings the arena's invariant.
-        let _ = &self.updates;
-    }
-
     /// Returns the number of the next update.
     pub(crate) fn next_update(&self) -> u32
         ensures { result ≡ self.now.updates + 1 }

@@ -8,7 +8,7 @@ ghost use Rattle.arena.specs.Due.{burst_damage};
 
 use crate::points::Point;
 use crate::rules::{
-    INNER_RING, LAST_RING, LAST_RING_DAMAGE, MIDDLE_RING, MIDDLE_RING_DAMAGE, MOST_BURST_DAMAGE,
+    INNER_RING, INNER_RING_DAMAGE, LAST_RING, LAST_RING_DAMAGE, MIDDLE_RING, MIDDLE_RING_DAMAGE,
     MOST_BURSTS, MOST_ROBOTS, MOST_UPDATE_DAMAGE,
 };
 
@@ -65,7 +65,7 @@ impl Burst {
     #[tactic(auto, unfolding(crate::specs::Due::burst_damage))]
     pub(crate) fn harm(&self, place: Point) -> u8
         ensures value { result ≡ burst_damage place.x place.y self.now }
-        ensures most { result ≤ MOST_BURST_DAMAGE }
+        ensures most { result ≤ INNER_RING_DAMAGE }
     {
         ring(place.square_to(self.at))
     }
@@ -108,10 +108,10 @@ fn is_far(from: u16, to: u16) -> bool
 #[tactic(auto, unfolding(crate::specs::Shots::ring))]
 fn ring(square: u32) -> u8
     ensures value { result ≡ ring square }
-    ensures most { result ≤ MOST_BURST_DAMAGE }
+    ensures most { result ≤ INNER_RING_DAMAGE }
 {
     if square <= INNER_SQUARE {
-        MOST_BURST_DAMAGE
+        INNER_RING_DAMAGE
     } else if square <= MIDDLE_SQUARE {
         MIDDLE_RING_DAMAGE
     } else if square <= LAST_SQUARE {

@@ -14,7 +14,8 @@ use crate::rules::MOST_MISSILES;
 pub fn damage_adds_up(arena: &Arena)
     ensures { (f : Field) → RepresentsField arena.now f → AddsUp f }
 {
-    arena.prove_slots();
+    // For the proof alone: each robot has slots for its missiles.
+    let _missiles = arena.missiles();
 }
 
 /// Proves that no robot has more than two missiles in the air, in any field that an arena represents.

@@ -13,7 +13,7 @@ use crate::bursts::Burst;
 use crate::collisions::{AttemptedMove, robot_collision_count};
 use crate::points::Point;
 use crate::robots::Robot;
-use crate::rules::{MOST_BURST_DAMAGE, MOST_BURSTS, MOST_ROBOTS, MOST_SPEED};
+use crate::rules::{INNER_RING_DAMAGE, MOST_BURSTS, MOST_ROBOTS, MOST_SPEED};
 use crate::updates::move_all_with_attempts;
 use arrayvec::ArrayVec;
 
@@ -78,7 +78,7 @@ impl Arena {
     /// 3, 5 or 10. It takes nothing from a dead robot.
     pub fn taken_by(&self, robot: usize, burst: &Burst) -> u8
         requires { robot < length self.now.robots }
-        ensures most { result ≤ MOST_BURST_DAMAGE }
+        ensures most { result ≤ INNER_RING_DAMAGE }
         ensures stands { (f : Field) → RepresentsField self.now f → result ≡ taken_by f robot burst.now }
     {
         if !self.alive(robot) {

@@ -65,7 +65,7 @@ pub const MIDDLE_RING: u16 = 200;
 pub const LAST_RING: u16 = 400;
 
 /// What a burst takes in the inner ring, and the most that a burst takes.
-pub const MOST_BURST_DAMAGE: u8 = 10;
+pub const INNER_RING_DAMAGE: u8 = 10;
 
 /// What a burst takes in the middle ring.
 pub const MIDDLE_RING_DAMAGE: u8 = 5;
@@ -74,7 +74,7 @@ pub const MIDDLE_RING_DAMAGE: u8 = 5;
 pub const LAST_RING_DAMAGE: u8 = 3;
 
 /// The most that the bursts of an update take.
-pub const MOST_UPDATE_DAMAGE: u8 = MOST_BURSTS as u8 * MOST_BURST_DAMAGE;
+pub const MOST_UPDATE_DAMAGE: u8 = MOST_BURSTS as u8 * INNER_RING_DAMAGE;
 
 /// The greatest limit of a random number.
 pub const MOST_RANDOM_LIMIT: i32 = 32767;
