@@ -1,7 +1,6 @@
 //! What is known of a robot, as an object of JSON on a line.
 
 use cycles::Span;
-use derivations::name_text;
 use facts::{Facts, Link, Part, Stretch};
 use grammar::Intrinsic;
 use tools::{Array, Draft, Object, Text, add_number_or_null};
@@ -39,7 +38,7 @@ fn add_links(text: &mut Draft, links: &[Link]) {
     let mut array = Array::begin(text);
     for link in links {
         let mut object = Object::begin(array.item());
-        object.words("name", name_text(&link.name));
+        object.words("name", link.name.as_str());
         object.number("line", u64::from(link.line));
         object.number("variables", u64::from(link.variables));
         object.end();
@@ -63,7 +62,7 @@ fn add_parts(text: &mut Draft, parts: &[Part], are_loops: bool) {
 
 /// Adds the fields that functions and loops have.
 fn add_part(object: &mut Object<'_>, part: &Part) {
-    object.words("name", name_text(&part.name));
+    object.words("name", part.name.as_str());
     object.number("line", u64::from(part.line));
     add_span(object.field("cycles"), part.cycles);
     for (intrinsic, questions) in Intrinsic::ALL.iter().zip(&part.questions) {

@@ -4,7 +4,7 @@
 use crate::refusals::Refusal;
 use arith::binop;
 use code::{Instr, Machine};
-use derivations::{Compiled, Located, compile, locate, name_text};
+use derivations::{Compiled, Located, compile, locate};
 use grammar::{Name, ParseFault, Var};
 use notes::NotedProgram;
 use std::alloc::{AllocError, Global};
@@ -181,7 +181,7 @@ fn source_of(
 fn add_declarations(text: &mut Draft, names: &[Name]) {
     for name in names {
         text.add("int ");
-        text.add(name_text(name));
+        text.add(name.as_str());
         text.add(";");
     }
 }

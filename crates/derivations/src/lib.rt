@@ -26,7 +26,7 @@ pub use choices::{choice, enters};
 pub use compiling::{Compiled, CompiledSource, compile, compile_source, positions_of};
 pub use emissions::{Emission, MOST_ACTIONS, Origin};
 pub use locations::{Located, MOST_TOKENS, Tokens, locate, locate_in};
-pub use named_programs::{NamedProgram, function_at, name_text};
+pub use named_programs::{NamedProgram, function_at};
 pub use source_tree::{Body, MOST_NODES, Node, NodeKind, SourceTree};
 pub use steps::{Derivation, Pending, StepEnd};
 pub use sums::{Loop, Sum, Sums};

@@ -1,11 +1,10 @@
 //! What the instructions of a program name by number, and where its lines are entered.
 
-ghost use Rattle.std.specs.Prelude.{◌≡◌, ℕ, ◌<◌, ◌≤◌, ◌⊎◌, ◌↔◌, IsTrue, IsUtf8, length, slice_index};
+ghost use Rattle.std.specs.Prelude.{◌≡◌, ℕ, ◌<◌, ◌≤◌, ◌⊎◌, ◌↔◌, IsTrue, length, slice_index};
 
 use crate::addresses::SourcePositions;
 use code::{Instr, Program};
 use grammar::{Callee, Pools, Var};
-use std::str;
 use tokens::Name;
 
 /// A program, and the names of its file, which it hasn't.
@@ -26,7 +25,7 @@ impl<'a> NamedProgram<'a> {
     /// Returns the name of the function of this number, a question mark if there is none.
     pub fn function_name(&self, number: usize) -> &'a str {
         match self.names.functions().get(number) {
-            Some(function) => name_text(function.name()),
+            Some(function) => function.name().as_str(),
             None => "?",
         }
     }
@@ -67,7 +66,7 @@ impl<'a> NamedProgram<'a> {
             Var::External(number) => (self.names.externals(), number),
             Var::Local(number) => (self.variables(function), number),
         };
-        names.get(usize::from(number)).map_or("?", name_text)
+        names.get(usize::from(number)).map_or("?", Name::as_str)
     }
 
     /// Reports whether the line of an instruction is entered at it: it is the first one of its line or function, or a
@@ -93,13 +92,6 @@ impl<'a> NamedProgram<'a> {
         }
         false
     }
-}
-
-/// Returns a name as text. Names are ASCII.
-pub fn name_text(name: &Name) -> &str
-    ensures { IsUtf8 name.now → result.now ≡ name.now }
-{
-    str::from_utf8(name.as_bytes()).unwrap_or("?")
 }
 
 /// Returns the number of the function that holds an address: of those that begin there or before, the last. The

@@ -13,7 +13,7 @@ use crate::rewriting::Rewrite;
 use crate::steps::{asks_for, body_at, degree_of, steps_on};
 use crate::variables::set_by;
 use crate::warnings::{Said, Subject, Warnings};
-use derivations::{Located, Node, NodeKind, name_text};
+use derivations::{Located, Node, NodeKind};
 use grammar::{Callee, Intrinsic, Op, StoreOp, Var};
 
 /// Returns the index of the last node before another one of its function that sets a variable to what a scan answers.
@@ -282,7 +282,7 @@ pub fn add_turned(note: &mut Note, tokens: &[Located], token: usize) {
         "the degree has changed since the `scan` of this range, so the shot goes in another direction: change ",
     );
     if let Some(name) = name_at(tokens, token) {
-        note.quote(name_text(&name));
+        note.quote(name.as_str());
     }
     note.add(" after the shot");
 }

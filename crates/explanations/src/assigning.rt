@@ -4,7 +4,7 @@ use crate::foreign::is_foreign;
 use crate::heads::{add_head, line_from};
 use crate::indices::{is_called, name_at};
 use crate::notes::Note;
-use derivations::{Located, name_text};
+use derivations::Located;
 use std::str;
 use tokens::{Name, Punctuator, Token};
 
@@ -24,7 +24,7 @@ pub fn add_declaration(note: &mut Note, source: &[u8], tokens: &[Located], index
                 return add_head(note, source, tokens, at);
             }
             note.add(": write `int ");
-            note.add(name_text(&name));
+            note.add(name.as_str());
             note.add(";`");
             let equals = at.saturating_add(1);
             if is_mark(tokens, equals, Punctuator::Equals) {
@@ -87,7 +87,7 @@ fn exchanges(tokens: &[Located], first: usize, equals: usize) -> bool {
 
 /// Adds the assignment to a name of the value behind the token of an index.
 fn add_assignment(note: &mut Note, source: &[u8], tokens: &[Located], name: &Name, before: usize) {
-    note.add(name_text(name));
+    note.add(name.as_str());
     note.add(" = ");
     note.add(value_behind(source, tokens, before));
     note.push(';');

@@ -6,7 +6,7 @@ use crate::indices::token_at;
 use crate::notes::Note;
 use crate::scenes::Scene;
 use crate::told::spelling_of;
-use derivations::{Item, Located, Role, name_text};
+use derivations::{Item, Located, Role};
 use grammar::intrinsic_named;
 use tokens::{Keyword, Name, Punctuator, Token};
 
@@ -135,7 +135,7 @@ fn add_names(note: &mut Note, tokens: &[Located], first: usize) -> Option<()> {
     for (number, located) in tokens.get(first..)?.iter().enumerate() {
         match located.token {
             Token::Keyword(Keyword::Type) => {}
-            Token::Name(name) => note.add(name_text(&name)),
+            Token::Name(name) => note.add(name.as_str()),
             Token::Punctuator(Punctuator::Comma) => note.add(", "),
             Token::Punctuator(Punctuator::Semicolon) => return Some(()),
             _ => return None,

@@ -3,7 +3,7 @@
 use crate::indices::{follows, is_called, name_at, token_at};
 use crate::notes::Note;
 use crate::spelling::is_same_but_for_case;
-use derivations::{Located, name_text};
+use derivations::Located;
 use grammar::MOST_NAMES;
 use std::str;
 use tokens::{Keyword, Punctuator, Token};
@@ -125,7 +125,7 @@ pub fn add_head(note: &mut Note, source: &[u8], tokens: &[Located], index: usize
             && is_called(tokens, at)
         {
             note.add(": write `");
-            note.add(name_text(&name));
+            note.add(name.as_str());
             note.push('(');
             if !name.has_bytes(b"main") {
                 add_parameters(note, source, tokens, at);
@@ -139,7 +139,7 @@ pub fn add_head(note: &mut Note, source: &[u8], tokens: &[Located], index: usize
 pub fn add_arrow(note: &mut Note, source: &[u8], tokens: &[Located], index: usize) {
     note.add("`=>` makes no function: one stands outside of the others: write `");
     if let Some(name) = name_at(tokens, index) {
-        note.add(name_text(&name));
+        note.add(name.as_str());
     }
     note.push('(');
     add_parameters(note, source, tokens, index.saturating_add(1));

@@ -12,7 +12,7 @@ use crate::notes::Note;
 use crate::remarks::add_remark;
 use crate::rewriting::{Rewrite, add_written};
 use crate::told::spelling_of;
-use derivations::{Located, name_text};
+use derivations::Located;
 use grammar::Intrinsic;
 
 /// A hint.
@@ -162,7 +162,7 @@ fn add_halved(note: &mut Note, source: &[u8], tokens: &[Located], index: usize) 
     match (name, tokens.get(index), tokens.get(index.saturating_add(1))) {
         (Some(name), Some(operator), Some(value)) => {
             note.add("write `");
-            note.add(name_text(&name));
+            note.add(name.as_str());
             note.push(' ');
             note.add(spelling_of(source, operator));
             note.push(' ');

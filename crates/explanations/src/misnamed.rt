@@ -11,7 +11,7 @@ use crate::lookalikes::meant_by;
 use crate::notes::Note;
 use crate::spelling::{is_near, is_same_but_for_case};
 use crate::texts::said_of;
-use derivations::{Located, name_text};
+use derivations::Located;
 use grammar::{Code, Intrinsic};
 use tokens::{Name, Punctuator, Token};
 
@@ -137,7 +137,7 @@ fn add_first(note: &mut Note, tokens: &[Located], defined: &[usize], name: &Name
                 note.add(
                     ": one name is one function, whatever its parameters, so give this one another name: write `",
                 );
-                note.add(name_text(name));
+                note.add(name.as_str());
                 note.add("2`");
             }
             return;
@@ -181,7 +181,7 @@ fn add_meant(note: &mut Note, found: &Found<'_>, defined: &[usize], name: &Name)
     } else if let Some(intrinsic) = near_intrinsic(name) {
         add_perhaps(note, intrinsic);
     } else if let Some(function) = near_function(found.tokens, defined, name.as_bytes()) {
-        add_perhaps(note, name_text(&function));
+        add_perhaps(note, function.as_str());
     } else {
         let foreign = foreign_name(found.source, found.tokens, found.index);
         match (foreign, meant_by(name.as_bytes())) {
@@ -264,7 +264,7 @@ fn add_main(note: &mut Note, found: &Found<'_>, defined: &[usize]) {
 /// Adds that a function is perhaps to be `main`.
 fn add_as_main(note: &mut Note, function: &Name) {
     note.add(": perhaps ");
-    note.quote(name_text(function));
+    note.quote(function.as_str());
     note.add(" is to be it");
 }
 

@@ -6,7 +6,7 @@ use crate::assigning::value_end;
 use crate::heads::behind_brackets;
 use crate::indices::{is_called, name_at, token_at};
 use crate::notes::Note;
-use derivations::{Located, name_text, spelled};
+use derivations::{Located, spelled};
 use tokens::{Keyword, Punctuator, Token};
 
 /// The most tokens of a piece that is quoted.
@@ -38,7 +38,7 @@ pub fn add_piece(note: &mut Note, tokens: &[Located], first: usize, end: usize) 
 /// Adds a token as it is written.
 fn add_spelled(note: &mut Note, token: &Token) -> Option<()> {
     match token {
-        Token::Name(name) => note.add(name_text(name)),
+        Token::Name(name) => note.add(name.as_str()),
         Token::Constant(value) => note.number(u64::from(*value)),
         Token::Punctuator(punctuator) => note.add(spelled(*punctuator)),
         Token::Keyword(word) => note.add(word_of(*word)?),
@@ -140,7 +140,7 @@ pub fn add_argument(note: &mut Note, tokens: &[Located], call: usize, number: us
 /// Adds the name of the token of an index.
 pub fn add_name(note: &mut Note, tokens: &[Located], index: usize) -> Option<()> {
     let name = name_at(tokens, index)?;
-    note.add(name_text(&name));
+    note.add(name.as_str());
     Some(())
 }
 

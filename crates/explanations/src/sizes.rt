@@ -5,7 +5,6 @@ use crate::indices::name_at;
 use crate::notes::Note;
 use crate::searches::Search;
 use arrayvec::ArrayVec;
-use derivations::name_text;
 use grammar::MOST_NAMES;
 
 /// The most functions that are named.
@@ -57,7 +56,7 @@ fn add_largest(note: &mut Note, found: &Found<'_>, sizes: &[Size]) {
     for size in sizes.get(..MOST_NAMED).unwrap_or(sizes) {
         if let Some(name) = name_at(found.tokens, size.token) {
             note.add(mark);
-            note.quote(name_text(&name));
+            note.quote(name.as_str());
             note.count(" ", size.instructions as u64, "");
             mark = ", ";
         }

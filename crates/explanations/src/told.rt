@@ -2,7 +2,7 @@
 
 use crate::letters::shown_at;
 use crate::notes::Note;
-use derivations::{Located, name_text, spelled};
+use derivations::{Located, spelled};
 use std::str;
 use tokens::Token;
 
@@ -11,7 +11,7 @@ pub fn add_token(note: &mut Note, source: &[u8], located: &Located) {
     match located.token {
         Token::Name(name) => {
             note.add("the name ");
-            note.quote(name_text(&name));
+            note.quote(name.as_str());
         }
         Token::Keyword(_) => {
             note.add("the word ");

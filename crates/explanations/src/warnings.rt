@@ -21,7 +21,7 @@ use crate::statements::warn_of_statement;
 use crate::values::{warn_of_operator, warn_of_store};
 use crate::variables::{is_truth, warn_of_variables};
 use arrayvec::ArrayVec;
-use derivations::{Located, Node, NodeKind, SourceTree, name_text};
+use derivations::{Located, Node, NodeKind, SourceTree};
 use grammar::{Diagnostic, Profile, intrinsic_named};
 use tokens::{Keyword, Punctuator, Token};
 
@@ -163,7 +163,7 @@ impl Warning {
             Meant::Call => {
                 note.add("; perhaps `");
                 if let Some(name) = name_at(tokens, self.token) {
-                    note.add(name_text(&name));
+                    note.add(name.as_str());
                 }
                 note.add("()` is meant");
             }
@@ -186,7 +186,7 @@ fn add_used(note: &mut Note, tokens: &[Located], token: usize) {
 /// Adds the name that the token of an index is.
 fn add_name(note: &mut Note, tokens: &[Located], token: usize) {
     if let Some(name) = name_at(tokens, token) {
-        note.quote(name_text(&name));
+        note.quote(name.as_str());
     }
 }
 
@@ -203,7 +203,7 @@ fn add_unchanged(note: &mut Note, tokens: &[Located], token: usize) {
         if add_asked(&mut own, tokens, token).is_some() {
             note.add(own.as_str());
         } else {
-            note.add(name_text(&name));
+            note.add(name.as_str());
             note.add(" += 1");
         }
         note.add("` there");
@@ -242,7 +242,7 @@ fn add_grouped(note: &mut Note, tokens: &[Located], percent: usize) {
             Token::Constant(more),
             Token::Constant(whole),
         ) => {
-            note.add(name_text(&name));
+            note.add(name.as_str());
             note.count(" + ", u64::from(more), ")");
             note.count(" % ", u64::from(whole), "`");
         }

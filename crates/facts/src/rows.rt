@@ -4,7 +4,6 @@ use crate::chains::Link;
 use crate::facts::{Facts, Part};
 use crate::ways::Stretch;
 use cycles::Span;
-use derivations::name_text;
 use grammar::Intrinsic;
 use room::Room;
 use tools::{Text, add_left, add_right, visible};
@@ -110,7 +109,7 @@ fn add_chain(text: &mut impl Text, links: &[Link]) {
 fn add_circle(text: &mut impl Text, links: &[Link]) {
     text.add("no bound: ");
     if let Some(first) = links.first() {
-        text.add(name_text(&first.name));
+        text.add(first.name.as_str());
         text.add(" calls itself");
         add_place(text, first);
         text.add(")");
@@ -126,7 +125,7 @@ fn add_links(text: &mut impl Text, links: &[Link]) {
     let mut is_first = true;
     for link in links {
         text.add(if is_first { "" } else { ", " });
-        text.add(name_text(&link.name));
+        text.add(link.name.as_str());
         add_place(text, link);
         match link.variables {
             0 => text.add(")"),
@@ -194,7 +193,7 @@ fn add_part(text: &mut impl Text, part: &Part, what: &str, never: &str) {
 
 /// Adds the name of a function, or of that in which a loop stands, in a column.
 fn add_name(text: &mut impl Text, part: &Part) {
-    add_left(text, name_text(&part.name), NAMES);
+    add_left(text, part.name.as_str(), NAMES);
 }
 
 /// Adds how much there is at least and at most.

@@ -3,7 +3,7 @@
 use crate::robots::Robot;
 use crate::rows::{Subject, add_position, add_range};
 use cycles::{Counted, Runs, Span, all_runs, turns};
-use derivations::{locate, name_text};
+use derivations::locate;
 use facts::add_room;
 use grammar::Name;
 use room::{Room, all_needs};
@@ -95,7 +95,7 @@ fn add_needs(text: &mut Draft, subject: &Subject<'_>, robot: &Robot) {
     for (index, function) in robot.maker().functions().iter().enumerate() {
         let (line, column) = robot.places().function(index);
         let mut row = begin_row(text, "need");
-        row.words("name", name_text(&robot.name(function.number)));
+        row.words("name", robot.name(function.number).as_str());
         add_position(&mut row, line, column);
         add_room_fields(&mut row, needs[usize::from(function.number)]);
         row.end();
@@ -146,7 +146,7 @@ fn add_part(text: &mut Draft, what: &str, name: &Name, place: (u32, u32), cycles
     let (line, column) = place;
     let mut row = begin_row(text, "cycles");
     row.words("of", what);
-    row.words("name", name_text(name));
+    row.words("name", name.as_str());
     add_position(&mut row, line, column);
     add_span(&mut row, cycles);
     row.end();

@@ -1,7 +1,7 @@
 //! Names with what they are where they stand, functions and loops, as rows: found by a walk along tokens.
 
 use crate::rows::add_range;
-use derivations::{Event, Item, Located, Meaning, Role, SemanticAction, Walk, name_text};
+use derivations::{Event, Item, Located, Meaning, Role, SemanticAction, Walk};
 use grammar::{Callee, Profile, Var, intrinsic_named};
 use tokens::{Name, Token};
 use tools::{Array, Draft, Object, Text, begin_row};
@@ -77,7 +77,7 @@ impl NameRows<'_, '_> {
         }
         let named = named_by(&name, role, event);
         let mut row = begin_row(self.text, "name");
-        row.words("name", name_text(&name));
+        row.words("name", name.as_str());
         row.words("is", word_of(named));
         row.words("role", word_of_role(role));
         match named {
@@ -107,7 +107,7 @@ impl NameRows<'_, '_> {
             return;
         }
         let mut row = begin_row(self.text, "function");
-        row.words("name", name_text(&bytes));
+        row.words("name", bytes.as_str());
         row.number("function", self.function);
         add_range(&mut row, name.start(), name.end());
         row.number("open", open.start() as u64);

@@ -6,7 +6,6 @@ use crate::notes::NotedProgram;
 use crate::spelling::{add_call, add_instruction, add_words};
 use arena::{Arena, MOST_ROBOTS};
 use code::{Machine, Want};
-use derivations::name_text;
 use grammar::Name;
 use settings::Settings;
 use std::alloc::AllocError;
@@ -123,7 +122,7 @@ fn add_calls(text: &mut Draft, noted: &NotedProgram<'_>, machine: &Machine) {
 /// Adds a row of this kind for each name and its value.
 fn add_values(text: &mut Draft, kind: &str, names: &[Name], values: &[i32]) {
     for (name, value) in names.iter().zip(values) {
-        writeln!(text, "{kind}\t{}\t{value}", name_text(name));
+        writeln!(text, "{kind}\t{}\t{value}", name.as_str());
     }
 }
 

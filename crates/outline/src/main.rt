@@ -34,7 +34,7 @@ fn outline(rt: &HostRuntime, source: &[u8]) -> io::Result<()> {
     };
     print_names(rt, "externals", pools.externals())?;
     for (number, function) in pools.functions().iter().enumerate() {
-        println!(rt; "function {}", text_of(function.name()))?;
+        println!(rt; "function {}", function.name().as_str())?;
         let (parameters, others) = function
             .variables()
             .split_at(usize::from(function.parameter_count()));
@@ -49,12 +49,7 @@ fn outline(rt: &HostRuntime, source: &[u8]) -> io::Result<()> {
 fn print_names(rt: &HostRuntime, what: &str, names: &[Name]) -> io::Result<()> {
     print!(rt; "{what}:")?;
     for name in names {
-        print!(rt; " {}", text_of(name))?;
+        print!(rt; " {}", name.as_str())?;
     }
     println!(rt; "")
-}
-
-/// Returns a name as text. Names are ASCII.
-fn text_of(name: &Name) -> &str {
-    str::from_utf8(name.as_bytes()).unwrap_or("?")
 }

@@ -4,7 +4,7 @@ use crate::compiled_robots::CompiledRobots;
 use crate::robots::RobotFile;
 use crate::rows::Row;
 use crate::sheets::Sheet;
-use derivations::{NamedProgram, SourcePositions, name_text};
+use derivations::{NamedProgram, SourcePositions};
 use tokens::Name;
 use watching::{Event, Field};
 
@@ -69,7 +69,7 @@ fn number_of(function: usize) -> Field<'static> {
 
 /// Returns a name as a field.
 fn text(name: &Name) -> Field<'_> {
-    Field::Text(name_text(name))
+    Field::Text(name.as_str())
 }
 
 /// Writes a row.

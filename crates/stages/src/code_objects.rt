@@ -1,7 +1,6 @@
 //! A program's code with its names, as an object of JSON on a line.
 
 use crate::robots::Robot;
-use derivations::name_text;
 use grammar::{FunctionNames, Name};
 use std::alloc::AllocError;
 use tools::{Array, Draft, Object, Text};
@@ -24,7 +23,7 @@ pub fn add_code_object(text: &mut String, file: &str, robot: &Robot) -> Result<(
 fn add_names(text: &mut Draft, names: &[Name]) {
     let mut array = Array::begin(text);
     for name in names {
-        add_string(array.item(), name_text(name));
+        add_string(array.item(), name.as_str());
     }
     array.end();
 }
@@ -46,7 +45,7 @@ fn add_functions(text: &mut Draft, robot: &Robot) {
 /// Adds a function that begins at an address.
 fn add_function(text: &mut Draft, function: &FunctionNames, begin: u16) {
     let mut object = Object::begin(text);
-    object.words("name", name_text(function.name()));
+    object.words("name", function.name().as_str());
     object.number("begin", u64::from(begin));
     add_names(object.field("variables"), function.variables());
     object.end();

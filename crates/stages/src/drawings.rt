@@ -3,7 +3,7 @@
 use crate::labels::{Label, Named};
 use crate::outlines::{Outline, Standing};
 use crate::robots::Robot;
-use derivations::{Body, NodeKind, SourceTree, locate, name_text};
+use derivations::{Body, NodeKind, SourceTree, locate};
 use grammar::Profile;
 use std::alloc::{AllocError, Global};
 use std::fmt;
@@ -56,7 +56,7 @@ impl<'a> Drawing<'a> {
     fn add_file(&mut self) -> Result<(), AllocError> {
         let root = self.outline.add(None, Standing::Part, "file")?;
         for (number, name) in self.robot.names.externals().iter().enumerate() {
-            self.add(root, Named::of("external E", number, name_text(name)))?;
+            self.add(root, Named::of("external E", number, name.as_str()))?;
         }
         for body in self.tree.bodies() {
             self.add_function(root, body)?;
@@ -76,7 +76,7 @@ impl<'a> Drawing<'a> {
             } else {
                 "local L"
             };
-            self.add(node, Named::of(words, variable, name_text(name)))?;
+            self.add(node, Named::of(words, variable, name.as_str()))?;
         }
         self.push(node, &[Pending::Nodes(body.first, body.end)])?;
         self.add_pending(number)

@@ -5,7 +5,6 @@ ghost use Rattle.code.specs.ReachedMachines.{IsReachable};
 use crate::replies::Replies;
 use crate::robots::Robot;
 use code::{Cause, Instr, Intrinsic, Machine, Want};
-use derivations::name_text;
 use std::alloc::AllocError;
 
 /// The first line.
@@ -49,7 +48,7 @@ fn add_start(text: &mut String, robot: &Robot, machine: &Machine) -> Result<(), 
     let mut is_first = true;
     for (name, value) in values.chain(externals.zip(machine.externals())) {
         let mark = if is_first { "  ; " } else { ", " };
-        write!(text, "{mark}{} = {value}", name_text(name))?;
+        write!(text, "{mark}{} = {value}", name.as_str())?;
         is_first = false;
     }
     text.push('\n')

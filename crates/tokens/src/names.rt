@@ -1,6 +1,6 @@
 //! Names, in arrays of fixed size.
 
-ghost use Rattle.std.specs.Prelude.{◌≡◌, ◌∷◌, [], ◌++◌, ◌<◌, ◌≤◌, ◌↔◌, IsTrue, true, length};
+ghost use Rattle.std.specs.Prelude.{◌≡◌, ◌∷◌, [], ◌++◌, ◌<◌, ◌≤◌, ◌↔◌, IsTrue, IsUtf8, true, length};
 ghost use Rattle.std.specs.Str.{bytes_eq};
 ghost use Rattle.tokens.specs.TokenLimits.{most_name_bytes};
 ghost use Rattle.tokens.specs.Lexing.{BeginsName};
@@ -117,6 +117,13 @@ impl Name {
         ensures bounded { length result.now ≤ most_name_bytes }
     {
         &self.bytes[..self.len as usize]
+    }
+
+    /// Returns its text. The names of a source are ASCII; one of bytes that are no text is '?'.
+    pub fn as_str(&self) -> &str
+        ensures { IsUtf8 self.now → result.now ≡ self.now }
+    {
+        str::from_utf8(self.as_bytes()).unwrap_or("?")
     }
 
     /// Reports whether it is this name. Most others differ in their length or in one of their first bytes.

@@ -7,7 +7,6 @@ use crate::rows::{Rows, add_turn};
 use crate::tellers::Teller;
 use arena::{Arena, MOST_ROBOTS};
 use code::{Cause, Machine};
-use derivations::name_text;
 use grammar::{MOST_NAMES, Name};
 use notes::{NotedProgram, Sources, add_call, add_instruction, add_words};
 use std::alloc::AllocError;
@@ -133,7 +132,7 @@ fn add_changes(text: &mut Draft, names: &[Name], before: &[i32], after: &[i32]) 
     for ((name, old), new) in names.iter().zip(before).zip(after) {
         if new != old {
             text.add(if is_first { "" } else { " " });
-            write!(text, "{}={new}", name_text(name));
+            write!(text, "{}={new}", name.as_str());
             is_first = false;
         }
     }
