@@ -6,6 +6,6 @@ use Rattle.arena.proofs.laws.damage_adds_up.Goals as goal
 
 pub returns : goal.returns
 returns c = λ f s.
-    let count = ap length (sym c.missiles.ensures.value) ∙ c.missiles.ensures.count in
+    let count = ap length (sym c.missiles-missiles.ensures.value) ∙ c.missiles-missiles.ensures.count in
     adds_up f
     (subst (λ (n : ℕ). All (λ s. s.owner < n) f.shots) (count ∙ manned c.args.arena.now f s) s.missiles.owned)
