@@ -33,7 +33,6 @@ pub record TakesTurns (old new : Game) (before after : List Pilot) : Type 0 wher
   pub battle : (robots : List Behaviour) (s : BattleState) → AreRobotsOf (exes_of (codes_of before)) robots
       → HasCome (codes_of before) robots s before old → HaveTakenTurns (codes_of before) robots s after new
   pub codes : codes_of after ≡ codes_of before
-  pub manned : length new.arena.robots ≡ length after
   pub ending : new.ending ≡ old.ending
   pub limit : new.limit ≡ old.limit
 

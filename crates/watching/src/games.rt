@@ -119,6 +119,7 @@ impl Game {
         requires manned { length self.old.arena.robots ≡ length pilots.old }
         requires goes_on { self.old.ending.is_over ≡ false }
         ensures turns { TakesTurns self.old self.new pilots.old pilots.new }
+        ensures manned { length self.new.arena.robots ≡ length pilots.new }
         ensures told { (robots : List Behaviour) (s : BattleState) (sights : List Sight)
             → AreRobotsOf (exes_of (codes_of pilots.old)) robots
             → HasCome (codes_of pilots.old) robots s pilots.old self.old → W.told watcher.old sights → W.told watcher.new

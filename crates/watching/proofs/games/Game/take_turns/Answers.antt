@@ -18,7 +18,6 @@ returns-clause-turns g c =
             ends = came.ends;
           };
       codes = c.turns.ensures.codes;
-      manned = search;
       ending = search;
       limit = search;
     }
