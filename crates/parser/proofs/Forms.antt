@@ -3,9 +3,16 @@ use Rattle.std.proofs.Common.{◌≡◌, [], ◌∷◌, refl, true, false}
 use Rattle.tokens.specs.declared.located_tokens.Punctuator.TheVariants as punctuator
 use Rattle.tokens.specs.declared.located_tokens.Token.{Token}
 use Rattle.tokens.specs.declared.located_tokens.Token.TheVariants as token
+use Rattle.tokens.specs.declared.located_tokens.Keyword.{Keyword}
 use Rattle.tokens.specs.declared.located_tokens.Keyword.TheVariants as keyword
-use Rattle.grammar.specs.Grammar.{AKeyword, Back, Block, Decide, DecideElse, Declarations, ElsePart, Empty, Evaluate, Exactly, Expression, GiveBack, Item, Make, Part, Repeat, Close, Statement, Statements, Zero, is_punctuator, is_keyword, enters}
+use Rattle.grammar.specs.declared.actions.Action.{Action}
+use Rattle.grammar.specs.declared.actions.Action.TheVariants.{BeginWhile}
+use Rattle.grammar.specs.Grammar.{AKeyword, Back, Block, Decide, DecideElse, Declarations, ElsePart, Empty, Evaluate, Exactly, Expression, GiveBack, Item, Make, Part, Close, Statement, Statements, Zero, is_punctuator, is_keyword, enters}
 use Rattle.std.specs.Prelude.{List}
+use Rattle.grammar.specs.Scope.{Scope}
+use Rattle.grammar_laws.specs.Emission.{on_choice}
+use Rattle.parser.specs.declared.frames.Frame.TheVariants as frame
+use Rattle.parser.specs.Automata.{frame_items}
 use Rattle.parser.specs.Forms.{begins_statement}
 use Rattle.parser.proofs.Parts.{Chooses, punctuator_is, word_is}
 
@@ -84,30 +91,18 @@ begins_block t is =
       opened = λ after. rw at refl;
     }
 
--- what follows the condition of an `if`
-abbrev pub behind_if : List Item
-behind_if = Make Empty ∷ Part Statement ∷ Part ElsePart ∷ Close ∷ []
+-- this keyword begins a nested statement with these items behind it, and its choice emits these actions
+pub record Begins (w : Keyword) (items : List Item) (more : List Action) : Type 0 where
+  pub chosen : Chooses Statement (token.Keyword w) (AKeyword w ∷ items)
+  pub nested : (after : Token) → enters Statement (token.Keyword w) after ≡ true
+  pub emits : (scope : Scope) → on_choice Statement (token.Keyword w) scope ≡ more
 
--- of a `while`
-abbrev pub behind_while : List Item
-behind_while = Make Empty ∷ Part Statement ∷ Make Repeat ∷ Close ∷ []
+pub if_begins : Begins keyword.If (Exactly punctuator.OpenRound ∷ Part Expression ∷ frame_items frame.If) []
+if_begins = record { chosen = λ after. refl; nested = λ after. refl; emits = λ scope. refl }
 
-abbrev pub conditioned : List Item → List Item
-conditioned items = Exactly punctuator.OpenRound ∷ Part Expression ∷ Exactly punctuator.CloseRound ∷ items
-
-pub if_chosen : (t : Token) → is_keyword keyword.If t ≡ true →
-    Chooses Statement t (AKeyword keyword.If ∷ conditioned behind_if)
-if_chosen t is after = rw (word_is keyword.If t is) refl
-
-pub if_enters : (t : Token) → is_keyword keyword.If t ≡ true → (after : Token) → enters Statement t after ≡ true
-if_enters t is after = rw (word_is keyword.If t is) refl
-
-pub while_chosen : (t : Token) → is_keyword keyword.While t ≡ true →
-    Chooses Statement t (AKeyword keyword.While ∷ conditioned behind_while)
-while_chosen t is after = rw (word_is keyword.While t is) refl
-
-pub while_enters : (t : Token) → is_keyword keyword.While t ≡ true → (after : Token) → enters Statement t after ≡ true
-while_enters t is after = rw (word_is keyword.While t is) refl
+pub while_begins :
+    Begins keyword.While (Exactly punctuator.OpenRound ∷ Part Expression ∷ frame_items frame.While) (BeginWhile ∷ [])
+while_begins = record { chosen = λ after. refl; nested = λ after. refl; emits = λ scope. refl }
 
 pub return_chosen : (t : Token) → is_keyword keyword.Return t ≡ true →
     Chooses Statement t (AKeyword keyword.Return ∷ Part Back ∷ Exactly punctuator.Semicolon ∷ Make GiveBack ∷ [])

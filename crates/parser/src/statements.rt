@@ -50,6 +50,7 @@ impl<F: Feed, B: Build> Automaton<'_, '_, '_, F, B> {
     // elsepart → else stmt, and empty if no `else` is next
 
     /// `stmt → • if ( expr ) stmt elsepart`
+    #[tactic(auto, using(crate::proofs::AutomatonLaws::place))]
     fn if_statement(&mut self) -> Result<Front, ParseFault>
         requires at { IsAt B.stands Front.Statement self.old }
         requires starts { IsNextKeyword keyword.If self.old.tokens }
@@ -66,6 +67,7 @@ impl<F: Feed, B: Build> Automaton<'_, '_, '_, F, B> {
     }
 
     /// `stmt → if ( expr • ) stmt elsepart`
+    #[tactic(auto, using(crate::proofs::AutomatonLaws::place))]
     pub fn if_test(&mut self) -> Result<Front, ParseFault>
         requires at { IsAt B.stands Front.Enclosing (with_frame Frame.If self.old) }
         ensures moves { Moves result B.denied B.stands Front.Enclosing (with_frame Frame.If self.old) self.new }
@@ -94,6 +96,7 @@ impl<F: Feed, B: Build> Automaton<'_, '_, '_, F, B> {
     }
 
     /// `elsepart → • else stmt`
+    #[tactic(auto, using(crate::proofs::AutomatonLaws::place))]
     fn else_branch(&mut self) -> Result<Front, ParseFault>
         requires at { IsAt B.stands Front.Enclosing (with_frame Frame.Then self.old) }
         requires starts { IsNextKeyword keyword.Else self.old.tokens }
@@ -122,6 +125,7 @@ impl<F: Feed, B: Build> Automaton<'_, '_, '_, F, B> {
     // stmt → while ( expr ) stmt
 
     /// `stmt → • while ( expr ) stmt`
+    #[tactic(auto, using(crate::proofs::AutomatonLaws::place))]
     fn while_statement(&mut self) -> Result<Front, ParseFault>
         requires at { IsAt B.stands Front.Statement self.old }
         requires starts { IsNextKeyword keyword.While self.old.tokens }
@@ -139,6 +143,7 @@ impl<F: Feed, B: Build> Automaton<'_, '_, '_, F, B> {
     }
 
     /// `stmt → while ( expr • ) stmt`
+    #[tactic(auto, using(crate::proofs::AutomatonLaws::place))]
     pub fn while_test(&mut self) -> Result<Front, ParseFault>
         requires at { IsAt B.stands Front.Enclosing (with_frame Frame.While self.old) }
         ensures moves { Moves result B.denied B.stands Front.Enclosing (with_frame Frame.While self.old) self.new }
@@ -167,6 +172,7 @@ impl<F: Feed, B: Build> Automaton<'_, '_, '_, F, B> {
     // back → expr, and empty at the semicolon
 
     /// `stmt → • return back ;`
+    #[tactic(auto, using(crate::proofs::AutomatonLaws::place))]
     fn return_statement(&mut self) -> Result<Front, ParseFault>
         requires at { IsAt B.stands Front.Statement self.old }
         requires starts { IsNextKeyword keyword.Return self.old.tokens }
@@ -198,6 +204,7 @@ impl<F: Feed, B: Build> Automaton<'_, '_, '_, F, B> {
     // stmt → expr ;
 
     /// `stmt → • expr ;`
+    #[tactic(auto, using(crate::proofs::AutomatonLaws::place))]
     fn evaluation(&mut self) -> Result<Front, ParseFault>
         requires at { IsAt B.stands Front.Statement self.old }
         requires starts { StartsEvaluation self.old.tokens }
@@ -225,6 +232,7 @@ impl<F: Feed, B: Build> Automaton<'_, '_, '_, F, B> {
     // stmts → stmt stmts, and empty at the closing brace
 
     /// `block → • { decls stmts }`
+    #[tactic(auto, using(crate::proofs::AutomatonLaws::place))]
     fn begin_block(&mut self) -> Result<Front, ParseFault>
         requires at { IsAt B.stands Front.Statement self.old }
         requires starts { IsNextPunctuator punctuator.OpenCurly self.old.tokens }
@@ -241,6 +249,7 @@ impl<F: Feed, B: Build> Automaton<'_, '_, '_, F, B> {
     }
 
     /// `block → { decls • stmts }`
+    #[tactic(auto, using(crate::proofs::AutomatonLaws::place))]
     pub fn block(&mut self) -> Result<Front, ParseFault>
         requires at { IsAt B.stands Front.Enclosing (with_frame Frame.Block self.old) }
         ensures moves { Moves result B.denied B.stands Front.Enclosing (with_frame Frame.Block self.old) self.new }

@@ -1,8 +1,8 @@
-use Rattle.std.proofs.Common.{[], ◌∷◌, refl, arith}
+use Rattle.std.proofs.Common.{[], ◌∷◌, refl}
 use Rattle.tokens.specs.declared.located_tokens.Punctuator.TheVariants as punctuator
 use Rattle.grammar.specs.Grammar.{Exactly, Empty}
 use Rattle.parser.proofs.Passing.{passed_on}
-use Rattle.parser.proofs.AutomatonLaws.{comes_to, has_place, refuses}
+use Rattle.parser.proofs.AutomatonLaws.{comes_to, refuses}
 use Rattle.parser.proofs.PathLaws.{falls, made, may, told_more, out_of_memory}
 use Rattle.parser.proofs.automaton.Automaton.while_test.Goals as goal
 
@@ -22,10 +22,6 @@ returns-in_err-act-clause-moves g c =
     rw (passed_on c.from_residual-in_err-act.result c.from_residual-in_err-act.ensures.1) (λ o h.
     out_of_memory (c.in_ok-expect.ensures.passes _ _ _ _ h.path)
     (refuses c.in_err-act.field-0.0 _ c.in_err-act.ensures.judged))
-
-pub push-requires : goal.push-requires
-push-requires g c =
-    let h = c.requires.at.is in has_place _ 0 (omega arith) h.fits.takes.1 (omega (arith, h.depth, h.few))
 
 pub returns-clause-moves : goal.returns-clause-moves
 returns-clause-moves g c = λ o h.
