@@ -7,7 +7,7 @@ ghost use Rattle.parser.specs.Automata.{Falls, IsAt, KeepsBuilder, Moves, with_f
 ghost use Rattle.parser.specs.Forms.{StartsEvaluation};
 
 use crate::automaton::Automaton;
-use crate::frames::{Frame, Front};
+use crate::frames::{Frame, Front, Next, Terminal};
 use crate::name_lists::declarations;
 use crate::roles::Declared;
 use crate::token_predicates::{is_keyword, is_punctuator};
@@ -67,17 +67,13 @@ impl<F: Feed, B: Build> Automaton<'_, '_, '_, F, B> {
     }
 
     /// `stmt → if ( expr • ) stmt elsepart`
-    #[tactic(auto, using(crate::proofs::AutomatonLaws::place))]
     pub fn if_test(&mut self) -> Result<Front, ParseFault>
         requires at { IsAt B.stands Front.Enclosing (with_frame Frame.If self.old) }
         ensures moves { Moves result B.denied B.stands Front.Enclosing (with_frame Frame.If self.old) self.new }
         ensures falls { Falls result Front.Enclosing (with_frame Frame.If self.old) self.new }
         ensures builder { KeepsBuilder self.old self.new }
     {
-        self.tokens.expect(Punctuator::CloseRound)?;
-        self.builder.act(Action::IfTest)?;
-        self.frames.push(Frame::Then);
-        Ok(Front::Statement)
+        self.go_on(Frame::If, (Some(Terminal::Punctuator(Punctuator::CloseRound)), None), Some(Action::IfTest), Next::Statement(Frame::Then))
     }
 
     /// `stmt → if ( expr ) stmt • elsepart`
@@ -117,9 +113,7 @@ impl<F: Feed, B: Build> Automaton<'_, '_, '_, F, B> {
         ensures falls { Falls result Front.Enclosing (with_frame Frame.Else self.old) self.new }
         ensures builder { KeepsBuilder self.old self.new }
     {
-        self.builder.act(Action::EndIf)?;
-        self.depth -= 1;
-        Ok(Front::Enclosing)
+        self.go_on(Frame::Else, (None, None), Some(Action::EndIf), Next::Close)
     }
 
     // stmt → while ( expr ) stmt
@@ -143,17 +137,13 @@ impl<F: Feed, B: Build> Automaton<'_, '_, '_, F, B> {
     }
 
     /// `stmt → while ( expr • ) stmt`
-    #[tactic(auto, using(crate::proofs::AutomatonLaws::place))]
     pub fn while_test(&mut self) -> Result<Front, ParseFault>
         requires at { IsAt B.stands Front.Enclosing (with_frame Frame.While self.old) }
         ensures moves { Moves result B.denied B.stands Front.Enclosing (with_frame Frame.While self.old) self.new }
         ensures falls { Falls result Front.Enclosing (with_frame Frame.While self.old) self.new }
         ensures builder { KeepsBuilder self.old self.new }
     {
-        self.tokens.expect(Punctuator::CloseRound)?;
-        self.builder.act(Action::WhileTest)?;
-        self.frames.push(Frame::Loop);
-        Ok(Front::Statement)
+        self.go_on(Frame::While, (Some(Terminal::Punctuator(Punctuator::CloseRound)), None), Some(Action::WhileTest), Next::Statement(Frame::Loop))
     }
 
     /// `stmt → while ( expr ) stmt •`
@@ -163,9 +153,7 @@ impl<F: Feed, B: Build> Automaton<'_, '_, '_, F, B> {
         ensures falls { Falls result Front.Enclosing (with_frame Frame.Loop self.old) self.new }
         ensures builder { KeepsBuilder self.old self.new }
     {
-        self.builder.act(Action::EndWhile)?;
-        self.depth -= 1;
-        Ok(Front::Enclosing)
+        self.go_on(Frame::Loop, (None, None), Some(Action::EndWhile), Next::Close)
     }
 
     // stmt → return back ;
@@ -196,9 +184,7 @@ impl<F: Feed, B: Build> Automaton<'_, '_, '_, F, B> {
         ensures falls { Falls result Front.Enclosing (with_frame Frame.Return self.old) self.new }
         ensures builder { KeepsBuilder self.old self.new }
     {
-        self.tokens.expect(Punctuator::Semicolon)?;
-        self.builder.act(Action::GiveBack)?;
-        Ok(Front::Enclosing)
+        self.go_on(Frame::Return, (Some(Terminal::Punctuator(Punctuator::Semicolon)), None), Some(Action::GiveBack), Next::End)
     }
 
     // stmt → expr ;
@@ -223,9 +209,7 @@ impl<F: Feed, B: Build> Automaton<'_, '_, '_, F, B> {
         ensures falls { Falls result Front.Enclosing (with_frame Frame.Evaluate self.old) self.new }
         ensures builder { KeepsBuilder self.old self.new }
     {
-        self.tokens.expect(Punctuator::Semicolon)?;
-        self.builder.act(Action::Chop)?;
-        Ok(Front::Enclosing)
+        self.go_on(Frame::Evaluate, (Some(Terminal::Punctuator(Punctuator::Semicolon)), None), Some(Action::Chop), Next::End)
     }
 
     // block → { decls stmts }
