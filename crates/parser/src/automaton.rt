@@ -1,13 +1,11 @@
 //! An automaton that takes the derivation's steps, until nothing is left to derive.
 
 ghost use Rattle.std.specs.Prelude.{◌<◌, IfErr, OnOk};
-ghost use Rattle.grammar.specs.Building.{AppendsAll, MayFollowAll, Refuses};
-ghost use Rattle.parser.specs.FrameSteps.{IsInner, IsStep, due};
 ghost use Rattle.parser.specs.Automata.{Falls, HasMore, IsAt, IsTooDeep, KeepsBuilder, Moves, Runs, with_frame};
 
-use crate::frames::{Frame, Frames, Front, Next, Terminal};
+use crate::frames::{Frame, Frames, Front};
 use crate::scoped_cursor::ScopedCursor;
-use grammar::{Action, Build, BuildFault, Code, MOST_NESTED, ParseFault};
+use grammar::{Build, Code, MOST_NESTED, ParseFault};
 use tokens::Feed;
 
 /// Reads a file by its grammar: what is in front is derived next, and the frames are what is still to derive behind it.
@@ -107,43 +105,6 @@ impl<F: Feed, B: Build> Automaton<'_, '_, '_, F, B> {
         }
     }
 
-    /// Goes on in the production of the frame that was on top: past these tokens, reports this action, and has what comes
-    /// next in front.
-    #[inline(always)]
-    #[tactic(auto, using(crate::proofs::AutomatonLaws::place))]
-    pub fn go_on(
-        &mut self,
-        frame: Frame,
-        tokens: (Option<Terminal>, Option<Terminal>),
-        action: Option<Action>,
-        next: Next,
-    ) -> Result<Front, ParseFault>
-        requires at { IsAt B.stands Front.Enclosing (with_frame frame self.old) }
-        requires step { IsStep frame tokens.0 tokens.1 action next }
-        ensures moves { Moves result B.denied B.stands Front.Enclosing (with_frame frame self.old) self.new }
-        ensures falls { Falls result Front.Enclosing (with_frame frame self.old) self.new }
-        ensures builder { KeepsBuilder self.old self.new }
-    {
-        self.tokens.pass(tokens.0)?;
-        self.tokens.pass(tokens.1)?;
-        report(self.builder, action)?;
-        match next {
-            Next::Statement(behind) => {
-                self.frames.push(behind);
-                Ok(Front::Statement)
-            }
-            Next::Expression(behind) => {
-                self.frames.push(behind);
-                Ok(Front::Expression)
-            }
-            Next::Close => {
-                self.depth -= 1;
-                Ok(Front::Enclosing)
-            }
-            Next::End => Ok(Front::Enclosing),
-        }
-    }
-
     /// Refuses the next token if the most constructs are open: it would open one more.
     #[inline(always)]
     pub fn check_nesting(&self) -> Result<(), ParseFault>
@@ -154,19 +115,5 @@ impl<F: Feed, B: Build> Automaton<'_, '_, '_, F, B> {
             return Err(self.tokens.refusal(Code::NestedTooDeeply));
         }
         Ok(())
-    }
-}
-
-/// Reports an action to a builder, if one is given.
-#[inline(always)]
-fn report<B: Build>(builder: &mut B, action: Option<Action>) -> Result<(), BuildFault>
-    requires inner { IsInner action }
-    requires follow { MayFollowAll (B.stands builder.old) (due action) }
-    ensures reported { OnOk result (AppendsAll (B.stands builder.old) (B.stands builder.new) (due action)) }
-    ensures memory { Refuses result B.denied }
-{
-    match action {
-        Some(action) => builder.act(action),
-        None => Ok(()),
     }
 }

@@ -58,12 +58,7 @@ impl<F: Feed, B: Build> Automaton<'_, '_, '_, F, B> {
         ensures falls { Falls result Front.Statement self.old self.new }
         ensures builder { KeepsBuilder self.old self.new }
     {
-        self.check_nesting()?;
-        self.tokens.advance()?;
-        self.tokens.expect(Punctuator::OpenRound)?;
-        self.depth += 1;
-        self.frames.push(Frame::If);
-        Ok(Front::Expression)
+        self.begin(Keyword::If, None, Some(Terminal::Punctuator(Punctuator::OpenRound)), Next::Expression(Frame::If))
     }
 
     /// `stmt → if ( expr • ) stmt elsepart`
@@ -127,13 +122,7 @@ impl<F: Feed, B: Build> Automaton<'_, '_, '_, F, B> {
         ensures falls { Falls result Front.Statement self.old self.new }
         ensures builder { KeepsBuilder self.old self.new }
     {
-        self.check_nesting()?;
-        self.builder.act(Action::BeginWhile)?;
-        self.tokens.advance()?;
-        self.tokens.expect(Punctuator::OpenRound)?;
-        self.depth += 1;
-        self.frames.push(Frame::While);
-        Ok(Front::Expression)
+        self.begin(Keyword::While, Some(Action::BeginWhile), Some(Terminal::Punctuator(Punctuator::OpenRound)), Next::Expression(Frame::While))
     }
 
     /// `stmt → while ( expr • ) stmt`
