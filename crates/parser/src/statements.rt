@@ -50,7 +50,6 @@ impl<F: Feed, B: Build> Automaton<'_, '_, '_, F, B> {
     // elsepart → else stmt, and empty if no `else` is next
 
     /// `stmt → • if ( expr ) stmt elsepart`
-    #[tactic(auto, using(crate::proofs::AutomatonLaws::place))]
     fn if_statement(&mut self) -> Result<Front, ParseFault>
         requires at { IsAt B.stands Front.Statement self.old }
         requires starts { IsNextKeyword keyword.If self.old.tokens }
@@ -58,7 +57,12 @@ impl<F: Feed, B: Build> Automaton<'_, '_, '_, F, B> {
         ensures falls { Falls result Front.Statement self.old self.new }
         ensures builder { KeepsBuilder self.old self.new }
     {
-        self.begin(Keyword::If, None, Some(Terminal::Punctuator(Punctuator::OpenRound)), Next::Expression(Frame::If))
+        self.begin(
+            Keyword::If,
+            None,
+            Some(Terminal::Punctuator(Punctuator::OpenRound)),
+            Next::Expression(Frame::If),
+        )
     }
 
     /// `stmt → if ( expr • ) stmt elsepart`
@@ -68,7 +72,12 @@ impl<F: Feed, B: Build> Automaton<'_, '_, '_, F, B> {
         ensures falls { Falls result Front.Enclosing (with_frame Frame.If self.old) self.new }
         ensures builder { KeepsBuilder self.old self.new }
     {
-        self.go_on(Frame::If, (Some(Terminal::Punctuator(Punctuator::CloseRound)), None), Some(Action::IfTest), Next::Statement(Frame::Then))
+        self.go_on(
+            Frame::If,
+            (Some(Terminal::Punctuator(Punctuator::CloseRound)), None),
+            Some(Action::IfTest),
+            Next::Statement(Frame::Then),
+        )
     }
 
     /// `stmt → if ( expr ) stmt • elsepart`
@@ -114,7 +123,6 @@ impl<F: Feed, B: Build> Automaton<'_, '_, '_, F, B> {
     // stmt → while ( expr ) stmt
 
     /// `stmt → • while ( expr ) stmt`
-    #[tactic(auto, using(crate::proofs::AutomatonLaws::place))]
     fn while_statement(&mut self) -> Result<Front, ParseFault>
         requires at { IsAt B.stands Front.Statement self.old }
         requires starts { IsNextKeyword keyword.While self.old.tokens }
@@ -122,7 +130,12 @@ impl<F: Feed, B: Build> Automaton<'_, '_, '_, F, B> {
         ensures falls { Falls result Front.Statement self.old self.new }
         ensures builder { KeepsBuilder self.old self.new }
     {
-        self.begin(Keyword::While, Some(Action::BeginWhile), Some(Terminal::Punctuator(Punctuator::OpenRound)), Next::Expression(Frame::While))
+        self.begin(
+            Keyword::While,
+            Some(Action::BeginWhile),
+            Some(Terminal::Punctuator(Punctuator::OpenRound)),
+            Next::Expression(Frame::While),
+        )
     }
 
     /// `stmt → while ( expr • ) stmt`
@@ -132,7 +145,12 @@ impl<F: Feed, B: Build> Automaton<'_, '_, '_, F, B> {
         ensures falls { Falls result Front.Enclosing (with_frame Frame.While self.old) self.new }
         ensures builder { KeepsBuilder self.old self.new }
     {
-        self.go_on(Frame::While, (Some(Terminal::Punctuator(Punctuator::CloseRound)), None), Some(Action::WhileTest), Next::Statement(Frame::Loop))
+        self.go_on(
+            Frame::While,
+            (Some(Terminal::Punctuator(Punctuator::CloseRound)), None),
+            Some(Action::WhileTest),
+            Next::Statement(Frame::Loop),
+        )
     }
 
     /// `stmt → while ( expr ) stmt •`
@@ -142,7 +160,12 @@ impl<F: Feed, B: Build> Automaton<'_, '_, '_, F, B> {
         ensures falls { Falls result Front.Enclosing (with_frame Frame.Loop self.old) self.new }
         ensures builder { KeepsBuilder self.old self.new }
     {
-        self.go_on(Frame::Loop, (None, None), Some(Action::EndWhile), Next::Close)
+        self.go_on(
+            Frame::Loop,
+            (None, None),
+            Some(Action::EndWhile),
+            Next::Close,
+        )
     }
 
     // stmt → return back ;
@@ -173,7 +196,12 @@ impl<F: Feed, B: Build> Automaton<'_, '_, '_, F, B> {
         ensures falls { Falls result Front.Enclosing (with_frame Frame.Return self.old) self.new }
         ensures builder { KeepsBuilder self.old self.new }
     {
-        self.go_on(Frame::Return, (Some(Terminal::Punctuator(Punctuator::Semicolon)), None), Some(Action::GiveBack), Next::End)
+        self.go_on(
+            Frame::Return,
+            (Some(Terminal::Punctuator(Punctuator::Semicolon)), None),
+            Some(Action::GiveBack),
+            Next::End,
+        )
     }
 
     // stmt → expr ;
@@ -198,7 +226,12 @@ impl<F: Feed, B: Build> Automaton<'_, '_, '_, F, B> {
         ensures falls { Falls result Front.Enclosing (with_frame Frame.Evaluate self.old) self.new }
         ensures builder { KeepsBuilder self.old self.new }
     {
-        self.go_on(Frame::Evaluate, (Some(Terminal::Punctuator(Punctuator::Semicolon)), None), Some(Action::Chop), Next::End)
+        self.go_on(
+            Frame::Evaluate,
+            (Some(Terminal::Punctuator(Punctuator::Semicolon)), None),
+            Some(Action::Chop),
+            Next::End,
+        )
     }
 
     // block → { decls stmts }

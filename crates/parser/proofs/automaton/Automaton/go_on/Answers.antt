@@ -57,5 +57,9 @@ returns-clause-moves g c = λ o h.
 pub returns-clause-falls : goal.returns-clause-falls
 returns-clause-falls g c =
     rw (c.derive.ensures.front, c.derive.ensures.frames)
-    (omega (arith, left_behind c.args.next c.args.self.now.frames, c.in_ok-pass.ensures.kept.falls,
-    c.in_ok-pass-2.ensures.kept.falls))
+    (omega (
+      arith,
+      left_behind c.args.next c.args.self.now.frames,
+      c.in_ok-pass.ensures.kept.falls,
+      c.in_ok-pass-2.ensures.kept.falls,
+    ))
