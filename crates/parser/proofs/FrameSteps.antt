@@ -42,12 +42,15 @@ pub goes_to : {F B : Type 0} {o : Start B} {stands : B → Representation} {old 
 goes_to {values = values} (next.Statement f) frames depth h fs d path told count few takes waits =
     comes_to {values = values} h (rw fs path) told (rw (fs, d) count) (rw d few) (rw fs waits)
 goes_to {values = values} (next.Expression f) frames depth h fs d path told count few takes waits =
-    comes_to {values = values} h (rw fs path) told (rw (fs, d) count) (rw d few) (rw fs (awaits waits.0 (waits.1 values)))
+    comes_to {values = values} h (rw fs path) told (rw (fs, d) count) (rw d few)
+    (rw fs (awaits waits.0 (waits.1 values)))
 goes_to {values = values} next.Close frames depth h fs d path told count few takes waits =
-    comes_to {values = values} h (closed (rw fs path)) told (rw (fs, d) (omega (arith, count))) (rw d (omega (arith, few)))
+    comes_to {values = values} h (closed (rw fs path)) told (rw (fs, d) (omega (arith, count)))
+    (rw d (omega (arith, few)))
     (record { level = 0; takes = rw fs takes; ends = tt })
 goes_to {values = values} next.End frames depth h fs d path told count few takes waits =
-    comes_to {values = values} h (rw fs path) told (rw (fs, d) count) (rw d few) (record { level = 0; takes = rw fs takes; ends = tt })
+    comes_to {values = values} h (rw fs path) told (rw (fs, d) count) (rw d few)
+    (record { level = 0; takes = rw fs takes; ends = tt })
 
 -- there is a place for its frame
 pub has_place : (behind : Next) (frames : List Frame) (depth : ℕ) → Takes 0 frames →
@@ -161,7 +164,8 @@ begun_values (next.Statement f) values = trees_after Empty values
 begun_values behind values = values
 
 pub begun : {o : Origin} {values : List PartialTree} {acts : List Action} {at : ScopedCursor} (behind : Next)
-    (stack : List Item) → on_body (next_items behind ++ stack) ≡ [] → Path o (begun_items behind ++ stack) values acts at →
+    (stack : List Item) → on_body (next_items behind ++ stack) ≡ [] →
+    Path o (begun_items behind ++ stack) values acts at →
     Path o (next_items behind ++ stack) (begun_values behind values) acts at
 begun (next.Statement f) stack silent h = rw silent at (made Empty tt h)
 begun behind stack silent h = h
