@@ -43,18 +43,19 @@ impl<F: Feed, B: Build> Automaton<'_, '_, '_, F, B> {
     pub fn go_on(
         &mut self,
         frame: Frame,
-        tokens: (Option<Terminal>, Option<Terminal>),
+        first: Option<Terminal>,
+        second: Option<Terminal>,
         action: Option<Action>,
         next: Next,
     ) -> Result<Front, ParseFault>
         requires at { IsAt B.stands Front.Enclosing (with_frame frame self.old) }
-        requires step { IsStep frame tokens.0 tokens.1 action next }
+        requires step { IsStep frame first second action next }
         ensures moves { Moves result B.denied B.stands Front.Enclosing (with_frame frame self.old) self.new }
         ensures falls { Falls result Front.Enclosing (with_frame frame self.old) self.new }
         ensures builder { KeepsBuilder self.old self.new }
     {
-        self.tokens.pass(tokens.0)?;
-        self.tokens.pass(tokens.1)?;
+        self.tokens.pass(first)?;
+        self.tokens.pass(second)?;
         report(self.builder, action)?;
         Ok(derive(&mut self.frames, &mut self.depth, next))
     }

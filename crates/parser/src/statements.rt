@@ -14,6 +14,15 @@ use crate::token_predicates::{is_keyword, is_punctuator};
 use grammar::{Action, Build, ParseFault};
 use tokens::{Feed, Keyword, Punctuator, Token};
 
+/// `(`
+const OPEN_ROUND: Option<Terminal> = Some(Terminal::Punctuator(Punctuator::OpenRound));
+
+/// `)`
+const CLOSE_ROUND: Option<Terminal> = Some(Terminal::Punctuator(Punctuator::CloseRound));
+
+/// `;`
+const SEMICOLON: Option<Terminal> = Some(Terminal::Punctuator(Punctuator::Semicolon));
+
 impl<F: Feed, B: Build> Automaton<'_, '_, '_, F, B> {
     /// `stmt → • ;`, `• block`, `• if ( expr ) stmt elsepart`, `• while ( expr ) stmt`, `• return back ;` and `• expr ;`
     pub fn statement(&mut self) -> Result<Front, ParseFault>
@@ -57,12 +66,7 @@ impl<F: Feed, B: Build> Automaton<'_, '_, '_, F, B> {
         ensures falls { Falls result Front.Statement self.old self.new }
         ensures builder { KeepsBuilder self.old self.new }
     {
-        self.begin(
-            Keyword::If,
-            None,
-            Some(Terminal::Punctuator(Punctuator::OpenRound)),
-            Next::Expression(Frame::If),
-        )
+        self.begin(Keyword::If, None, OPEN_ROUND, Next::Expression(Frame::If))
     }
 
     /// `stmt → if ( expr • ) stmt elsepart`
@@ -74,7 +78,8 @@ impl<F: Feed, B: Build> Automaton<'_, '_, '_, F, B> {
     {
         self.go_on(
             Frame::If,
-            (Some(Terminal::Punctuator(Punctuator::CloseRound)), None),
+            CLOSE_ROUND,
+            None,
             Some(Action::IfTest),
             Next::Statement(Frame::Then),
         )
@@ -117,7 +122,7 @@ impl<F: Feed, B: Build> Automaton<'_, '_, '_, F, B> {
         ensures falls { Falls result Front.Enclosing (with_frame Frame.Else self.old) self.new }
         ensures builder { KeepsBuilder self.old self.new }
     {
-        self.go_on(Frame::Else, (None, None), Some(Action::EndIf), Next::Close)
+        self.go_on(Frame::Else, None, None, Some(Action::EndIf), Next::Close)
     }
 
     // stmt → while ( expr ) stmt
@@ -133,7 +138,7 @@ impl<F: Feed, B: Build> Automaton<'_, '_, '_, F, B> {
         self.begin(
             Keyword::While,
             Some(Action::BeginWhile),
-            Some(Terminal::Punctuator(Punctuator::OpenRound)),
+            OPEN_ROUND,
             Next::Expression(Frame::While),
         )
     }
@@ -147,7 +152,8 @@ impl<F: Feed, B: Build> Automaton<'_, '_, '_, F, B> {
     {
         self.go_on(
             Frame::While,
-            (Some(Terminal::Punctuator(Punctuator::CloseRound)), None),
+            CLOSE_ROUND,
+            None,
             Some(Action::WhileTest),
             Next::Statement(Frame::Loop),
         )
@@ -160,12 +166,7 @@ impl<F: Feed, B: Build> Automaton<'_, '_, '_, F, B> {
         ensures falls { Falls result Front.Enclosing (with_frame Frame.Loop self.old) self.new }
         ensures builder { KeepsBuilder self.old self.new }
     {
-        self.go_on(
-            Frame::Loop,
-            (None, None),
-            Some(Action::EndWhile),
-            Next::Close,
-        )
+        self.go_on(Frame::Loop, None, None, Some(Action::EndWhile), Next::Close)
     }
 
     // stmt → return back ;
@@ -198,7 +199,8 @@ impl<F: Feed, B: Build> Automaton<'_, '_, '_, F, B> {
     {
         self.go_on(
             Frame::Return,
-            (Some(Terminal::Punctuator(Punctuator::Semicolon)), None),
+            SEMICOLON,
+            None,
             Some(Action::GiveBack),
             Next::End,
         )
@@ -228,7 +230,8 @@ impl<F: Feed, B: Build> Automaton<'_, '_, '_, F, B> {
     {
         self.go_on(
             Frame::Evaluate,
-            (Some(Terminal::Punctuator(Punctuator::Semicolon)), None),
+            SEMICOLON,
+            None,
             Some(Action::Chop),
             Next::End,
         )

@@ -9,13 +9,13 @@ use Rattle.parser.proofs.automaton.Automaton.go_on.Goals as goal
 pub returns-in_err-pass-clause-moves : goal.returns-in_err-pass-clause-moves
 returns-in_err-pass-clause-moves g c =
     rw (passed_on c.from_residual.result c.from_residual.ensures.1) (λ o h.
-    falls (terminal_items c.args.tokens.0) _ c.in_err-pass.field-0.0 (stepped c.requires.step _ h.path) h.told
+    falls (terminal_items c.args.first) _ c.in_err-pass.field-0.0 (stepped c.requires.step _ h.path) h.told
     c.in_err-pass.ensures.kept c.in_err-pass.ensures.matches)
 
 pub returns-in_err-pass-2-clause-moves : goal.returns-in_err-pass-2-clause-moves
 returns-in_err-pass-2-clause-moves g c =
     rw (passed_on c.from_residual-in_err-pass-2.result c.from_residual-in_err-pass-2.ensures.1) (λ o h.
-    falls (terminal_items c.args.tokens.1) _ c.in_err-pass-2.field-0.0
+    falls (terminal_items c.args.second) _ c.in_err-pass-2.field-0.0
     (c.in_ok-pass.ensures.passes _ _ _ _ (stepped c.requires.step _ h.path)) h.told c.in_err-pass-2.ensures.kept
     c.in_err-pass-2.ensures.matches)
 
