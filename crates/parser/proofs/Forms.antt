@@ -4,7 +4,7 @@ use Rattle.tokens.specs.declared.located_tokens.Punctuator.TheVariants as punctu
 use Rattle.tokens.specs.declared.located_tokens.Token.{Token}
 use Rattle.tokens.specs.declared.located_tokens.Token.TheVariants as token
 use Rattle.tokens.specs.declared.located_tokens.Keyword.TheVariants as keyword
-use Rattle.grammar.specs.Grammar.{AKeyword, Back, Block, Decide, DecideElse, Declarations, ElsePart, Empty, Evaluate, Exactly, Expression, GiveBack, Item, Make, Part, Repeat, Close, Statement, Statements, Zero, is_punctuator, is_keyword, enters}
+use Rattle.grammar.specs.Grammar.{AKeyword, Back, Block, Decide, DecideElse, Declarations, ElsePart, Empty, Evaluate, Exactly, Expression, GiveBack, Item, Make, Part, Close, Statement, Statements, Zero, is_punctuator, is_keyword, enters}
 use Rattle.std.specs.Prelude.{List}
 use Rattle.parser.specs.Forms.{begins_statement}
 use Rattle.parser.proofs.Parts.{Chooses, punctuator_is, word_is}
@@ -83,31 +83,6 @@ begins_block t is =
       chosen = λ after. rw at refl;
       opened = λ after. rw at refl;
     }
-
--- what follows the condition of an `if`
-abbrev pub behind_if : List Item
-behind_if = Make Empty ∷ Part Statement ∷ Part ElsePart ∷ Close ∷ []
-
--- of a `while`
-abbrev pub behind_while : List Item
-behind_while = Make Empty ∷ Part Statement ∷ Make Repeat ∷ Close ∷ []
-
-abbrev pub conditioned : List Item → List Item
-conditioned items = Exactly punctuator.OpenRound ∷ Part Expression ∷ Exactly punctuator.CloseRound ∷ items
-
-pub if_chosen : (t : Token) → is_keyword keyword.If t ≡ true →
-    Chooses Statement t (AKeyword keyword.If ∷ conditioned behind_if)
-if_chosen t is after = rw (word_is keyword.If t is) refl
-
-pub if_enters : (t : Token) → is_keyword keyword.If t ≡ true → (after : Token) → enters Statement t after ≡ true
-if_enters t is after = rw (word_is keyword.If t is) refl
-
-pub while_chosen : (t : Token) → is_keyword keyword.While t ≡ true →
-    Chooses Statement t (AKeyword keyword.While ∷ conditioned behind_while)
-while_chosen t is after = rw (word_is keyword.While t is) refl
-
-pub while_enters : (t : Token) → is_keyword keyword.While t ≡ true → (after : Token) → enters Statement t after ≡ true
-while_enters t is after = rw (word_is keyword.While t is) refl
 
 pub return_chosen : (t : Token) → is_keyword keyword.Return t ≡ true →
     Chooses Statement t (AKeyword keyword.Return ∷ Part Back ∷ Exactly punctuator.Semicolon ∷ Make GiveBack ∷ [])

@@ -5,7 +5,6 @@ use Rattle.tokens.specs.declared.located_tokens.Keyword.TheVariants as keyword
 use Rattle.tokens.specs.declared.located_tokens.Token.{Token}
 use Rattle.tokens.specs.declared.located_tokens.Token.TheVariants as token
 use Rattle.grammar.specs.declared.actions.Action.{Action}
-use Rattle.grammar.specs.declared.actions.Action.TheVariants.{BeginWhile}
 use Rattle.grammar.specs.declared.name_limits.TheConstants.{MOST_NESTED}
 use Rattle.grammar.specs.Derivation.{PartialTree}
 use Rattle.grammar.specs.Faults.{nested_count}
@@ -15,7 +14,7 @@ use Rattle.grammar_laws.specs.Emission.{on_choice}
 use Rattle.parser.specs.Forms.{begins_statement}
 use Rattle.parser.specs.Paths.{Origin, Path}
 use Rattle.parser.specs.ScopedCursors.{ScopedCursor, token_of}
-use Rattle.parser.proofs.Forms.{BeginsBlock, Evaluates, begins_block, behind_if, behind_while, conditioned, else_chosen, empty_chosen, empty_shallow, end_chosen, evaluates, if_chosen, in_braces, more_chosen, no_else_chosen, return_chosen, return_shallow, value_chosen, while_chosen, zero_chosen}
+use Rattle.parser.proofs.Forms.{BeginsBlock, Evaluates, begins_block, else_chosen, empty_chosen, empty_shallow, end_chosen, evaluates, in_braces, more_chosen, no_else_chosen, return_chosen, return_shallow, value_chosen, zero_chosen}
 use Rattle.parser.proofs.Parts.{punctuator_is, word_is}
 use Rattle.parser.proofs.PathLaws.{chosen, opened}
 
@@ -26,14 +25,6 @@ module _ {o : Origin} {stack : List Item} {values : List PartialTree} {acts : Li
   empty_path is h =
       chosen {more = []} Statement (Exactly punctuator.Semicolon ∷ []) (λ after last. empty_chosen _ is after)
       (λ after last. empty_shallow _ is after) (rw (punctuator_is punctuator.Semicolon (token_of at) is) refl) h
-
-  pub if_path : is_keyword keyword.If (token_of at) ≡ true → nested_count stack < MOST_NESTED →
-      Path o (Part Statement ∷ stack) values acts at →
-      Path o (AKeyword keyword.If ∷ conditioned behind_if ++ stack) values acts at
-  if_path is few h =
-      opened {more = []} Statement (AKeyword keyword.If ∷ conditioned behind_if) (λ after last. if_chosen _ is after)
-      few
-      (rw (word_is keyword.If (token_of at) is) refl) h
 
   pub else_path : is_keyword keyword.Else (token_of at) ≡ true → Path o (Part ElsePart ∷ stack) values acts at →
       Path o (AKeyword keyword.Else ∷ Make Empty ∷ Part Statement ∷ Make DecideElse ∷ stack) values acts at
@@ -47,13 +38,6 @@ module _ {o : Origin} {stack : List Item} {values : List PartialTree} {acts : Li
       chosen {more = []} ElsePart (Make Decide ∷ []) (λ after last. no_else_chosen _ other after) (λ after last. refl)
       refl
       h
-
-  pub while_path : is_keyword keyword.While (token_of at) ≡ true → nested_count stack < MOST_NESTED →
-      Path o (Part Statement ∷ stack) values acts at →
-      Path o (AKeyword keyword.While ∷ conditioned behind_while ++ stack) values (acts ++ BeginWhile ∷ []) at
-  while_path is few h =
-      opened {more = BeginWhile ∷ []} Statement (AKeyword keyword.While ∷ conditioned behind_while)
-      (λ after last. while_chosen _ is after) few (rw (word_is keyword.While (token_of at) is) refl) h
 
   pub return_path : is_keyword keyword.Return (token_of at) ≡ true → Path o (Part Statement ∷ stack) values acts at →
       Path o (AKeyword keyword.Return ∷ Part Back ∷ Exactly punctuator.Semicolon ∷ Make GiveBack ∷ stack) values acts at

@@ -3,7 +3,7 @@ use Rattle.tokens.specs.declared.located_tokens.Punctuator.TheVariants as punctu
 use Rattle.grammar.specs.Grammar.{Block, Declarations, Exactly, Part}
 use Rattle.parser.specs.ScopedCursors.{token_of}
 use Rattle.parser.proofs.Passing.{passed_on}
-use Rattle.parser.proofs.AutomatonLaws.{comes_to, has_place, nests}
+use Rattle.parser.proofs.AutomatonLaws.{comes_to, nests}
 use Rattle.parser.proofs.Forms.{begins_block, in_braces}
 use Rattle.parser.proofs.Productions.{chooses_any, token_too_deep}
 use Rattle.parser.proofs.PathLaws.{falls, token_falls, token_past}
@@ -33,9 +33,6 @@ returns-in_err-declarations-clause-moves g c =
     c.in_ok-advance.ensures.kept (braces_path c.requires.starts (rw h.depth c.in_ok-check_nesting.ensures.ok)
     (block_path c.requires.starts h.path))) h.told c.in_err-declarations.ensures.kept
     c.in_err-declarations.ensures.matches)
-
-pub push-requires : goal.push-requires
-push-requires g c = let h = c.requires.at.is in has_place _ 0 (omega arith) h.fits (rw h.depth h.few)
 
 pub returns-clause-moves : goal.returns-clause-moves
 returns-clause-moves g c = λ o h.

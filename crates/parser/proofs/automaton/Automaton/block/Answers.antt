@@ -3,14 +3,10 @@ use Rattle.tokens.specs.declared.located_tokens.Punctuator.TheVariants as punctu
 use Rattle.grammar.specs.Grammar.{Exactly, is_punctuator}
 use Rattle.parser.specs.ScopedCursors.{token_of}
 use Rattle.parser.proofs.Passing.{passed_on}
-use Rattle.parser.proofs.AutomatonLaws.{comes_to, has_place}
+use Rattle.parser.proofs.AutomatonLaws.{comes_to}
 use Rattle.parser.proofs.PathLaws.{closed, token_falls, token_past}
 use Rattle.parser.proofs.StatementSteps.{no_statement_path, statement_path}
 use Rattle.parser.proofs.automaton.Automaton.block.Goals as goal
-
-pub push-requires : goal.push-requires
-push-requires g c =
-    let h = c.requires.at.is in has_place _ 0 (omega arith) h.fits.takes.1 (omega (arith, h.depth, h.few))
 
 pub returns-then-not-is_punctuator-clause-moves : goal.returns-then-not-is_punctuator-clause-moves
 returns-then-not-is_punctuator-clause-moves g c =

@@ -1,8 +1,8 @@
-use Rattle.std.proofs.Common.{refl, arith}
+use Rattle.std.proofs.Common.{refl}
 use Rattle.tokens.specs.declared.located_tokens.Keyword.TheVariants as keyword
 use Rattle.grammar.specs.Grammar.{AKeyword, Empty}
 use Rattle.parser.proofs.Passing.{passed_on}
-use Rattle.parser.proofs.AutomatonLaws.{comes_to, has_place, refuses}
+use Rattle.parser.proofs.AutomatonLaws.{comes_to, refuses}
 use Rattle.parser.proofs.PathLaws.{made, may, out_of_memory, token_falls, token_past, told_more}
 use Rattle.parser.proofs.StatementSteps.{else_path}
 use Rattle.parser.proofs.automaton.Automaton.else_branch.Goals as goal
@@ -30,10 +30,6 @@ returns-in_err-act-clause-moves g c =
     out_of_memory
     (token_past (AKeyword keyword.Else) c.requires.starts c.in_ok-advance.ensures.consumes c.in_ok-advance.ensures.kept
     (else_path c.requires.starts h.path)) (refuses c.in_err-act.field-0.0 _ c.in_err-act.ensures.judged))
-
-pub push-requires : goal.push-requires
-push-requires g c =
-    let h = c.requires.at.is in has_place _ 0 (omega arith) h.fits.takes.1 (omega (arith, h.depth, h.few))
 
 pub returns-clause-moves : goal.returns-clause-moves
 returns-clause-moves g c = λ o h.

@@ -1,10 +1,7 @@
-use Rattle.std.proofs.Common.{refl, arith}
-use Rattle.parser.proofs.AutomatonLaws.{awaits, comes_to, has_place}
+use Rattle.std.proofs.Common.{refl}
+use Rattle.parser.proofs.AutomatonLaws.{awaits, comes_to}
 use Rattle.parser.proofs.StatementSteps.{evaluation_path}
 use Rattle.parser.proofs.automaton.Automaton.evaluation.Goals as goal
-
-pub push-requires : goal.push-requires
-push-requires g c = let h = c.requires.at.is in has_place _ 0 (omega arith) h.fits (rw h.depth h.few)
 
 pub returns-clause-moves : goal.returns-clause-moves
 returns-clause-moves g c = λ o h.

@@ -1,4 +1,4 @@
-use Rattle.std.proofs.Common.{◌≡◌, refl, true, false, arith}
+use Rattle.std.proofs.Common.{◌≡◌, refl, true, false}
 use Rattle.std.specs.Prelude.{None}
 use Rattle.tokens.specs.declared.located_tokens.Punctuator.TheVariants as punctuator
 use Rattle.tokens.specs.declared.located_tokens.Keyword.TheVariants as keyword
@@ -6,7 +6,7 @@ use Rattle.grammar.specs.Grammar.{AKeyword, Zero, is_punctuator}
 use Rattle.grammar.specs.Laws.Climbing.{operator_from}
 use Rattle.parser.specs.ScopedCursors.{token_of}
 use Rattle.parser.proofs.Passing.{passed_on}
-use Rattle.parser.proofs.AutomatonLaws.{awaits, comes_to, has_place, refuses}
+use Rattle.parser.proofs.AutomatonLaws.{awaits, comes_to, refuses}
 use Rattle.parser.proofs.Parts.{punctuator_is}
 use Rattle.parser.proofs.PathLaws.{made, may, out_of_memory, token_falls, token_past, told_more}
 use Rattle.parser.proofs.StatementSteps.{return_path, value_path, zero_path}
@@ -18,9 +18,6 @@ returns-in_err-advance-clause-moves g c =
     token_falls (AKeyword keyword.Return) c.requires.starts h.told c.in_err-advance.ensures.kept
     c.in_err-advance.ensures.consumes
     (return_path c.requires.starts h.path))
-
-pub push-requires : goal.push-requires
-push-requires g c = let h = c.requires.at.is in has_place _ 0 (omega arith) h.fits (rw h.depth h.few)
 
 pub act-requires : goal.act-requires
 act-requires g c =
