@@ -6,4 +6,5 @@ pub mod Scheme
 pub mod Stacks
 pub mod Steps
 pub mod Table
+pub mod TokenCounts
 pub mod Walks
