@@ -2,6 +2,7 @@ pub mod Columns
 pub mod Compiling
 pub mod KnownPositions
 pub mod Positions
+pub mod Room
 pub mod Scheme
 pub mod Stacks
 pub mod Steps
