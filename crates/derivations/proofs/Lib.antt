@@ -1,5 +1,8 @@
+pub mod AllTokens
 pub mod Behind
+pub mod CompiledRoom
 pub mod Counting
+pub mod Heights
 pub mod Keeping
 pub mod KnownPositions
 pub mod Moving
@@ -7,6 +10,7 @@ pub mod Passing
 pub mod Placing
 pub mod Proceeding
 pub mod Replacing
+pub mod RunningShort
 pub mod Shapes
 pub mod Stepping
 pub mod Turned

@@ -5,8 +5,8 @@ use Rattle.grammar.specs.Grammar as table
 use Rattle.tokens.specs.declared.located_tokens.Token.{Token}
 use Rattle.derivations.proofs.Turned.{dropped, turned, turned_none}
 use Rattle.derivations.specs.Positions.{mark, nowhere, front_mark, chosen_items, passes, passes_with}
-use Rattle.derivations.specs.Stacks.{IsMove, Moves, item_in, items_of, mark_in, mark_of, marks_of, position_of, tokens_passed}
-use Rattle.derivations.specs.Steps.{front_of}
+use Rattle.derivations.specs.Stacks.{IsMove, IsOverfull, Moves, item_in, items_after, items_of, mark_in, mark_of, marks_of, most_pending, position_of, tokens_passed}
+use Rattle.derivations.specs.Steps.{decided_of, end_of, front_of, outcome_of}
 use Rattle.derivations.specs.Table.{item_of}
 use Rattle.derivations.specs.declared.addresses.SourcePosition.{SourcePosition}
 use Rattle.derivations.specs.declared.locations.Located.{Located}
@@ -154,6 +154,31 @@ passes_on old closed noted new next after p tokens does e front is stack passed 
     (popped ∙ ap (λ (l : List Pending). take (length l - 1) l) same)
     (λ few. put (omega (arith, few, at)) ∙ ap (λ (k : ℕ). k + tokens) at)
     (λ more. passed'' ∙ some more) (λ no. passed'' ∙ none no ∙ passed)
+
+-- a production has no room
+pub overfull : (old mid : Automaton) (next after : Located) (p : Pending) (production : List table.Item) (does : Move) →
+    does ≡ move.Replace production → front_of old.stack.items ≡ Some p →
+    IsMove (item_of p.item) next.token after.token does →
+    end_of does ≡ decided_of (item_of p.item) next.token after.token → mid.stack.items ≡ old.stack.items →
+    most_pending < length (production ++ drop 1 (items_of mid.stack.items)) → IsOverfull old next after
+overfull old mid next after p production does e front is ends stack many =
+    let rest : List table.Item = map item_in (reverse (take (length old.stack.items - 1) old.stack.items)) in
+    let r : IsReplaced (item_of p.item) rest next.token after.token production =
+    is_replaced (item_of p.item) rest next.token after.token production
+    (subst (λ (m : Move). IsMove (item_of p.item) next.token after.token m) e is) in
+    let chosen : chosen_items (items_of old.stack.items) next.token after.token ≡ production =
+    ap (λ (l : List table.Item). chosen_items l next.token after.token) (first_item old.stack.items p front) ∙
+    r.chosen in
+    let all : items_after (items_of old.stack.items) next.token after.token
+    ≡ production ++ drop 1 (items_of mid.stack.items) =
+    ap (λ (l : List table.Item). l ++ drop 1 (items_of old.stack.items)) chosen
+    ∙ sym (ap (λ (l : List Pending). production ++ drop 1 (items_of l)) stack) in
+    let size : length (items_after (items_of old.stack.items) next.token after.token)
+    ≡ length (production ++ drop 1 (items_of mid.stack.items)) = ap (λ (l : List table.Item). length l) all in
+    record {
+      fits = ap (λ (o : Option Pending). outcome_of o next.token after.token) front ∙ sym ends ∙ ap end_of e;
+      full = omega (arith, many, size);
+    }
 
 -- the mark of the item in front
 pub front_is : (stack : List Pending) (p : Pending) → front_of stack ≡ Some p →

@@ -17,28 +17,29 @@ use Rattle.derivations.specs.declared.steps.StepEnd.{StepEnd}
 use Rattle.derivations.specs.declared.steps.StepEnd.TheVariants as step_end
 
 -- some steps were made, and the next token is still the same
-pub record Still (profile : Profile) (tokens : List LocatedToken) (given : List SourcePosition) (n place : ℕ)
+pub record Still (profile : Profile) (tokens : List LocatedToken) (given : List SourcePosition) (n place made : ℕ)
     (automaton : Automaton)
     (positions : List SourcePosition) : Type 0 where
   pub steps : ℕ
+  pub many : steps ≡ n + made
   pub reaches : Reaches profile tokens given steps automaton positions
   pub rest : (walk_at tokens given steps).state.rest ≡ (walk_at tokens given n).state.rest
   pub left : (walk_at tokens given steps).positions ≡ (walk_at tokens given n).positions
   pub same_place : automaton.place ≡ place
 
 -- so it is wherever the automaton was at first
-abbrev pub StaysNext : Profile → Automaton → List SourcePosition → Located → Located → Automaton → List SourcePosition
-    → Type 0
-StaysNext profile first kept next after automaton positions =
+abbrev pub StaysNext : Profile → Automaton → List SourcePosition → Located → Located → ℕ → Automaton
+    → List SourcePosition → Type 0
+StaysNext profile first kept next after made automaton positions =
     (tokens : List LocatedToken) (given : List SourcePosition) (n : ℕ) → Reaches profile tokens given n first kept
     → AreNext next after (walk_at tokens given n).state.rest (walk_at tokens given n).positions →
     first.place + 1 < 2 ^ 64
-    → Still profile tokens given n first.place automaton positions
+    → Still profile tokens given n first.place made automaton positions
 
 pub begins : (profile : Profile) (first : Automaton) (kept : List SourcePosition) (next after : Located) →
-    StaysNext profile first kept next after first kept
+    StaysNext profile first kept next after 0 first kept
 begins profile first kept next after tokens given n r are few =
-    record { steps = n; reaches = r; rest = refl; left = refl; same_place = refl }
+    record { steps = n; many = omega arith; reaches = r; rest = refl; left = refl; same_place = refl }
 
 -- what one more step does
 pub record IsStep (profile : Profile) (next after : Located) (old new : Automaton)
@@ -71,7 +72,8 @@ flag_left : (stack : List Item) (positions : List SourcePosition) (b : Bool) →
 flag_left stack positions b e = ap (λ (x : Bool). if x then drop 1 positions else positions) e
 
 -- the next token is the same, at the same position
-still_next : (next after : Located) (rest rest' : List LocatedToken) (left left' : List SourcePosition) → rest' ≡ rest →
+pub still_next : (next after : Located) (rest rest' : List LocatedToken) (left left' : List SourcePosition) →
+    rest' ≡ rest →
     left' ≡ left → AreNext next after rest left → AreNext next after rest' left'
 still_next next after rest rest' left left' e f are =
     subst (λ (l : List SourcePosition). AreNext next after rest' l) (sym f)
@@ -83,19 +85,19 @@ flag_place stack b e = ap tokens_passed e
 
 -- no token was passed: the place stayed
 pub stays : (profile : Profile) (first old new : Automaton) (kept before positions : List SourcePosition)
-    (next after : Located) → StaysNext profile first kept next after old before →
+    (next after : Located) (made : ℕ) → StaysNext profile first kept next after made old before →
     IsStep profile next after old new before positions → new.place ≤ first.place →
-    StaysNext profile first kept next after new positions
-stays profile first old new kept before positions next after each is low tokens given n r are few =
-    let still : Still profile tokens given n first.place old before = each tokens given n r are few in
+    StaysNext profile first kept next after (made + 1) new positions
+stays profile first old new kept before positions next after made each is low tokens given n r are few =
+    let still : Still profile tokens given n first.place made old before = each tokens given n r are few in
     let to : StepReaches profile tokens given still.steps old new positions =
     step_reaches profile tokens given still.steps old new before positions next after still.reaches
     (still_next next after _ _ _ _ still.rest still.left are) is.ends is.moves is.kept in
     by still to (passes_with (items_of old.stack.items)) refl
   where
-    by : (still : Still profile tokens given n first.place old before) →
+    by : (still : Still profile tokens given n first.place made old before) →
         StepReaches profile tokens given still.steps old new positions → (b : Bool) →
-        passes_with (items_of old.stack.items) ≡ b → Still profile tokens given n first.place new positions
+        passes_with (items_of old.stack.items) ≡ b → Still profile tokens given n first.place (made + 1) new positions
     by still to true e = absurd (
         let moved : new.place ≡ old.place + tokens_passed (passes_with (items_of old.stack.items)) =
         is.moves.place (omega (arith, still.same_place, few)) in
@@ -104,6 +106,7 @@ stays profile first old new kept before positions next after each is low tokens 
         omega (arith, moved, one, still.same_place, low))
     by still to false e = record {
       steps = suc still.steps;
+      many = omega (arith, still.many);
       reaches = to.reaches;
       rest = to.rest ∙ flag_rest (items_of old.stack.items) (walk_at tokens given still.steps).state.rest false e
           ∙ still.rest;
@@ -119,20 +122,20 @@ stays profile first old new kept before positions next after each is low tokens 
 
 -- a token was passed
 pub passed : (profile : Profile) (first old new : Automaton) (kept before positions : List SourcePosition)
-    (next after : Located) → StaysNext profile first kept next after old before →
+    (next after : Located) (made : ℕ) → StaysNext profile first kept next after made old before →
     IsStep profile next after old new before positions → first.place < new.place →
     (tokens : List LocatedToken) (given : List SourcePosition) (n : ℕ) → Reaches profile tokens given n first kept →
     AreNext next after (walk_at tokens given n).state.rest (walk_at tokens given n).positions →
     first.place + 1 < 2 ^ 64 →
     PassesToken profile tokens given n new positions × (new.place ≡ first.place + 1)
-passed profile first old new kept before positions next after each is high tokens given n r are few =
-    let still : Still profile tokens given n first.place old before = each tokens given n r are few in
+passed profile first old new kept before positions next after made each is high tokens given n r are few =
+    let still : Still profile tokens given n first.place made old before = each tokens given n r are few in
     let to : StepReaches profile tokens given still.steps old new positions =
     step_reaches profile tokens given still.steps old new before positions next after still.reaches
     (still_next next after _ _ _ _ still.rest still.left are) is.ends is.moves is.kept in
     by still to (passes_with (items_of old.stack.items)) refl
   where
-    by : (still : Still profile tokens given n first.place old before) →
+    by : (still : Still profile tokens given n first.place made old before) →
         StepReaches profile tokens given still.steps old new positions → (b : Bool) →
         passes_with (items_of old.stack.items) ≡ b →
         PassesToken profile tokens given n new positions × (new.place ≡ first.place + 1)
@@ -149,6 +152,9 @@ passed profile first old new kept before positions next after each is high token
         flag_place (items_of old.stack.items) true e in (
           record {
             steps = suc still.steps;
+            before = still.steps;
+            last = omega arith;
+            unpassed = still.rest;
             reaches = to.reaches;
             rest = to.rest ∙ flag_rest (items_of old.stack.items) (walk_at tokens given still.steps).state.rest true e
                 ∙ ap (λ (l : List LocatedToken). drop 1 l) still.rest;

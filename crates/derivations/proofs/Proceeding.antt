@@ -41,7 +41,7 @@ last_is_end (token.Keyword w) e h = absurd cc
 last_is_end (token.Constant value) e h = absurd cc
 last_is_end (token.Punctuator m) e h = absurd cc
 
-unwrapped : (xs ys : List LocatedToken) → Some xs ≡ Some ys → xs ≡ ys
+pub unwrapped : (xs ys : List LocatedToken) → Some xs ≡ Some ys → xs ≡ ys
 unwrapped xs ys e = cc
 
 one_left : (t : LocatedToken) (others rest : List LocatedToken) → is_last t.token ≡ true →
@@ -111,7 +111,7 @@ opens profile bytes cursor to_come next automaton e at items marks place passed 
   place = place;
 }
 
-one_next : (t : LocatedToken) (next : Located) → next.token ≡ t.token → is_last t.token ≡ true →
+pub one_next : (t : LocatedToken) (next : Located) → next.token ≡ t.token → is_last t.token ≡ true →
     AreNext next next (t ∷ []) (position_of next ∷ [])
 one_next t next is e = record {
   next_is = sym is;
@@ -120,7 +120,7 @@ one_next t next is e = record {
   position_after_is = refl;
 }
 
-two_next : (t u : LocatedToken) (others : List LocatedToken) (next after : Located) (p : SourcePosition)
+pub two_next : (t u : LocatedToken) (others : List LocatedToken) (next after : Located) (p : SourcePosition)
     (ps : List SourcePosition) → next.token ≡ t.token → IsLocated after u p →
     AreNext next after (t ∷ u ∷ others) (position_of next ∷ p ∷ ps)
 two_next t u others next after p ps is behind = record {
@@ -130,18 +130,21 @@ two_next t u others next after p ps is behind = record {
   position_after_is = sym behind.position_is;
 }
 
-are_next : (next after : Located) (rest rest' : List LocatedToken) (left left' : List SourcePosition) → rest ≡ rest' →
+pub are_next : (next after : Located) (rest rest' : List LocatedToken) (left left' : List SourcePosition) →
+    rest ≡ rest' →
     left ≡ left' → AreNext next after rest' left' → AreNext next after rest left
 are_next next after rest rest' left left' e f are =
     subst (λ (l : List SourcePosition). AreNext next after rest l) (sym f)
     (subst (λ (l : List LocatedToken). AreNext next after l left') (sym e) are)
 
-record IsOnly (cursor : Cursor) (rest : List LocatedToken) (left : List SourcePosition) (next : Located) : Type 0 where
-  tokens_is : rest ≡ cursor.next ∷ []
-  positions_is : left ≡ position_of next ∷ []
+pub record IsOnly (cursor : Cursor) (rest : List LocatedToken) (left : List SourcePosition) (next : Located) : Type 0
+  where
+    pub tokens_is : rest ≡ cursor.next ∷ []
+    pub positions_is : left ≡ position_of next ∷ []
 
 -- the last token is next
-is_only : (bytes : List ℕ) (cursor : Cursor) (to_come : List ℕ) (rest : List LocatedToken) (left : List SourcePosition)
+pub is_only : (bytes : List ℕ) (cursor : Cursor) (to_come : List ℕ) (rest : List LocatedToken)
+    (left : List SourcePosition)
     (next : Located) → shown cursor (Some to_come) ≡ Some rest → AreLeft bytes rest left cursor.next next →
     is_last cursor.next.token ≡ true → IsOnly cursor rest left next
 is_only bytes cursor to_come rest left next e are last =
@@ -152,17 +155,18 @@ is_only bytes cursor to_come rest left next e are last =
           ∷ positions_behind bytes cursor.next.end (drop 1 l)) one;
     }
 
-record IsFirst (bytes : List ℕ) (cursor : Cursor) (others : List LocatedToken) (rest : List LocatedToken)
+pub record IsFirst (bytes : List ℕ) (cursor : Cursor) (others : List LocatedToken) (rest : List LocatedToken)
     (left : List SourcePosition) (next after : Located) : Type 0 where
-  tokens_is : rest ≡ cursor.next ∷ cursor.after ∷ others
-  positions_is : left ≡ position_of next ∷ position_of after ∷ positions_behind bytes cursor.after.end others
+  pub tokens_is : rest ≡ cursor.next ∷ cursor.after ∷ others
+  pub positions_is : left ≡ position_of next ∷ position_of after ∷ positions_behind bytes cursor.after.end others
 
-others_of : Cursor → List ℕ → List LocatedToken
+pub others_of : Cursor → List ℕ → List LocatedToken
 others_of cursor to_come =
     if is_last cursor.after.token then [] else tokens_after_lookahead cursor.window to_come
 
 -- another token comes after it
-is_first : (bytes : List ℕ) (cursor : Cursor) (to_come : List ℕ) (rest : List LocatedToken) (left : List SourcePosition)
+pub is_first : (bytes : List ℕ) (cursor : Cursor) (to_come : List ℕ) (rest : List LocatedToken)
+    (left : List SourcePosition)
     (next after : Located) → shown cursor (Some to_come) ≡ Some rest → AreLeft bytes rest left cursor.next next →
     IsLocated after cursor.after (position_in bytes cursor.next.end cursor.after) → is_last cursor.next.token ≡ false →
     IsFirst bytes cursor (others_of cursor to_come) rest left next after

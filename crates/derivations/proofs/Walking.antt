@@ -25,11 +25,11 @@ use Rattle.derivations.specs.declared.steps.StepEnd.TheVariants as step_end
 
 -- One more step of a walk.
 
-walked_last : (n : ℕ) (w : Walk) → walked (suc n) w ≡ walk_stepped (walked n w)
+pub walked_last : (n : ℕ) (w : Walk) → walked (suc n) w ≡ walk_stepped (walked n w)
 walked_last zero w = refl
 walked_last (suc n) w = walked_last n (walk_stepped w)
 
-positions_last : (p : Profile) (n : ℕ) (w : Walk) →
+pub positions_last : (p : Profile) (n : ℕ) (w : Walk) →
     positions_within p (suc n) w ≡ positions_within p n w ++ step_positions p (walked n w)
 positions_last p zero w = append-nil (step_positions p w)
 positions_last p (suc n) w =
@@ -37,19 +37,19 @@ positions_last p (suc n) w =
     ∙ sym (append_assoc (step_positions p w) (positions_within p n (walk_stepped w))
     (step_positions p (walked n (walk_stepped w))))
 
-stepped_state : (w : Walk) → (walk_stepped w).state ≡ stepped w.state
+pub stepped_state : (w : Walk) → (walk_stepped w).state ≡ stepped w.state
 stepped_state w = by (step w.state) refl
   where
     by : (o : Option State) → step w.state ≡ o → (if is_some o then walk_on w else w).state ≡ stepped w.state
     by None e = sym (ap (λ (o : Option State). unwrap_or o w.state) e)
     by (Some t) e = refl
 
-walked_state : (n : ℕ) (w : Walk) → (walked n w).state ≡ derived n w.state
+pub walked_state : (n : ℕ) (w : Walk) → (walked n w).state ≡ derived n w.state
 walked_state zero w = refl
 walked_state (suc n) w = walked_state n (walk_stepped w) ∙ ap (λ (s : State). derived n s) (stepped_state w)
 
 -- what a step of the walk makes, by the scheme
-step_length : (p : Profile) (tokens : List LocatedToken) (given : List SourcePosition) (n : ℕ) →
+pub step_length : (p : Profile) (tokens : List LocatedToken) (given : List SourcePosition) (n : ℕ) →
     let s = (walk_at tokens given n).state in
     code_length p (emitted s) ≡ code_length p (blank_emitted s.stack (next_token s.rest))
 step_length p tokens given n =
@@ -58,9 +58,9 @@ step_length p tokens given n =
 
 -- What a step's end says.
 
-record Fits (item : Item) (next after : Token) : Type 0 where
-  sound : is_lexical_error next ≡ false
-  has : has_step item next after ≡ true
+pub record Fits (item : Item) (next after : Token) : Type 0 where
+  pub sound : is_lexical_error next ≡ false
+  pub has : has_step item next after ≡ true
 
 fits_by : (item : Item) (next after : Token) (fault has : Bool) → is_lexical_error next ≡ fault →
     has_step item next after ≡ has → (if fault then step_end.Misfit else stepped_if has) ≡ step_end.Stepped →
@@ -69,10 +69,10 @@ fits_by item next after true has e k h = absurd cc
 fits_by item next after false true e k h = record { sound = e; has = k }
 fits_by item next after false false e k h = absurd cc
 
-record HasFront (stack : List Pending) (next after : Token) : Type 0 where
-  pending : Pending
-  front : front_of stack ≡ Some pending
-  fits : Fits (item_of pending.item) next after
+pub record HasFront (stack : List Pending) (next after : Token) : Type 0 where
+  pub pending : Pending
+  pub front : front_of stack ≡ Some pending
+  pub fits : Fits (item_of pending.item) next after
 
 front_by : (stack : List Pending) (next after : Token) (o : Option Pending) → front_of stack ≡ o →
     outcome_of o next after ≡ step_end.Stepped → HasFront stack next after
@@ -83,13 +83,14 @@ front_by stack next after (Some p) e h = record {
   fits = fits_by (item_of p.item) next after _ _ refl refl h;
 }
 
-has_front : (stack : List Pending) (next after : Token) → outcome_of (front_of stack) next after ≡ step_end.Stepped →
+pub has_front : (stack : List Pending) (next after : Token) →
+    outcome_of (front_of stack) next after ≡ step_end.Stepped →
     HasFront stack next after
 has_front stack next after h = front_by stack next after (front_of stack) refl h
 
 -- The step.
 
-goes_at : (old : Automaton) (w : Walk) (next after : Located) → IsAt old w →
+pub goes_at : (old : Automaton) (w : Walk) (next after : Located) → IsAt old w →
     AreNext next after w.state.rest w.positions →
     HasFront old.stack.items next.token after.token → Goes w.state
 goes_at old w next after at are f =
@@ -102,7 +103,8 @@ goes_at old w next after at are f =
     (subst (λ (t : Token). has_step (item_of f.pending.item) next.token t ≡ true) (sym (are.after_is f.fits.sound))
     f.fits.has))
 
-items_same : (xs ys : List Item) (a b c d : Token) → xs ≡ ys → a ≡ b → c ≡ d → items_after xs a c ≡ items_after ys b d
+pub items_same : (xs ys : List Item) (a b c d : Token) → xs ≡ ys → a ≡ b → c ≡ d →
+    items_after xs a c ≡ items_after ys b d
 items_same xs ys a b c d e f g =
     ap (λ (l : List Item). items_after l a c) e ∙ ap (λ (t : Token). items_after ys t c) f
     ∙ ap (λ (t : Token). items_after ys b t) g
@@ -135,7 +137,7 @@ at_next old new w next after at are sound g m = record {
 }
 
 -- the automaton's next positions are the walk's
-positions_same : (p : Profile) (old : Automaton) (w : Walk) (next after : Located) → IsAt old w →
+pub positions_same : (p : Profile) (old : Automaton) (w : Walk) (next after : Located) → IsAt old w →
     AreNext next after w.state.rest w.positions →
     code_length p (emitted w.state) ≡ code_length p (blank_emitted w.state.stack (next_token w.state.rest)) →
     positions_next p old next ≡ step_positions p w
@@ -160,7 +162,7 @@ pub record StepReaches (profile : Profile) (tokens : List LocatedToken) (given :
   pub left : (walk_at tokens given (suc n)).positions
       ≡ positions_after (items_of old.stack.items) (walk_at tokens given n).positions
 
-stepped_on : (w : Walk) → is_some (step w.state) ≡ true → walk_stepped w ≡ walk_on w
+pub stepped_on : (w : Walk) → is_some (step w.state) ≡ true → walk_stepped w ≡ walk_on w
 stepped_on w e = ap (λ (b : Bool). if b then walk_on w else w) e
 
 pub step_reaches : (profile : Profile) (tokens : List LocatedToken) (given : List SourcePosition) (n : ℕ)

@@ -1,6 +1,7 @@
 -- What a source compiles to.
 use Rattle.std.specs.Prelude.{◌≡◌, ℕ, List, Ok, Err}
 use Rattle.code.specs.Codes.{IsProgramOf}
+use Rattle.code.specs.Generation.{Program}
 use Rattle.derivations.specs.declared.compiling.Compiled.{Compiled}
 use Rattle.grammar.specs.declared.diagnostics.ParseFault.{ParseFault}
 use Rattle.grammar.specs.declared.diagnostics.ParseFault.TheVariants as parse_fault
@@ -19,6 +20,11 @@ pub record IsCompiled (profile : Profile) (bytes : List ℕ) (made : Compiled) :
   pub compiles : Compiles profile bytes
   pub program : IsProgramOf made.program profile compiles.file
   pub names : made.names ≡ pools_of compiles.file
+
+-- a program is that of the file that these bytes are, by its own profile
+pub record IsCompiledFrom (program : Program) (bytes : List ℕ) : Type 0 where
+  pub compiles : Compiles program.profile bytes
+  pub is : IsProgramOf program program.profile compiles.file
 
 -- the fault of a refusal is the source's first one, if its bytes are known; memory is never refused
 abbrev pub IsFirstFault : Profile → List ℕ → ParseFault → Type 0

@@ -2,8 +2,10 @@ pub mod Columns
 pub mod Compiling
 pub mod KnownPositions
 pub mod Positions
+pub mod Room
 pub mod Scheme
 pub mod Stacks
 pub mod Steps
 pub mod Table
+pub mod TokenCounts
 pub mod Walks

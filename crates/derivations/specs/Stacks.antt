@@ -1,9 +1,10 @@
 -- What a step of the automaton does with its stack.
-use Rattle.std.specs.Prelude.{◌≡◌, ◌+◌, ◌^◌, ◌<◌, ℕ, List, ◌++◌, Bool, true, false, Some, map, drop, reverse, if◌then◌else◌}
+use Rattle.std.specs.Prelude.{◌≡◌, ◌+◌, ◌^◌, ◌<◌, ℕ, List, ◌++◌, Bool, true, false, Some, map, drop, length, reverse, if◌then◌else◌}
 use Rattle.tokens.specs.declared.located_tokens.Token.{Token}
 use Rattle.grammar.specs.Grammar as table
 use Rattle.grammar.specs.Grammar.{choice}
 use Rattle.derivations.specs.Positions.{Mark, mark, chosen_items, marks_after, passed_after, passes, passes_with}
+use Rattle.derivations.specs.Steps.{front_of, outcome_of}
 use Rattle.derivations.specs.Table.{item_of}
 use Rattle.derivations.specs.declared.addresses.SourcePosition.{SourcePosition}
 use Rattle.derivations.specs.declared.locations.Located.{Located}
@@ -11,6 +12,7 @@ use Rattle.derivations.specs.declared.steps.Automaton.{Automaton}
 use Rattle.derivations.specs.declared.steps.Move.{Move}
 use Rattle.derivations.specs.declared.steps.Move.TheVariants as move
 use Rattle.derivations.specs.declared.steps.Pending.{Pending}
+use Rattle.derivations.specs.declared.steps.StepEnd.TheVariants as step_end
 
 abbrev pub item_in : Pending → table.Item
 item_in pending = item_of pending.item
@@ -57,3 +59,12 @@ pub record Moves (old new : Automaton) (next after : Located) : Type 0 where
       ≡ marks_after (items_of old.stack.items) next.token after.token (mark_of next after) (marks_of old.stack.items)
   pub passed : new.passed ≡ passed_after (items_of old.stack.items) (position_of next) old.passed
   pub place : old.place + 1 < 2 ^ 64 → new.place ≡ old.place + tokens_passed (passes_with (items_of old.stack.items))
+
+-- the most items that are pending
+abbrev pub most_pending : ℕ
+most_pending = 2048
+
+-- there is a step by these tokens, but no room for the items after it
+pub record IsOverfull (old : Automaton) (next after : Located) : Type 0 where
+  pub fits : outcome_of (front_of old.stack.items) next.token after.token ≡ step_end.Stepped
+  pub full : most_pending < length (items_after (items_of old.stack.items) next.token after.token)

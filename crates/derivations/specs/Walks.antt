@@ -47,10 +47,13 @@ positions_next profile automaton next =
     (position_from (origin_at (items_of automaton.stack.items)) (front_mark (marks_of automaton.stack.items))
     automaton.passed (position_of next))
 
--- more steps have led past the next token, and the positions of their instructions were kept
+-- more steps, the last of which passed the next token, were done, and the positions of their instructions were kept
 pub record PassesToken (profile : Profile) (tokens : List LocatedToken) (given : List SourcePosition) (n : ℕ)
     (automaton : Automaton) (positions : List SourcePosition) : Type 0 where
   pub steps : ℕ
+  pub before : ℕ
+  pub last : steps ≡ before + 1
+  pub unpassed : (walk_at tokens given before).state.rest ≡ (walk_at tokens given n).state.rest
   pub reaches : Reaches profile tokens given steps automaton positions
   pub rest : (walk_at tokens given steps).state.rest ≡ drop 1 (walk_at tokens given n).state.rest
   pub left : (walk_at tokens given steps).positions ≡ drop 1 (walk_at tokens given n).positions

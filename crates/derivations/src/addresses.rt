@@ -1,19 +1,21 @@
 //! The position in a source that each instruction of its program comes from.
 
-ghost use Rattle.std.specs.Prelude.{◌≡◌, ◌≤◌, ◌==◌, ◌++◌, ◌∷◌, [], true, false, None, Some, length, slice_get, IfSome};
+ghost use Rattle.std.specs.Prelude.{◌≡◌, ◌≢◌, ◌≤◌, ◌<◌, ◌+◌, ◌==◌, ◌++◌, ◌∷◌, [], true, false, None, Some, length, slice_get, IfSome};
 ghost use Rattle.grammar.specs.Grammar.{is_lexical_error};
 ghost use Rattle.tokens.specs.Tokens.{is_last, tokens};
 ghost use Rattle.derivations.specs.Columns.{position_in, token_positions};
 ghost use Rattle.derivations.specs.Positions.{ArePositions};
+ghost use Rattle.derivations.specs.Room.{HasRoom, RunsShort, most_places};
 ghost use Rattle.derivations.specs.Walks.{IsLocated, Passes, positions_next};
 ghost use Rattle.derivations.specs.declared.addresses.SourcePosition.{SourcePosition};
 
+use crate::feeds::SourceFeed;
 use crate::locations::{Finder, Located};
 use crate::steps::{Automaton, StepEnd, place_of};
 use arrayvec::ArrayVec;
 use grammar::Profile;
 use std::marker::Model;
-use tokens::{Cursor, MOST_SOURCE_BYTES, MemoryFeed, WINDOW_BYTES};
+use tokens::{Cursor, MOST_SOURCE_BYTES};
 
 /// The most instructions of a program in any profile, with the NOP that ends it.
 pub const MOST_PLACES: usize = 4000;
@@ -106,7 +108,9 @@ impl SourcePositions {
         next: &Located,
         after: &Located,
     ) -> bool
-        ensures { result ≡ true → Passes profile automaton.old self.old next.now after.now automaton.new self.new }
+        ensures passes { result ≡ true
+            → Passes profile automaton.old self.old next.now after.now automaton.new self.new }
+        ensures short { result ≡ false → RunsShort profile automaton.old self.old next.now after.now }
     {
         let place = automaton.place();
         for _step in 0..u64::MAX {
@@ -125,8 +129,10 @@ impl SourcePositions {
 
     /// Keeps the position of each instruction that the next step makes. Answers whether there was room.
     fn keep(&mut self, automaton: &Automaton, profile: Profile, next: &Located) -> bool
-        ensures { result ≡ true → is_lexical_error next.now.token ≡ false
+        ensures keeps { result ≡ true → is_lexical_error next.now.token ≡ false
             → self.new ≡ self.old ++ positions_next profile automaton.now next.now }
+        ensures full { result ≡ false
+            → most_places < length self.old + length (positions_next profile automaton.now next.now) }
     {
         let emission = automaton.emission(&next.token);
         let place = automaton.origin(emission.origin(), next);
@@ -140,22 +146,23 @@ impl SourcePositions {
 
     /// Keeps the position of one more instruction. Answers whether there was room.
     fn push(&mut self, place: SourcePosition) -> bool
-        ensures { result ≡ true → self.new ≡ self.old ++ place ∷ [] }
+        ensures pushed { result ≡ true → self.new ≡ self.old ++ place ∷ [] }
+        ensures full { result ≡ false → length self.old ≡ most_places }
     {
         self.places.try_push(place).is_ok()
     }
 }
 
 /// Finds the position of each instruction of a source's program in a profile, for a source that compiles: that of the
-/// token that its action comes from. `None` if a token doesn't fit, or there are more instructions than a program has.
-/// No clause says that the list is as long as the program's code: tests do. Faults of names and levels are passed over.
-/// No memory is asked for.
+/// token that its action comes from. `None` only if a token doesn't fit, or there is no room: for the items that are
+/// pending, or the positions. Faults of names and levels are passed over. No memory is asked for.
 #[inline(never)]
 pub fn lines(source: &[u8], profile: Profile) -> Option<SourcePositions>
-    ensures { IfSome result
+    ensures positions { IfSome result
         (λ positions. ArePositions profile (tokens source.now) (token_positions source.now) positions) }
+    ensures some { HasRoom profile (tokens source.now) (token_positions source.now) → result ≢ None }
 {
-    let mut feed = MemoryFeed::new(source, WINDOW_BYTES);
+    let mut feed = SourceFeed::new(source);
     let Ok(mut cursor) = Cursor::open(&mut feed) else {
         return None;
     };
@@ -165,7 +172,8 @@ pub fn lines(source: &[u8], profile: Profile) -> Option<SourcePositions>
         places: ArrayVec::new(),
     };
     let mut next = finder.place(cursor.peek());
-    for _token in 0..MOST_SOURCE_BYTES + 2 {
+    // a source has at most one token more than a cursor goes past
+    for _token in 0..MOST_SOURCE_BYTES + 3 {
         let is_last = cursor.peek().token.is_last();
         let after = token_after(&cursor, &mut finder, &next);
         if !found.pass(&mut automaton, profile, &next, &after) {

@@ -1,7 +1,7 @@
 //! What a source compiles to.
 
-ghost use Rattle.std.specs.Prelude.{◌≡◌, ◌≢◌, ℕ, IfErr, IfOk, IfSome, List, Some, length};
-ghost use Rattle.derivations.specs.Compiling.{IsCompiled, IsFirstFault};
+ghost use Rattle.std.specs.Prelude.{◌≡◌, ◌≢◌, ℕ, IfErr, IfOk, IfSome, List, None, Some, length};
+ghost use Rattle.derivations.specs.Compiling.{IsCompiled, IsCompiledFrom, IsFirstFault};
 ghost use Rattle.derivations.specs.Columns.{token_positions};
 ghost use Rattle.derivations.specs.Positions.{ArePositions};
 ghost use Rattle.parser.specs.Segment.{CountsRefusal};
@@ -65,6 +65,7 @@ pub fn compile_source(profile: Profile, source: &[u8]) -> Result<CompiledSource,
     ensures fault { IfErr result (IsFirstFault profile source.now) }
     ensures positions { IfOk result (λ made. IfSome made.positions (λ positions.
         ArePositions made.program.profile (tokens source.now) (token_positions source.now) positions)) }
+    ensures found { IfOk result (λ made. made.positions ≢ None) }
 {
     let mut feed = MemoryFeed::new(source, WINDOW_BYTES);
     let Compiled { program, names } = compile(profile, &mut feed)?;
@@ -77,15 +78,17 @@ pub fn compile_source(profile: Profile, source: &[u8]) -> Result<CompiledSource,
 }
 
 /// Finds the position of each instruction of a program in the source that it was compiled from: that of the token that
-/// its action comes from. `None` if these are not as many as the program has: that is so for another source, and tests
-/// look that it isn't for its own.
+/// its action comes from. `None` only for another source, and for one of which these are not as many as the program
+/// has.
 pub fn positions_of(program: &Program, source: &[u8]) -> Option<SourcePositions>
     ensures each { IfSome result (λ positions. length positions ≡ length program.now.instructions) }
     ensures positions { IfSome result (λ positions.
         ArePositions program.now.profile (tokens source.now) (token_positions source.now) positions) }
+    ensures found { IsCompiledFrom program.now source.now → result ≢ None }
 {
+    let count = program.instructions().len();
     let positions = lines(source, program.profile())?;
-    if positions.len() == program.instructions().len() {
+    if positions.len() == count {
         Some(positions)
     } else {
         None

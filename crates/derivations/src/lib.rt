@@ -9,6 +9,7 @@ mod candidates;
 mod choices;
 mod compiling;
 mod emissions;
+mod feeds;
 pub mod known;
 mod locations;
 mod named_programs;

@@ -1,9 +1,10 @@
 //! The tokens of a source in memory, each with its line, its column and its bytes.
 
-ghost use Rattle.std.specs.Prelude.{◌≡◌, ◌≤◌, ◌==◌, ◌&&◌, IfSome, length, min, slice_range};
+ghost use Rattle.std.specs.Prelude.{◌≡◌, ◌≤◌, ◌==◌, ◌&&◌, IfSome, false, length, min, slice_range};
 ghost use Rattle.tokens.specs.Characters.{is_blank};
 ghost use Rattle.tokens.specs.InputElement.{input_element, up_to_close};
 ghost use Rattle.derivations.specs.Columns.{blank_length, blanks, column_after, column_at, column_past, is_of_byte, start_of};
+ghost use Rattle.derivations.specs.TokenCounts.{HasMoreTokens};
 
 use arrayvec::ArrayVec;
 use std::alloc::{AllocError, Global};
@@ -104,13 +105,15 @@ fn count_tokens(source: &[u8]) -> usize {
 pub type Tokens = ArrayVec<Located, MOST_TOKENS>;
 
 /// Finds all tokens of a source as `locate` does, without asking for memory. Answers whether there was room for all.
-pub fn locate_in(tokens: &mut Tokens, source: &[u8]) -> bool {
+pub fn locate_in(tokens: &mut Tokens, source: &[u8]) -> bool
+    ensures { result ≡ false → HasMoreTokens source.now }
+{
     let mut feed = MemoryFeed::new(source, WINDOW_BYTES);
     let Ok(mut cursor) = Cursor::open(&mut feed) else {
         return true;
     };
     let mut places = Finder::new(source);
-    for _ in 0..MOST_TOKENS {
+    for _token in 0..MOST_TOKENS {
         let token = *cursor.peek();
         let _ = tokens.try_push(places.place(&token));
         if token.token.is_last() || cursor.advance(&mut feed).is_err() {

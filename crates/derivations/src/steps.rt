@@ -5,7 +5,7 @@ ghost use Rattle.grammar.specs.Grammar as table;
 ghost use Rattle.grammar.specs.Grammar.{is_lexical_error};
 ghost use Rattle.derivations.specs.Positions.{Mark, chosen_items, front_mark, mark, marks_after, nowhere, origin_at, passed_after, passes_with, position_from};
 ghost use Rattle.derivations.specs.Scheme.{blank_emitted, known_items};
-ghost use Rattle.derivations.specs.Stacks.{IsMove, Moves, items_of, mark_of, marks_of, position_of};
+ghost use Rattle.derivations.specs.Stacks.{IsMove, IsOverfull, Moves, items_of, mark_of, marks_of, most_pending, position_of};
 ghost use Rattle.derivations.specs.Steps.{decided_of, end_of, front_of, is_wanted, outcome_of, token_at};
 ghost use Rattle.derivations.specs.Table.{item_of};
 
@@ -109,6 +109,7 @@ impl Automaton {
         ensures ends { result ≢ StepEnd.Full
             → result ≡ outcome_of (front_of self.old.stack.items) next.now.token after.now.token }
         ensures moves { result ≡ StepEnd.Stepped → Moves self.old self.new next.now after.now }
+        ensures full { result ≡ StepEnd.Full → IsOverfull self.old next.now after.now }
     {
         let Some(pending) = self.front() else {
             return StepEnd::Done;
@@ -183,6 +184,8 @@ impl Automaton {
         after_chosen: SourcePosition,
     ) -> StepEnd
         ensures end { result ≢ StepEnd.Full → result ≡ StepEnd.Stepped }
+        ensures full { result ≡ StepEnd.Full
+            → most_pending < length (production.now ++ drop 1 (items_of self.old.stack.items)) }
         ensures items { result ≡ StepEnd.Stepped
             → items_of self.new.stack.items ≡ production.now ++ drop 1 (items_of self.old.stack.items) }
         ensures marks { result ≡ StepEnd.Stepped → marks_of self.new.stack.items
@@ -221,6 +224,7 @@ impl Automaton {
     /// Puts an item in front. Answers whether there was room.
     fn push(&mut self, pending: Pending) -> bool
         ensures stack { result ≡ true → self.new.stack.items ≡ self.old.stack.items ++ pending ∷ [] }
+        ensures full { result ≡ false → length self.old.stack.items ≡ most_pending }
         ensures place { self.new.place ≡ self.old.place }
         ensures passed { self.new.passed ≡ self.old.passed }
     {

@@ -1,5 +1,6 @@
-use Rattle.std.proofs.Common.{◌≡◌, refl}
+use Rattle.std.proofs.Common.{refl}
 use Rattle.parser.proofs.Passing.{passed_on}
+use Rattle.derivations.proofs.CompiledRoom.{compiled_from}
 use Rattle.derivations.proofs.compiling.compile_source.Goals as goal
 
 pub returns-in_err-program-clause-fault : goal.returns-in_err-program-clause-fault
@@ -9,3 +10,9 @@ returns-in_err-program-clause-fault c =
 
 pub returns-clause-compiles : goal.returns-clause-compiles
 returns-clause-compiles c = c.in_ok-program.ensures.compiles c.args.source.now (rw (c.new-feed.ensures) refl)
+
+pub returns-clause-found : goal.returns-clause-found
+returns-clause-found c =
+    c.positions_of-positions.ensures.found
+    (compiled_from c.args.profile c.args.source.now _
+    (c.in_ok-program.ensures.compiles c.args.source.now (rw (c.new-feed.ensures) refl)))

@@ -1,6 +1,6 @@
 use Rattle.std.proofs.Common.{sym, ap, ◌∙◌}
 use Rattle.std.specs.Prelude.{option_copied}
-use Rattle.derivations.proofs.Moving.{passes_on, replaces}
+use Rattle.derivations.proofs.Moving.{overfull, passes_on, replaces}
 use Rattle.derivations.proofs.steps.Automaton.step.Goals as goal
 
 pub returns-in-Replace-clause-moves : goal.returns-in-Replace-clause-moves
@@ -11,6 +11,12 @@ returns-in-Replace-clause-moves c =
     (sym c.front.ensures ∙ ap option_copied c.in-Some.is) c.decided.ensures.does
     c.enter.ensures.stack c.enter.ensures.passed c.enter.ensures.place c.place_of.ensures c.place_of-in-Replace.ensures
     (c.replace.ensures.items stepped) (c.replace.ensures.marks stepped) c.replace.ensures.passed c.replace.ensures.place
+
+pub returns-in-Replace-clause-full : goal.returns-in-Replace-clause-full
+returns-in-Replace-clause-full c =
+    λ full. overfull c.args.self.now c.enter.new.self c.args.next.now c.args.after.now c.in-Some.pending.now
+    c.in-Replace.production c.decided.result c.in-Replace.is (sym c.front.ensures ∙ ap option_copied c.in-Some.is)
+    c.decided.ensures.does c.decided.ensures.end c.enter.ensures.stack (c.replace.ensures.full full)
 
 pub returns-in-Pass-clause-moves : goal.returns-in-Pass-clause-moves
 returns-in-Pass-clause-moves c =
