@@ -23,7 +23,6 @@ struct SheetRows<'a> {
     sheet: &'a mut Sheet,
     stretch: Option<Stretch>,
     updates: u32,
-    skipped: u32,
 }
 
 impl SheetRows<'_> {
@@ -35,14 +34,10 @@ impl SheetRows<'_> {
         }
     }
 
-    /// Writes a row, unless it is one of the first ones that are left out.
+    /// Writes a row.
     fn put(&mut self, cycle: u32, robot: usize, event: &Event<'_>)
         ensures { kept_by self.new ≡ kept_by self.old }
     {
-        if self.skipped > 0 {
-            self.skipped -= 1;
-            return;
-        }
         self.sheet.add(Row::new(cycle, robot, event).as_slice());
     }
 }
@@ -80,13 +75,12 @@ pub(crate) struct Film<'a> {
 
 impl<'a> Film<'a> {
     /// Begins a film of a stretch, or of a whole match, of compiled robots on a sheet. These are the positions of each
-    /// file's instructions. The given number of rows are left out.
+    /// file's instructions.
     pub(crate) fn new(
         sheet: &'a mut Sheet,
         compiled: &'a CompiledRobots,
         positions: &'a [Option<SourcePositions>],
         stretch: Option<Stretch>,
-        skipped: u32,
     ) -> Film<'a>
         ensures stretch { result.camera.rows.stretch ≡ stretch }
         ensures sheet { result.camera.rows.sheet.ghost_name ≡ sheet.entry.ghost_name }
@@ -96,7 +90,6 @@ impl<'a> Film<'a> {
             sheet,
             stretch,
             updates: 0,
-            skipped,
         };
         Film {
             camera: Camera::new(rows),
