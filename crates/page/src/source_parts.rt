@@ -1,7 +1,6 @@
 //! What a robot's source has where: its names, and where its instructions come from.
 
 use crate::compiled_robots::CompiledRobots;
-use crate::robots::RobotFile;
 use crate::rows::Row;
 use crate::sheets::Sheet;
 use derivations::{NamedProgram, SourcePositions};
@@ -12,14 +11,14 @@ use watching::{Event, Field};
 const COLUMNS: &[u8] = b"number\trobot\tkind\ta\tb\tc\td\te\n";
 
 /// Writes the names of each robot's source, and where the instructions of its program come from, a row each.
-pub(crate) fn tell_places(compiled: &CompiledRobots, robots: &[RobotFile], sheet: &mut Sheet) {
+pub(crate) fn tell_places(compiled: &CompiledRobots, sheet: &mut Sheet) {
     sheet.add(COLUMNS);
-    for (robot, positions) in compiled.positions(robots).iter().enumerate() {
+    for robot in 0..compiled.len() {
         let Some(named) = compiled.named(robot) else {
             return;
         };
         tell_names(robot, &named, sheet);
-        if let Some(positions) = positions {
+        if let Some(positions) = compiled.positions(robot) {
             tell_code(robot, &named, positions, sheet);
         }
     }
