@@ -308,6 +308,7 @@ def wrong_parts(answer: Answer, wanted: dict[str, Any]) -> list[str]:
         "variable": [[str(number), str(of), name] for of, function in enumerate(functions) for number, name in enumerate(function["variables"])],
         "code": [[str(row["address"]), str(row["line"]), str(int(row["address"] in entered)), str(row["function"]), row["name"] or ""]
                  for row in code],
+        "instruction": [[str(row["address"]), row["instruction"]] for row in code],
     }
     got = {kind: [row[:2] + row[3:] if kind == "code" else row for row in parts_of(answer, kind)] for kind in kinds}
     return [f"{kind}: {got[kind]}, not {rows}" for kind, rows in kinds.items() if got[kind] != rows]
@@ -318,18 +319,18 @@ def places(crobots: str, stages: str, folder: str) -> list[str]:
     robots = samples() + [it for battle in random_battles(60, 11) for it in battle.robots]
     sources = [(robot, profile) for robot in robots for profile in (1, 2)] + [(("deep.r", deepest()), 2)]
     sources += [(it.robots[0], it.settings.profile) for it in hostile_battles() if it.told(crobots)[0] == 0]
-    asked = [Battle([robot], Settings(profile=profile), call) for robot, profile in sources for call in ("places", "list")]
-    answered, wrong = answers(folder, asked), []
-    for at in range(0, len(asked), 2):
-        (name, source), profile = asked[at].robots[0], asked[at].settings.profile
-        where, code = placed(answered[at]), re.findall(r"^[ \d]{5} (.*)$", answered[at + 1][1].decode(), re.MULTILINE)
+    asked = [Battle([robot], Settings(profile=profile), "places") for robot, profile in sources]
+    wrong = []
+    for battle, answer in zip(asked, answers(folder, asked), strict=True):
+        (name, source), profile = battle.robots[0], battle.settings.profile
+        where, code = placed(answer), parts_of(answer, "instruction")
         if len(where) != len(code):
             wrong.append(f"{name}: {len(where)} places for {len(code)} instructions")
-        for (line, column), instruction in zip(where, code):
+        for (line, column), (_, instruction) in zip(where, code):
             token = token_at(source, line, column)
             wrong += [] if comes_from(instruction, token) else [f"{name}:{line}:{column}: {instruction} from {token}"]
         if len(source) <= MOST_SHOWN:
-            wrong += [f"{name}, profile {profile}: {it}" for it in wrong_parts(answered[at], code_of(stages, name, source, profile))]
+            wrong += [f"{name}, profile {profile}: {it}" for it in wrong_parts(answer, code_of(stages, name, source, profile))]
     return wrong
 
 

@@ -99,8 +99,8 @@ pub extern "C" fn find(
     tell(order, robots, &Subject::Run(target), text, faults)
 }
 
-/// Writes where the instructions of one to four robots come from, a row each, or the diagnostics of faulty sources.
-/// Answers as `run` does.
+/// Writes the names of one to four robots, and their instructions with where they come from, a row each, or the
+/// diagnostics of faulty sources. Answers as `run` does.
 #[unsafe(no_mangle)]
 pub extern "C" fn places(
     order: &Order,
