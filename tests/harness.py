@@ -182,6 +182,15 @@ class Folder:
         return [] if {0, 5} <= seen else [f"{words}: statuses were {sorted(seen)}, and not 0 and 5"]
 
 
+def run_on(usage: str, words: list[str], tests: Callable[..., object]) -> int:
+    """Runs tests that are made of the programs of a usage, BIN_NAME each, and of a folder. Answers the status."""
+    if refused(usage, words, usage.count(" BIN_")):
+        return 2
+    take_signals()
+    with tempfile.TemporaryDirectory() as folder:
+        return counted(*run(tests(*(os.path.abspath(word) for word in words), folder)))
+
+
 def run_parts(usage: str, words: list[str], parts: Sequence[Callable[[str, str], object]]) -> int:
     """Runs the parts of a test, each of which is made of a program and a folder. The words are the program, and names of tests if these
     alone are wanted. Answers the status."""

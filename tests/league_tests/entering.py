@@ -5,61 +5,64 @@ from __future__ import annotations
 from .base import IDLE, SHOOTER, Base, League, write
 
 
+# Words of which a command can't be about a league with robots a and b, where b has left; the status, and what is said.
+REFUSED: tuple[tuple[tuple[str, ...], int, str], ...] = (
+    (("add", "a.r"), 2, "there is a robot a already"),
+    (("add", "b.r"), 2, "there is a robot b already"),
+    (("add", "c.r", "d.r", "gone.r"), 3, "cannot read gone.r"),
+    (("add", "c.r", "bad.r"), 1, "bad.r:2: reserved word"),
+    (("add", "c.r", "--id=x y"), 2, "'x y' is no id"),
+    (("add", "c.r", "--id=" + "x" * 41), 2, "is no id"),
+    (("add", "c.r", "--id=.x"), 2, "is no id"),
+    (("add", "c.r", "d.r", "--id=x"), 2, "--id is for one robot"),
+    (("add", "c.r", "--author=a\nb"), 2, "an author's name"),
+    (("add", "c.r", "--author=\udcff"), 2, "an author's name"),
+    (("add", "c.r", "--day=2026-03-04"), 2, "the last entry is of 2026-03-05"),
+    (("add", "c.r", "--day=2026-02-30"), 2, "is no day"),
+    (("change", "x", "c.r"), 2, "there is no robot x"),
+    (("change", "a", "a.r"), 2, "has these bytes already"),
+    (("change", "a", "bad.r"), 1, "bad.r:2: reserved word"),
+    (("withdraw", "a", "x"), 2, "there is no robot x"),
+    (("withdraw", "b"), 2, "has left already"),
+    (("rules", "--anchor=x=5"), 2, "which doesn't play"),
+    (("rules", "--mode=gauntlet:b"), 2, "which doesn't play"),
+    (("rules", "--mode=threes", "--until=sure"), 2, "only pairs"),
+    (("rules", "--mode=ladder", "--sample=3"), 2, "a sample is one of"),
+    (("rules", "--mode=x"), 2, "is none of"),
+    (("rules", "--mode=sizes:0,0,0"), 2, "one at least has a weight"),
+    (("rules", "-m0"), 2, "is no number"),
+    (("init",), 3, "is a league already"),
+    (("season", "begin", "two"), 2, "goes on"),
+    (("season", "begin"), 2, "takes a season's name"),
+    (("table", "--season=x"), 2, "there is no season x"),
+    (("play", "--crobots=/bin/true"), 2, "is not the program of this season"),
+    (("play", "--crobots=gone"), 2, "is not there"),
+)
+
+
 class Entering(Base):
     """Who plays."""
 
     def refuses(self) -> list[str]:
         """What can't be, with one line and a status, and nothing of it is kept."""
-        it = League(self, "refuses", robots=("a.r", "b.r"))
-        it.run("withdraw", "b", "--day=2026-03-05")
-        before = it.rows("SELECT * FROM entry"), it.rows("SELECT * FROM season")
+        league = League(self, "refuses", robots=("a.r", "b.r"))
+        league.run("withdraw", "b", "--day=2026-03-05")
+        before = league.rows("SELECT * FROM entry"), league.rows("SELECT * FROM season")
         wrong = []
-        cases: list[tuple[tuple[str, ...], int, str]] = [
-            (("add", "a.r"), 2, "there is a robot a already"),
-            (("add", "b.r"), 2, "there is a robot b already"),
-            (("add", "c.r", "d.r", "gone.r"), 3, "cannot read gone.r"),
-            (("add", "c.r", "bad.r"), 1, "bad.r:2: reserved word"),
-            (("add", "c.r", "--id=x y"), 2, "'x y' is no id"),
-            (("add", "c.r", "--id=" + "x" * 41), 2, "is no id"),
-            (("add", "c.r", "--id=.x"), 2, "is no id"),
-            (("add", "c.r", "d.r", "--id=x"), 2, "--id is for one robot"),
-            (("add", "c.r", "--author=a\nb"), 2, "an author's name"),
-            (("add", "c.r", "--author=\udcff"), 2, "an author's name"),
-            (("add", "c.r", "--day=2026-03-04"), 2, "the last entry is of 2026-03-05"),
-            (("add", "c.r", "--day=2026-02-30"), 2, "is no day"),
-            (("change", "x", "c.r"), 2, "there is no robot x"),
-            (("change", "a", "a.r"), 2, "has these bytes already"),
-            (("change", "a", "bad.r"), 1, "bad.r:2: reserved word"),
-            (("withdraw", "a", "x"), 2, "there is no robot x"),
-            (("withdraw", "b"), 2, "has left already"),
-            (("rules", "--anchor=x=5"), 2, "which doesn't play"),
-            (("rules", "--mode=gauntlet:b"), 2, "which doesn't play"),
-            (("rules", "--mode=threes", "--until=sure"), 2, "only pairs"),
-            (("rules", "--mode=ladder", "--sample=3"), 2, "a sample is one of"),
-            (("rules", "--mode=x"), 2, "is none of"),
-            (("rules", "--mode=sizes:0,0,0"), 2, "one at least has a weight"),
-            (("rules", "-m0"), 2, "is no number"),
-            (("init",), 3, "is a league already"),
-            (("season", "begin", "two"), 2, "goes on"),
-            (("season", "begin"), 2, "takes a season's name"),
-            (("table", "--season=x"), 2, "there is no season x"),
-            (("play", "--crobots=/bin/true"), 2, "is not the program of this season"),
-            (("play", "--crobots=gone"), 2, "is not there"),
-        ]
-        for words, status, why in cases:
-            ran = it.ran(*words)
+        for words, status, why in REFUSED:
+            ran = league.ran(*words)
             if ran.returncode != status or why not in ran.stderr or ran.stderr.count("\n") != 1:
                 wrong.append(f"{words}: status {ran.returncode}, {ran.stderr!r}")
-        if (it.rows("SELECT * FROM entry"), it.rows("SELECT * FROM season")) != before:
+        if (league.rows("SELECT * FROM entry"), league.rows("SELECT * FROM season")) != before:
             wrong.append("something of it was kept")
+        return wrong
+
+    def refuses_without_a_league(self) -> list[str]:
+        """Folders and files that are no league, and commands that aren't there."""
         write(self.at("text"), "no database")
-        for words, status in (
-            (("status", "gone"), 3),
-            (("frob", it.folder), 2),
-            ((), 2),
-            (("verify", "text"), 3),
-            (("verify", "gone"), 3),
-        ):
+        cases = ((("status", "gone"), 3), (("frob", self.at("text")), 2), ((), 2), (("verify", "text"), 3), (("verify", "gone"), 3))
+        wrong = []
+        for words, status in cases:
             if (ran := self.ran(*words)).returncode != status or ran.stderr.count("\n") != 1:
                 wrong.append(f"{words}: status {ran.returncode}, {ran.stderr!r}")
         return wrong

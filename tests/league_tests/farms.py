@@ -17,6 +17,29 @@ from tournaments.records import checksum
 from .base import DAY, Base, League, write
 
 
+def _summed(line: str) -> str:
+    """A record with the checksum of what it says."""
+    text = line.partition(" sum=")[0]
+    return f"{text} sum={checksum(text)}\n"
+
+
+def _wrong_records(line: str) -> list[tuple[str, str]]:
+    """What a record may have wrong, each with what is said of it."""
+    other = "0" * 64
+    seed, hashes = (re.search(rf" {name}=(\w+)", line) for name in ("seed", "sha256"))
+    assert seed and hashes
+    return [
+        ("cut short", line[:200]),
+        ("its checksum is another", line.replace(" first=1", " first=2")),
+        ("no record", "hello\n"),
+        ("another limit", _summed(line.replace(" l=300", " l=300000"))),
+        ("another program", _summed(re.sub(r"program=\w+", f"program={other}", line))),
+        ("another profile", _summed(line.replace(" p=1 ", " p=2 "))),
+        ("never had", _summed(line.replace(hashes[1], other))),
+        ("a seed that these robots don't have", _summed(line.replace(seed[1], "7"))),
+    ]
+
+
 class Farms(Base):
     """What other machines play."""
 
@@ -123,28 +146,11 @@ class Farms(Base):
 
     def _refused_records(self, it: League, lines: list[str]) -> list[str]:
         """Records that are wrong are refused by line, what is right beside them is kept, and what is there stays."""
+        return self._mixed_records(lines) + self._false_results(it, lines)
 
-        def summed(line: str) -> str:
-            text = line.partition(" sum=")[0]
-            return f"{text} sum={checksum(text)}\n"
-
-        seed = re.search(r" seed=(\d+)", lines[0])
-        assert seed
-        other = "0" * 64
-        hashes = re.search(r" sha256=(\w+)", lines[0])
-        assert hashes
-        cases = [
-            ("cut short", lines[0][:200]),
-            ("its checksum is another", lines[0].replace(" first=1", " first=2")),
-            ("no record", "hello\n"),
-            ("another limit", summed(lines[0].replace(" l=300", " l=300000"))),
-            ("another program", summed(re.sub(r"program=\w+", f"program={other}", lines[0]))),
-            ("another profile", summed(lines[0].replace(" p=1 ", " p=2 "))),
-            ("never had", summed(lines[0].replace(hashes[1], other))),
-            ("a seed that these robots don't have", summed(lines[0].replace(seed[1], "7"))),
-        ]
-        wrong = []
-        before = it.battles()
+    def _mixed_records(self, lines: list[str]) -> list[str]:
+        """Each record that is wrong is named by its line, with why; the one that is right is kept."""
+        cases, wrong = _wrong_records(lines[0]), []
         fresh = League(self, "fresh", "-m6", robots=("a.r", "b.r", "r5.r", "r10.r"))
         write(self.at("mixed"), "".join(line if line.endswith("\n") else line + "\n" for _, line in cases) + lines[1])
         ran = fresh.ran("take", "mixed")
@@ -156,8 +162,13 @@ class Farms(Base):
                 why not in line and not (why == "no record" and "cut short" in line)
             ):
                 wrong.append(f"{why}: {line}")
+        return wrong
+
+    def _false_results(self, it: League, lines: list[str]) -> list[str]:
+        """A result that the match doesn't have is found by playing it, or since another one is kept; nothing of it is."""
+        before, wrong = it.battles(), []
         lost = next(line for line in lines if re.search(r"results=90:", line))
-        write(self.at("false"), summed(re.sub(r"results=90:(\d+):(\d+)", r"results=90:\2:\1", lost)))
+        write(self.at("false"), _summed(re.sub(r"results=90:(\d+):(\d+)", r"results=90:\2:\1", lost)))
         ran = it.ran("take", "false")
         if ran.returncode != 2 or "was not played as it says: match" not in ran.stderr or it.battles() != before:
             wrong.append(f"a false result: {ran.returncode}, {ran.stderr}")

@@ -15,13 +15,9 @@ fn code_of(alloc: Global, profile: Profile, source: &[u8]) -> Result<String, Fai
 }
 
 #[test]
-fn folded_code_of_small_robots(rt: HostRuntime) -> Result<(), Fail> {
-    for (profile, source, wanted) in [
-        // a side that is not known
-        (
-            Profile::first(),
-            b"main(){ int a; a = a + 1 + 2; }".as_slice(),
-            "    0 FETCH L0
+fn a_side_that_is_not_known_stays(rt: HostRuntime) -> Result<(), Fail> {
+    let source = b"main(){ int a; a = a + 1 + 2; }";
+    let wanted = "    0 FETCH L0
     1 CONST 1
     2 BINOP +
     3 CONST 2
@@ -31,24 +27,28 @@ fn folded_code_of_small_robots(rt: HostRuntime) -> Result<(), Fail> {
     7 CONST 0
     8 RETSUB
     9 NOP
-",
-        ),
-        // unary operators, which are operators on constants
-        (
-            Profile::first(),
-            b"main(){ return -(2 + 3) + !4 + ~0; }",
-            "    0 CONST -6
+";
+    assert_eq!(rt; code_of(rt.alloc(), Profile::first(), source)?.as_str(), wanted);
+    Ok(())
+}
+
+#[test]
+fn unary_operators_are_operators_on_constants(rt: HostRuntime) -> Result<(), Fail> {
+    let source = b"main(){ return -(2 + 3) + !4 + ~0; }";
+    let wanted = "    0 CONST -6
     1 RETSUB
     2 CONST 0
     3 RETSUB
     4 NOP
-",
-        ),
-        // a right side that is left out
-        (
-            Profile::second(),
-            b"main(){ 1 && 2 + 3; }",
-            "    0 CONST 1
+";
+    assert_eq!(rt; code_of(rt.alloc(), Profile::first(), source)?.as_str(), wanted);
+    Ok(())
+}
+
+#[test]
+fn a_right_side_that_may_be_left_out_is_folded(rt: HostRuntime) -> Result<(), Fail> {
+    let source = b"main(){ 1 && 2 + 3; }";
+    let wanted = "    0 CONST 1
     1 BRANCH 6
     2 CONST 5
     3 TRUTH
@@ -59,11 +59,8 @@ fn folded_code_of_small_robots(rt: HostRuntime) -> Result<(), Fail> {
     8 CONST 0
     9 RETSUB
    10 NOP
-",
-        ),
-    ] {
-        assert_eq!(rt; code_of(rt.alloc(), profile, source)?.as_str(), wanted);
-    }
+";
+    assert_eq!(rt; code_of(rt.alloc(), Profile::second(), source)?.as_str(), wanted);
     Ok(())
 }
 

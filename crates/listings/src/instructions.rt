@@ -3,6 +3,7 @@
 ghost use Rattle.std.specs.Prelude.{◌≡◌, ◌+◌, ◌-◌, ◌^◌, ◌<◌, ◌≤◌, [], ◌++◌, IfOk, length};
 ghost use Rattle.std.specs.Fmt.{signed_decimal};
 ghost use Rattle.sinks.specs.Pens.{Adds, MayFail};
+ghost use Rattle.sinks.specs.Puts.{CanFail, Puts};
 ghost use Rattle.listings.specs.Spelling.{callee_text, instr_text, variable_text};
 
 use code::Instr;
@@ -15,12 +16,20 @@ pub fn instruction_text(alloc: Global, instr: Instr) -> Result<Vec<u8>, AllocErr
     ensures { IfOk result (λ text. text.items ≡ instr_text instr) }
 {
     let mut sink = MemorySink::new(alloc);
-    let mut pen = Pen::new();
-    add_instruction(&mut pen, &mut sink, instr);
-    match pen.finish(&mut sink) {
+    match put_instruction(&mut sink, instr) {
         Ok(()) => sink.joined(),
         Err(DeviceFault) => Err(AllocError),
     }
+}
+
+/// Puts an instruction as a listing has it, without its address.
+pub fn put_instruction<S: Sink>(sink: &mut S, instr: Instr) -> Result<(), DeviceFault>
+    requires { CanFail (S.written sink.old) }
+    ensures { Puts result (S.written sink.old) (S.written sink.new) (instr_text instr) }
+{
+    let mut pen = Pen::new();
+    add_instruction(&mut pen, sink, instr);
+    pen.finish(sink)
 }
 
 /// Adds an instruction: its word, and its operand if it has one.

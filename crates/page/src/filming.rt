@@ -48,7 +48,8 @@ pub fn tell_robots(
         Ok(Status::Done) => {
             // For the proof alone: a file that compiles is resolved.
             resolved_files();
-            let ending = tell_subject(&settings, &compiled, robots, subject, film);
+            compiled.find_positions(robots, subject);
+            let ending = tell_subject(&settings, &compiled, subject, film);
             if film.is_full() {
                 return Ending::Full;
             }
@@ -63,7 +64,6 @@ pub fn tell_robots(
 fn tell_subject(
     settings: &Settings<'_>,
     compiled: &CompiledRobots,
-    robots: &[RobotFile],
     subject: &Subject<'_>,
     sheet: &mut Sheet,
 ) -> Ending
@@ -75,24 +75,20 @@ fn tell_subject(
         settings.now.first settings.now.limit).cycles result }
 {
     match *subject {
-        Subject::Film(stretch, skipped) => {
-            return film_match(settings, compiled, robots, stretch, skipped, sheet);
-        }
+        Subject::Film(stretch) => return film_match(settings, compiled, stretch, sheet),
         Subject::Moment(target) => tell_inside(settings, compiled, target, false, sheet),
         Subject::Run(target) => tell_inside(settings, compiled, target, true, sheet),
-        Subject::Places => tell_places(compiled, robots, sheet),
+        Subject::Places => tell_places(compiled, sheet),
     }
     Ending::Done
 }
 
-/// Plays the first match of compiled robots, and writes its film on a sheet: of a stretch, or of all of it, without some
-/// of its first rows. `Full` if it was cut off, since the sheet is full.
+/// Plays the first match of compiled robots, and writes its film on a sheet: of a stretch, or of all of it. `Full` if it
+/// was cut off, since the sheet is full.
 fn film_match(
     settings: &Settings<'_>,
     compiled: &CompiledRobots,
-    robots: &[RobotFile],
     stretch: Option<Stretch>,
-    skipped: u32,
     sheet: &mut Sheet,
 ) -> Ending
     requires { 0 < length compiled.now.programs.items }
@@ -102,8 +98,7 @@ fn film_match(
         settings.now.limit).cycles result }
     ensures full { result ≡ Ending.Full → IsFull sheet.new }
 {
-    let positions = compiled.positions(robots);
-    let mut film = Film::new(sheet, compiled, positions.as_slice(), stretch, skipped);
+    let mut film = Film::new(sheet, compiled, stretch);
     let end = play_robots(settings, compiled, &mut film);
     let ending = ending_of(stretch, end);
     if ending == Ending::Done {

@@ -11,7 +11,6 @@ use crate::sheets::Sheet;
 use crate::stretches::Stretch;
 use arena::{Arena, MOST_BURSTS};
 use code::{Cause, Intrinsic};
-use derivations::SourcePositions;
 use watching::{
     Camera, Event, Exchange, FILM_COLUMNS, FilmRows, Listener, Pilot, Place, Stance, Turn,
     UPDATE_CYCLES, Watcher, word_of,
@@ -23,7 +22,6 @@ struct SheetRows<'a> {
     sheet: &'a mut Sheet,
     stretch: Option<Stretch>,
     updates: u32,
-    skipped: u32,
 }
 
 impl SheetRows<'_> {
@@ -35,14 +33,10 @@ impl SheetRows<'_> {
         }
     }
 
-    /// Writes a row, unless it is one of the first ones that are left out.
+    /// Writes a row.
     fn put(&mut self, cycle: u32, robot: usize, event: &Event<'_>)
         ensures { kept_by self.new ≡ kept_by self.old }
     {
-        if self.skipped > 0 {
-            self.skipped -= 1;
-            return;
-        }
         self.sheet.add(Row::new(cycle, robot, event).as_slice());
     }
 }
@@ -74,19 +68,15 @@ impl FilmRows for SheetRows<'_> {
 pub(crate) struct Film<'a> {
     camera: Camera<SheetRows<'a>>,
     compiled: &'a CompiledRobots,
-    positions: &'a [Option<SourcePositions>],
     missiles: [FiredMissile; MOST_BURSTS],
 }
 
 impl<'a> Film<'a> {
-    /// Begins a film of a stretch, or of a whole match, of compiled robots on a sheet. These are the positions of each
-    /// file's instructions. The given number of rows are left out.
+    /// Begins a film of a stretch, or of a whole match, of compiled robots on a sheet.
     pub(crate) fn new(
         sheet: &'a mut Sheet,
         compiled: &'a CompiledRobots,
-        positions: &'a [Option<SourcePositions>],
         stretch: Option<Stretch>,
-        skipped: u32,
     ) -> Film<'a>
         ensures stretch { result.camera.rows.stretch ≡ stretch }
         ensures sheet { result.camera.rows.sheet.ghost_name ≡ sheet.entry.ghost_name }
@@ -96,12 +86,10 @@ impl<'a> Film<'a> {
             sheet,
             stretch,
             updates: 0,
-            skipped,
         };
         Film {
             camera: Camera::new(rows),
             compiled,
-            positions,
             missiles: [FiredMissile::default(); MOST_BURSTS],
         }
     }
@@ -110,16 +98,6 @@ impl<'a> Film<'a> {
     pub(crate) fn end(&mut self, cycle: u32) {
         self.camera.rows.stretch = None;
         self.camera.end(cycle, "end");
-    }
-
-    /// Returns the line that the instruction of an address comes from, 0 if it isn't known. A single file's program is
-    /// that of both robots.
-    fn line(&self, robot: usize, address: usize) -> u32 {
-        let file = robot.min(self.positions.len().saturating_sub(1));
-        match self.positions.get(file) {
-            Some(Some(positions)) => positions.line(address),
-            _ => 0,
-        }
     }
 
     /// Takes the film apart, and returns the sheet.
@@ -212,8 +190,8 @@ impl Watcher for Film<'_> {
             return;
         }
         let address = pilot.machine().address();
-        let function = function_name(self.compiled, turn.robot, address);
-        let line = self.line(turn.robot, address);
+        let function = self.compiled.function_name(turn.robot, address);
+        let line = self.compiled.line(turn.robot, address);
         self.camera
             .restart(turn.cycle, turn.robot, word_of(cause), function, line);
     }
@@ -245,14 +223,6 @@ impl Watcher for Film<'_> {
 pub(crate) fn add_columns(sheet: &mut Sheet) {
     sheet.add(FILM_COLUMNS.as_bytes());
     sheet.add(b"\n");
-}
-
-/// Returns the name of a robot's function that holds an address.
-fn function_name(compiled: &CompiledRobots, robot: usize, address: usize) -> &str {
-    match compiled.named(robot) {
-        Some(named) => named.function_name(named.function(address)),
-        None => "?",
-    }
 }
 
 /// Returns the event that a missile is in the air: what it was fired with, and where.

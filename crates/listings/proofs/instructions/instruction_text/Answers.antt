@@ -5,6 +5,6 @@ use Rattle.listings.proofs.instructions.instruction_text.Goals as goal
 
 pub returns-in-Ok : goal.returns-in-Ok
 returns-in-Ok c =
-    let took = (c.in-Ok.ensures _ _ (c.add_instruction.ensures.text _ _ (c.new-pen.ensures.text _))).0 in
+    let took = c.in-Ok.ensures.0 in
     let nothing = ap (λ (sink : MemorySink). sink.portions) c.new-sink.ensures in
     rw (all_taken _ _ took.portions _ nothing took.taken took.joined) at c.joined.ensures
