@@ -11,12 +11,16 @@ import subprocess
 import time
 import zipfile
 from contextlib import closing
+from dataclasses import replace
 from typing import Callable, Iterator
 from unittest import mock
 
 from ladder import serving
 from ladder.attempts import Attempts
+from ladder.inviting import settled
+from ladder.terms import Terms
 from leagues.store import opened
+from leagues.words import TERMS, Words
 
 from .base import IDLE, SECONDS, Answer, Base, Ladder, other
 
@@ -310,6 +314,18 @@ class Authors(Base):
             yield "the withdrawn link is taken"
         if "robots: 2\n" not in ladder.run("terms", "--robots", "2", "--names", "hidden") or "names: hidden\n" not in ladder.run("terms"):
             yield "terms don't stay"
+
+    def each_term_gets_each_value(self) -> Iterator[str]:
+        """Whatever it was before, also nothing; what isn't given stays."""
+        before = Terms(names=False, opens="2026-01-01", closes="2026-02-01", **{name.replace("-", "_"): 7 for name in TERMS})
+        cases: list[tuple[str, str, object]] = [(name, str(value), value) for name, (most, _) in TERMS.items() for value in (0, 1, most)]
+        cases += [("names", "shown", True), ("names", "hidden", False), ("readers", "all", "all"), ("readers", "author", "author"),
+                  *((name, "2026-01-15", "2026-01-15") for name in ("opens", "closes"))]
+        for name, word, value in cases:
+            given = Words("league").parse(["terms", "league", f"--{name}={word}"])
+            for start in (before, Terms()):
+                if (found := settled(start, given)) != (wanted := replace(start, **{name.replace("-", "_"): value})):
+                    yield f"--{name}={word}: {found}, not {wanted}"
 
     def _people(self, name: str) -> tuple[Ladder, dict[str, str]]:
         """A ladder of its own, with the tokens of all roles."""

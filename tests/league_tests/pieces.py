@@ -2,14 +2,17 @@
 
 from __future__ import annotations
 
+import os
 import random
+import stat
 from collections import Counter
 from decimal import Decimal
 from unittest.mock import patch
 
-from leagues import ladders, likeness, missing, past, seasons
+from leagues import archives, entries, ladders, likeness, missing, past, seasons
 from leagues.entries import ADD, CHANGE, WITHDRAW, Entry
 from leagues.main import command
+from leagues.store import made
 from leagues.words import Words
 from results.scores import Score
 from results.standings import NOTHING, Standing, marked, ranked
@@ -17,6 +20,9 @@ from results.tallies import Tally, group_of
 from tournaments.records import Series
 
 from .base import Base
+
+# Robots and sources of drawn histories.
+ROBOTS, SOURCES = ("a", "b", "c", "d"), (b"main(){}", b"main(){1;}", b"main(){2;}")
 
 
 class Pieces(Base):
@@ -166,3 +172,43 @@ class Pieces(Base):
             often += bool(wanted)
             wrong += [] if found == wanted else [f"{happened} {authors} {code}: {found}, not {wanted}"]
         return wrong[:2] + ([] if often > 500 else [f"{often} histories with copies"])
+
+    def archives_are_for_all(self) -> list[str]:
+        """Whoever hands an archive out may read it, whatever the organiser's other files are for, and nobody else writes it."""
+        wrong, before = [], os.umask(0o077)
+        try:
+            for mask in (0o000, 0o022, 0o077):
+                os.umask(mask)
+                with made(self.at(f"read{mask}")) as store:
+                    archives.write(store, [], self.at(f"{mask}.zip"), "2026-03-01")
+                mode = stat.S_IMODE(os.stat(self.at(f"{mask}.zip")).st_mode)
+                wrong += [] if mode == 0o644 else [f"umask {mask:o}: {mode:o}"]
+        finally:
+            os.umask(before)
+        return wrong
+
+    def numbers_of_copies(self) -> list[str]:
+        """In drawn histories, in which robots join, change their bytes to and fro, leave and come back: a robot's number among those that ever
+        had these bytes is how many others had them before it first did, whenever it has them again."""
+        draw, wrong = random.Random(9), list[str]()
+        for number in range(20):
+            had: dict[bytes, list[str]] = {}
+            with made(self.at(f"copies{number}")) as store, store.change():
+                for _ in range(25):
+                    robot, source = draw.choice(ROBOTS), draw.choice(SOURCES)
+                    there = entries.playing(entries.entries(store))
+                    if robot in there and draw.random() < 0.2:
+                        entries.withdraw(store, robot, "2026-03-01")
+                    elif not any(robot in them for them in had.values()):
+                        entries.add(store, robot, "", source, "2026-03-01")
+                    elif robot not in there or there[robot].sha256 != entries.hashed(source):
+                        entries.change(store, robot, source, "2026-03-01")
+                    else:
+                        continue
+                    there = entries.playing(entries.entries(store))
+                    if robot in there:
+                        before = had.setdefault(source, [])
+                        before += [] if robot in before else [robot]
+                        found, wanted = there[robot].copy, before.index(robot)
+                        wrong += [] if found == wanted else [f"{robot} is number {found} with {source!r}, not {wanted}"]
+        return wrong[:5]

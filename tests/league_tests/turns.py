@@ -42,6 +42,16 @@ class Turns(Base):
         seeds = it.rows("SELECT count(DISTINCT seed), count(*) FROM seating")[0]
         return wrong + ([] if seeds[0] == seeds[1] else ["two seasons have a seed in common"])
 
+    def seeds_of_seasons(self) -> list[str]:
+        """Each season has the seed behind that of the one before; behind the last seed that there is comes 0."""
+        it, wrong = League(self, "seeds", "-m2", f"-s{2**64 - 3}"), []
+        for seed in (2**64 - 2, 2**64 - 1, 0, 1):
+            it.run("season", "end")
+            it.run("season", "begin", f"s{seed}")
+            said = it.run("rules")
+            wrong += [] if f"seed: {seed}\n" in said else [f"{said!r}, not {seed}"]
+        return wrong
+
     def anchor(self) -> list[str]:
         it = League(self, "anchor", "-m4", "--anchor=b=1200", robots=("a.r", "r50.r", "b.r"))
         it.run("play", "-j1")

@@ -21,12 +21,14 @@ from harness import skip
 from packages import lacking
 from results.scores import Score
 from results.standings import Rating, Standing
+from sites import robots as pages_of_robots
 from sites import addresses, charts, colours, columns, commands, heat, index, links, lookups, names, notables, places, robot_data, scales, shares, sources, sums
-from sites.facts import Battle, BySeat, Pair, Seat, Series, Settings, Stay, Table, Version
+from sites.facts import Battle, BySeat, Facts, Pair, Program, Robot, Seat, Series, Settings, Stay, Table, Version
 from sites.gathering import Gathering, Losses
 from sites.markup import Markup, block, escaped, tag
 
 from . import made
+from .reading import parsed, rows
 
 HERE = os.path.dirname(os.path.abspath(__file__))
 TOP = os.path.normpath(os.path.join(HERE, "..", ".."))
@@ -63,6 +65,7 @@ def results() -> Results:
     yield from markup()
     yield from scores()
     yield from chosen()
+    yield from listed_opponents()
     yield from names_of_replays()
     yield from gathered()
     yield from command_lines()
@@ -145,6 +148,46 @@ def chosen() -> Results:
     alone = [it.what for it in notables.notables(fought[:1], "a", "b")]
     yield "without an upset", alone == ["closest", "shortest", "longest"]
     yield "nothing is decided", notables.notables(fought[5:7], "a", "b") == ()
+    yield "of equal matches the first", all(by_definition(it) for it in (drawn_matches(source) for _ in range(300)))
+
+
+def drawn_matches(source: random.Random) -> list[Battle]:
+    """Some matches of which many are equally long, and damaged alike."""
+    ends = [(source.choice((0, 5, 100)), source.choice((0, 5, 100)), source.choice((15, 30)), source.randint(1, 3), number) for number in range(1, source.randint(2, 9))]
+    return [Battle((Seat("a", mine), Seat("b", theirs)), number, seed, cycles) for mine, theirs, cycles, seed, number in ends]
+
+
+def by_definition(fought: list[Battle]) -> bool:
+    """Whether the matches that are worth a look are those: of the matches that one robot survived the one in which it was damaged most, the
+    shortest, the longest, and of those that b survived the one in which it was damaged least. Of equal ones the shorter goes, then that of
+    the lower seed, then that of the lower number."""
+    damages = {battle: [seat.damage for seat in battle.seats] for battle in fought}
+    some = sorted((it for it in fought if sum(damage == 100 for damage in damages[it]) == 1), key=lambda it: (it.cycles, it.seed, it.number))
+    upsets = [it for it in some if damages[it][0] == 100]
+    wanted = {}
+    if some:
+        most, longest = max(min(damages[it]) for it in some), max(it.cycles for it in some)
+        wanted = {"closest": next(it for it in some if min(damages[it]) == most), "shortest": some[0], "longest": next(it for it in some if it.cycles == longest)}
+    if upsets:
+        least = min(damages[it][1] for it in upsets)
+        wanted["greatest upset"] = next(it for it in upsets if damages[it][1] == least)
+    return {it.what: it.battle for it in notables.notables(fought, "a", "b")} == wanted
+
+
+def listed_opponents() -> Results:
+    """Of up to ten opponents each stands once, the best result first; of more the five best and the five worst, each from its end."""
+    source = random.Random(12)
+    for count in range(1, 17):
+        names_ = [f"r{at:02}" for at in range(count + 1)]
+        won = dict(zip(names_[1:], source.sample(range(1, 100), count)))
+        standings = tuple(Standing(name, at, Score(1), Decimal(1), Rating(0.0, -1.0, 1.0)) for at, name in enumerate(names_, 1))
+        pairs = tuple(Pair(names_[0], name, Score(many, 0, 100 - many), 0.0, 1.0) for name, many in won.items())
+        facts = Facts("title", SETTINGS, Program("1", "ab" * 32), tuple(Robot(name, name, ()) for name in names_), standings, pairs)
+        page = parsed(pages_of_robots.opponents(lookups.Lookup(facts), facts.robots[0], ""), "opponents")
+        found = {it.one("caption").text(): [row[0] for row in rows(it)[1:]] for it in page.all("table")}
+        order = sorted(won, key=won.__getitem__, reverse=True)
+        wanted = {"Its best opponents": order[:5], "Its worst opponents": order[:count - 6:-1]} if count > 10 else {"Opponents, the best results first": order}
+        yield f"{count} opponents {found}", found == wanted
 
 
 def names_of_replays() -> Results:

@@ -3,6 +3,7 @@
 from __future__ import annotations
 
 import random
+import re
 
 from histories import History, Match, history_of
 
@@ -89,6 +90,21 @@ class Moves(Base):
         for commands in (["b restart", "c"], ["s", "s", "s", "finish"], ["s", "finish"], ["b 2", "c"]):
             wrong += differ(self._last(commands, "-l9000", "diver.r")[-1], "restart: frames")
         return wrong
+
+    def what_changed_is_told_of_the_cycle_before(self) -> list[str]:
+        """However the robot came there, forwards, backwards or to a cycle: a variable that is counted up had one less, and each hurt begins
+        where the one before it ended."""
+        draw = random.Random(7)
+        moves = [draw.choice(["c", "rc", "s", "rs", f"goto {draw.randrange(200)}"]) for _ in range(80)]
+        answers = self._answers(["watch seen", *(it for move in moves for it in (move, "print seen"))], "-l200", "looker.r")[2:]
+        told = [(re.match(r"watch 1: seen from (-?\d+) to (-?\d+)$", lines[0]), value[0]) for lines, value in zip(answers[::2], answers[1::2])]
+        found = [(int(it[1]), int(it[2]), value) for it, value in told if it]
+        wrong = [f"{it}" for it in found if it[0] + 1 != it[1] or it[2] != f"seen = {it[1]}"] + ([] if len(found) > 15 else [f"{len(found)} stops"])
+        hurts = self._answers(["break hurt", *["c"] * 6, *["rc"] * 5, *["c"] * 5], "suicide.r")[2:]
+        spans = [[int(it) for it in re.findall(r"(\d+)%", lines[0])] for lines in hurts]
+        ends = [0, *(span[1] for span in spans[:6])]
+        way = [*range(6), *range(4, -1, -1), *range(1, 6)]
+        return wrong + differ(spans, [[ends[at], ends[at + 1]] for at in way]) + ([] if ends[-1] == 100 else [f"{ends}"])
 
     def several_breakpoints_in_one_cycle(self) -> list[str]:
         """After cycle 7 the reply is stored, which no line enters; in cycle 12 `seen` changes."""

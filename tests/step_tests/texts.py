@@ -3,6 +3,7 @@
 from __future__ import annotations
 
 import random
+import re
 import shlex
 import subprocess
 from pathlib import Path
@@ -115,6 +116,16 @@ class Texts(Base):
         self._shell(replayed[0], "crobots-replay", str(TOP / "scripts" / "replay"))
         wrong += [] if Path(self._folder, "match.html").stat().st_size > 1000 else ["no page"]
         return wrong + differ(replayed[1], "then open match.html#1500")
+
+    def pages_of_any_moment(self) -> list[str]:
+        """A page has the 1,500 cycles before a moment and behind it, and begins at the start if that is nearer: there its words are right, too."""
+        wanted = {0: (0, 1500), 1: (0, 1501), 7: (0, 1507), 1499: (0, 2999), 1500: (0, 3000), 1501: (1, 3001), 4000: (2500, 5500)}
+        answers = self._answers([it for cycle in wanted for it in (f"goto {cycle}", "replay")], "-l6000", "looker.r", "deep.r")[2::2]
+        spans = [re.search(r" --from (\S+) --to (\S+) ", lines[0]) for lines in answers]
+        wrong = differ([it and it.groups() for it in spans], [(str(first), str(last)) for first, last in wanted.values()])
+        wrong += differ([lines[1] for lines in answers], [f"then open match.html#{cycle}" for cycle in wanted])
+        self._shell(answers[0][0], "crobots-replay", str(TOP / "scripts" / "replay"))
+        return wrong
 
     def _shell(self, line: str, name: str, path: str) -> str:
         """Runs a command line."""

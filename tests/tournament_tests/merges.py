@@ -148,6 +148,25 @@ class Merges(Base):
                 wrong.append(f"{runs} of {most}: {missing} {twice}")
         return wrong
 
+    def lines_of_a_plan(self) -> list[str]:
+        """Of drawn plans, some lines of which stand several times, and of drawn series that were played, some of which are in no line: each
+        line is named whose series wasn't played, and the first line of each that was played more often than it stands there."""
+        draw, wrong = random.Random(43), list[str]()
+        plan = plans.Plan(Settings(3, 9, 1, 1, "f" * 64, 3, (2,)), [Robot(f"{at}.r", f"{at:064x}") for at in range(3)], 1)
+        every, lines = [it.series for it in plan.planned()], [*plans.lines(plan, "crobots")]
+        for _ in range(500):
+            chosen, played = (draw.choices(range(len(every)), k=draw.randint(least, 9)) for least in (1, 0))
+            stands, times, merger = Counter(chosen), Counter(played), merging.Merger()
+            merger.series = [every[at] for at in played]
+            write(self._at("drawn"), "".join(lines[at] for at in chosen))
+            said = merging.against(self._at("drawn"), merger)
+            wanted = ([number for number, at in enumerate(chosen, 1) if not times[at]],
+                      sorted(chosen.index(at) + 1 for at in stands if times[at] > stands[at]), len(times.keys() - stands.keys()))
+            strange = re.search(r"(\d+) series are in no line", said)
+            found = *(named(said, what) for what in ("missing", "there twice or more")), int(strange[1]) if strange else 0
+            wrong += [] if found == wanted else [f"lines {chosen}, played {played}: {said!r}, not {wanted}"]
+        return wrong[:5]
+
     def records_that_cannot_be(self) -> list[str]:
         """What is changed in a record is seen by its checksum; and with a right one, what no match can have."""
         self._pieces()
@@ -235,3 +254,10 @@ class Merges(Base):
 def summed(body: str) -> str:
     """A record with its checksum, worked out here once more."""
     return f"{body} sum={hashlib.sha256(body.encode()).hexdigest()[:16]}"
+
+
+def named(said: str, what: str) -> list[int]:
+    """The lines of a plan of which this is said, as 'lines 1-3, 7 of plan are missing'."""
+    found = re.search(rf"lines? ([\d, -]+) of \S+ (?:is|are) {what}", said)
+    ends = [piece.split("-") for piece in found[1].split(", ")] if found else []
+    return [number for it in ends for number in range(int(it[0]), int(it[-1]) + 1)]

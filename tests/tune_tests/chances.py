@@ -2,6 +2,8 @@
 
 from __future__ import annotations
 
+import itertools
+import math
 import random
 import statistics
 from fractions import Fraction
@@ -206,6 +208,76 @@ class Chances:
         asked = [[Evolution((0.5, 0.5), seed).ask() for _ in range(2)] for seed in (1, 2)]
         return [] if asked[0][0] == asked[0][1] and asked[0][0] != asked[1][0] else ["other points"]
 
+    def an_evolution_by_the_literature(self) -> list[str]:
+        """Round by round the same points as of the algorithm of Ros and Hansen (2008), written once more: by scores that make the steps of
+        two, three and six numbers unlike each other."""
+        wrong = []
+        for many, seed in itertools.product((2, 3, 6), range(3)):
+            it, other, rest = Evolution((0.5,) * many, seed), Separable([0.5] * many, seed), random.Random(seed)
+            for number in range(1, 25):
+                points, wanted = it.ask(), other.ask()
+                far = max(abs(one - two) for point, theirs in zip(points, wanted) for one, two in zip(point, theirs))
+                if len(points) != len(wanted) or far > 1e-9:
+                    wrong.append(f"{many} numbers, seed {seed}, round {number}: {far}")
+                    break
+                scores = [-sum(100 ** at * (place - 0.4) ** 2 for at, place in enumerate(point)) + rest.gauss(0, 0.01) for point in points]
+                it.tell(scores)
+                other.tell(scores)
+        return wrong
+
     def points_stay_in_their_range(self) -> list[str]:
         got = [mirrored(it) for it in (0.25, 0.0, 1.0, -0.25, 1.25, 2.5, -1.5)]
         return [] if got == [0.25, 0.0, 1.0, 0.25, 0.75, 0.5, 0.5] else [f"{got}"]
+
+
+class Separable:
+    """A covariance matrix adaptation whose matrix has a diagonal alone, by the formulas of the literature, number by number."""
+
+    def __init__(self, middle: list[float], seed: int) -> None:
+        n = self.n = len(middle)
+        self.middle, self.sigma, self.rest = middle, 0.15, random.Random(seed)
+        self.variances, self.p_sigma, self.p_c = [1.0] * n, [0.0] * n, [0.0] * n
+        self.pairs = 2 + math.ceil(1.5 * math.log(n + 1))
+        logs = [math.log((self.pairs + 0.5) / rank) for rank in range(1, self.pairs + 1)]
+        self.weights = [log / sum(logs) for log in logs]
+        self.mu = sum(self.weights) ** 2 / sum(weight * weight for weight in self.weights)
+        self.points: list[list[float]] = []
+
+    def ask(self) -> list[list[float]]:
+        """Points on both sides of the middle; what leaves the range from 0 to 1 comes back from its end."""
+        self.points = []
+        for _ in range(self.pairs):
+            drawn_ = [self.rest.gauss(0, 1) for _ in range(self.n)]
+            for side in (1, -1):
+                self.points.append([folded(self.middle[i] + side * self.sigma * math.sqrt(self.variances[i]) * drawn_[i]) for i in range(self.n)])
+        return self.points
+
+    def tell(self, scores: list[float]) -> None:
+        n, mu = self.n, self.mu
+        best = [point for _, point in sorted(zip(scores, self.points), key=lambda pair: pair[0], reverse=True)][:self.pairs]
+        middle = [sum(weight * point[i] for weight, point in zip(self.weights, best)) for i in range(n)]
+        c_sigma, c_c = (mu + 2) / (n + mu + 5), (4 + mu / n) / (n + 4 + 2 * mu / n)
+        faster = (n + 2) / 3
+        c_1 = min(1, faster * 2 / ((n + 1.3) ** 2 + mu))
+        c_mu = min(1 - c_1, faster * 2 * (mu - 2 + 1 / mu) / ((n + 2) ** 2 + mu))
+        for i in range(n):
+            step = (middle[i] - self.middle[i]) / self.sigma
+            self.p_sigma[i] += -c_sigma * self.p_sigma[i] + math.sqrt(c_sigma * (2 - c_sigma) * mu / self.variances[i]) * step
+            self.p_c[i] += -c_c * self.p_c[i] + math.sqrt(c_c * (2 - c_c) * mu) * step
+            spread_ = sum(weight * ((point[i] - self.middle[i]) / self.sigma) ** 2 for weight, point in zip(self.weights, best))
+            self.variances[i] = (1 - c_1 - c_mu) * self.variances[i] + c_1 * self.p_c[i] ** 2 + c_mu * spread_
+        damping = 1 + 2 * max(0, math.sqrt((mu - 1) / (n + 1)) - 1) + c_sigma
+        usual = math.sqrt(n) * (1 - 1 / (4 * n) + 1 / (21 * n * n))
+        length = math.sqrt(sum(turn * turn for turn in self.p_sigma))
+        self.sigma *= math.exp(min(1, c_sigma / damping * (length / usual - 1)))
+        # no step is smaller than 0.02 at the widest number, and none greater than the range
+        widest = math.sqrt(max(self.variances))
+        self.sigma = min(max(self.sigma, 0.02 / widest), 1 / widest)
+        self.middle = middle
+
+
+def folded(place: float) -> float:
+    """A place within 0 and 1 by which one beyond an end is meant."""
+    while not 0 <= place <= 1:
+        place = -place if place < 0 else 2 - place
+    return place

@@ -24,6 +24,7 @@ const {DamageDrawing, FieldDrawing} = await load("player/drawing");
 const {shown: withCommas} = await load("player/elements");
 const {Match} = await load("player/matches");
 const {SvgContext, picturesOf, svgOf} = await load("player/reels");
+const {countAtMost, merged} = await load("player/sorted");
 const {countsOf, matchesOf, totalsOf} = await load("results");
 const {Code, callsOf, foundIn, momentOf, valuesOf} = await load("moments");
 
@@ -168,6 +169,15 @@ const ground = seenBy(FieldDrawing, several.moment(465, 60));
 check("robots on the field", numbersOf(ground), four.map(it => [it, `#00000${it}`]));
 check("missiles on it", ground.filter(({what, width}) => what === "stroke" && width === 1).map(({colour}) => colour).filter(it => coloured.robots.includes(it)), coloured.robots);
 
+// lists of few cycles, drawn: merged they are in their order, of equal cycles in that of the lists, and then in that of the rows
+const below = most => { draw = draw * 48271 % 2147483647; return draw % most; };
+for (let round = 0; round < 300; round += 1) {
+    const lists = Array.from({length: 1 + below(4)}, () => Array.from({length: below(6)}, () => below(5)).sort((one, other) => one - other));
+    const wanted = lists.flatMap((list, at) => list.map((cycle, row) => [cycle, at, row])).sort((one, other) => one[0] - other[0] || one[1] - other[1] || one[2] - other[2]);
+    const {cycle, list, row} = merged(lists);
+    check(`merged lists ${JSON.stringify(lists)}`, wanted.map((_, at) => [cycle[at], list[at], row[at]]), wanted);
+    check(`numbers up to a limit of ${lists[0]}`, [-1, 0, 2, 4, 9].map(limit => countAtMost(lists[0], limit)), [-1, 0, 2, 4, 9].map(limit => lists[0].filter(it => it <= limit).length));
+}
 check("places", [placesOf("ab", "abxABab"), placesOf("", "x"), placesOf("aa", "aaaa")], [[0, 3, 5], [], [0, 2]]);
 // the small letter of a dotted I is two, and a sigma has another one at the end of a word
 check("places behind letters of all kinds", [placesOf("b", "\u0130\u0130B\u00df\ud83d\ude00b"), placesOf("\u0130", "i\u0130"), placesOf("\u03a3", "\u03a3\u03b1\u03a3")],
@@ -229,6 +239,18 @@ check("a series in pieces", [long.series.text, long.end.ending, long.calls[0]], 
 check("pieces that are too long", [tight.series.text, tight.end.ending], [whole(reports(1)), 0]);
 check("who won", [ended(short.series, short.end, 1234), ended(...Object.values(await play(1, 1)).slice(1), 5)],
     ["Done in 1.23 seconds. Won: a 0, Totals: 9 10.", "Done in 0.01 seconds. Totals: 9 won."]);
+// each report has 50,000 letters, and of some four million the rest is left out: whatever the pieces are, each match is shown or counted
+for (const matches of [20, 79, 81, 120, 200]) {
+    const large = new Series({matches, first: 3}, ({matches: count, first}) => {
+        const texts = Array.from({length: count}, (_, n) => `Match ${first + n}: cycles = 1\n${" ".repeat(50_000)}\n`);
+        return {ending: 0, text: `${texts.join("")}Totals: ${count} matches\n  1) won 0 tied 0 lost ${count} a\n`, faults: ""};
+    }, () => {});
+    await large.play();
+    const told = [...large.text.matchAll(/^Match (\d+): /gm)].map(([, number]) => Number(number));
+    const left = Number(/^\((\d+) more matches were played/m.exec(large.text)?.[1] ?? 0);
+    check(`long reports of ${matches} matches`, [told.length + left, new Set(told).size, left > 0, /^Totals: (\d+)/m.exec(large.text)[1]],
+        [matches, told.length, matches > 80, String(matches)]);
+}
 const died = new Series({matches: 99, first: 1}, () => { throw new Error("stopped"); }, () => {});
 check("a series that is stopped", ended(died, await died.play(), 0), "Stopped. No match was played to its end.");
 
