@@ -17,7 +17,7 @@ use Rattle.engine.specs.Executables.{Executable}
 use Rattle.engine.specs.Engines.{EngineIsReached}
 use Rattle.battles.specs.Carrying.{Runner, IsRobotOf, IsAheadOf}
 use Rattle.battles.specs.Battle.{Behaviour, after_want, robot_turn}
-use Rattle.battles.specs.Intervals.{IsAlone, TurnIsAlone, RunsAlone, HasRunAlone, alone}
+use Rattle.battles.specs.Intervals.{IsAlone, TurnIsAlone, RunsAlone, RunsTo, HasRunAlone, alone}
 use Rattle.battles.proofs.Commuting.{step_lives}
 use Rattle.battles.proofs.Running.{Coasts, at_end, at_less, at_more, quiet_less}
 
@@ -116,14 +116,6 @@ dead_runs free r i f trace n exe runner arena dead field at = record {
   stands = rw (dead_alone r i f trace n dead) field;
   at = rw (dead_alone r i f trace n dead) at;
 }
-
--- A robot has run, and its machine is at this cycle, which may be a later one: in between nothing is asked.
-pub record RunsTo (free : Type 0) (r : Behaviour) (i : ℕ) (f : Field) (trace : List ℤ) (cycle most : ℕ)
-    (exe : Executable) (machine : Engine) (arena : Arena) : Type 0 where
-  pub run : ℕ
-  pub within : run ≤ cycle
-  pub below : run ≤ most
-  pub ran : HasRunAlone free r i f trace run exe (record { machine = machine; ahead = cycle - run }) arena
 
 pub to_begin : (free : Type 0) (r : Behaviour) (i : ℕ) (f : Field) (trace : List ℤ) (most : ℕ) (exe : Executable)
     (runner : Runner) (arena : Arena)

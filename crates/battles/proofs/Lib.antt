@@ -13,3 +13,4 @@ pub mod Asking
 pub mod Alone
 pub mod Beginnings
 pub mod Manned
+pub mod InWindows

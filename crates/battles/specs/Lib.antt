@@ -6,3 +6,4 @@ pub mod Pairing
 pub mod Carrying
 pub mod KnownBattles
 pub mod IntervalKeeping
+pub mod Windows

@@ -49,6 +49,19 @@ impl<'a> Executables<'a> {
         self.exes.len()
     }
 
+    /// Lends the executable of the robot with this number where it is kept: a function out of line takes this one, since
+    /// the robot's own would be written to memory for it.
+    #[inline(always)]
+    pub(crate) fn kept_executable(&self, robot: usize) -> &Executable<'a>
+        requires { robot < length self.now }
+        ensures { slice_get self.now robot ≡ Some result.now }
+    {
+        match &self.exes.as_slice()[robot] {
+            Some(exe) => exe,
+            None => unreachable!(),
+        }
+    }
+
     /// Returns the executable of the robot with this number: one of its own, so that the program is not looked up again
     /// after each of the robot's turns.
     #[inline(always)]
@@ -56,9 +69,6 @@ impl<'a> Executables<'a> {
         requires { robot < length self.now }
         ensures { slice_get self.now robot ≡ Some result }
     {
-        match &self.exes.as_slice()[robot] {
-            Some(exe) => exe.again(),
-            None => unreachable!(),
-        }
+        self.kept_executable(robot).again()
     }
 }

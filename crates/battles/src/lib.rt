@@ -19,6 +19,7 @@ mod runners;
 mod running_ahead;
 mod scheduler;
 mod turns;
+mod windows;
 
 pub use battles::battle;
 pub use intervals::UPDATE_CYCLES;

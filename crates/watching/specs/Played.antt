@@ -30,7 +30,7 @@ abbrev pub no_words : CallStack
 no_words = record { home = 0; below = []; cells = []; calls = [] }
 
 abbrev pub engine_of : Machine → Engine
-engine_of state = record { phase = Plain; pc = 0; stack = no_words; plain = state }
+engine_of state = record { phase = Plain; pc = 0; early = 0; stack = no_words; plain = state }
 
 -- their machines, none of which is ahead of its robot
 abbrev pub runner_of : Pilot → Runner

@@ -1,6 +1,6 @@
 use Rattle.std.proofs.Common.{◌∙◌}
 use Rattle.battles.proofs.ProgramsLemmas.{kept_at, kept_some}
-use Rattle.battles.proofs.battle_executables.Executables.executable.Goals as goal
+use Rattle.battles.proofs.battle_executables.Executables.kept_executable.Goals as goal
 
 pub unreachable-requires : goal.unreachable-requires
 unreachable-requires c =
