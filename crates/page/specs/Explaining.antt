@@ -1,6 +1,7 @@
 -- What is said of the source of an order's first robot.
 use Rattle.std.specs.Prelude.{ℕ, ◌≡◌, ◌⊎◌, ◌++◌, List, Some, Err, slice_get}
 use Rattle.derivations.specs.Compiling.{Compiles}
+use Rattle.derivations.specs.TokenCounts.{HasMoreTokens}
 use Rattle.explanations.specs.Faults.{IsOn}
 use Rattle.grammar.specs.Compiled.{compiled}
 use Rattle.grammar.specs.Profile.{Profile}
@@ -28,11 +29,15 @@ pub record IsFaulty (profile : Profile) (bytes : List ℕ) (sheet : Sheet) : Typ
   pub is : compiled profile bytes ≡ Err diagnostic
   pub told : IsFull sheet ⊎ EndsOn diagnostic (text_on sheet)
 
--- what an explanation of this source says that ends so, and leaves this sheet; nothing if there was no room
+-- there was no room: the sheet is full, or the source has more tokens than are found without memory
+abbrev pub LacksRoom : List ℕ → Sheet → Type 0
+LacksRoom bytes sheet = IsFull sheet ⊎ HasMoreTokens bytes
+
+-- what an explanation of this source says that ends so, and leaves this sheet
 abbrev pub Explains : Profile → List ℕ → Ending → Sheet → Type 0
 Explains profile bytes Done sheet = Compiles profile bytes
 Explains profile bytes Faulty sheet = IsFaulty profile bytes sheet
-Explains profile bytes Full sheet = Unit {0}
+Explains profile bytes Full sheet = LacksRoom bytes sheet
 Explains profile bytes Refused sheet = ⊥
 Explains profile bytes GoesOn sheet = ⊥
 

@@ -72,7 +72,9 @@ fn explain_source(profile: Profile, source: &[u8], topic: Topic, sheet: &mut She
             tell(note.as_str(), sheet);
             Ending::Faulty
         }
-        Err(_) => Ending::Full,
+        // neither is so: the device never fails, and no memory is asked for
+        Err(ParseFault::Device) => Ending::Full,
+        Err(ParseFault::Memory) => Ending::Full,
     }
 }
 

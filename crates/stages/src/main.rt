@@ -18,6 +18,7 @@ mod flow_rows;
 mod forms;
 mod items;
 mod labels;
+mod laws;
 mod lookaheads;
 mod looks;
 mod markup;
