@@ -28,7 +28,10 @@ fn a_side_that_is_not_known_stays(rt: HostRuntime) -> Result<(), Fail> {
     8 RETSUB
     9 NOP
 ";
-    assert_eq!(rt; code_of(rt.alloc(), Profile::first(), source)?.as_str(), wanted);
+    assert_eq!(rt;
+        code_of(rt.alloc(), Profile::first(), source)?.as_str(),
+        wanted
+    );
     Ok(())
 }
 
@@ -41,7 +44,10 @@ fn unary_operators_are_operators_on_constants(rt: HostRuntime) -> Result<(), Fai
     3 RETSUB
     4 NOP
 ";
-    assert_eq!(rt; code_of(rt.alloc(), Profile::first(), source)?.as_str(), wanted);
+    assert_eq!(rt;
+        code_of(rt.alloc(), Profile::first(), source)?.as_str(),
+        wanted
+    );
     Ok(())
 }
 
@@ -60,7 +66,10 @@ fn a_right_side_that_may_be_left_out_is_folded(rt: HostRuntime) -> Result<(), Fa
     9 RETSUB
    10 NOP
 ";
-    assert_eq!(rt; code_of(rt.alloc(), Profile::second(), source)?.as_str(), wanted);
+    assert_eq!(rt;
+        code_of(rt.alloc(), Profile::second(), source)?.as_str(),
+        wanted
+    );
     Ok(())
 }
 
