@@ -5,7 +5,6 @@ ghost use Rattle.battles.specs.Pairing.{paired};
 ghost use Rattle.settings.specs.declared.settings.Mode.TheVariants.{Matches};
 
 use crate::robots::RobotFile;
-use crate::subjects::Subject;
 use arrayvec::ArrayVec;
 use code::{Maker, Program};
 use derivations::{NamedProgram, SourcePositions, positions_of};
@@ -13,13 +12,11 @@ use grammar::Scope;
 use series::{DeviceFault, MOST_FILES, Sink, TakesPrograms};
 use std::mem;
 
-/// The programs of robots, and beside them what a program hasn't: the names of its file, and where its instructions come
-/// from, once that is asked for.
+/// The programs of robots, and beside them the names of their files, which a program hasn't.
 #[derive(Drop)]
 pub(crate) struct CompiledRobots {
     pub(crate) programs: ArrayVec<Program, MOST_FILES>,
     names: [Scope; MOST_FILES],
-    positions: ArrayVec<Option<SourcePositions>, MOST_FILES>,
 }
 
 impl CompiledRobots {
@@ -30,7 +27,6 @@ impl CompiledRobots {
         CompiledRobots {
             programs: ArrayVec::new(),
             names: [Scope::new(), Scope::new(), Scope::new(), Scope::new()],
-            positions: ArrayVec::new(),
         }
     }
 
@@ -50,22 +46,20 @@ impl CompiledRobots {
         if self.len() == 1 { 2 } else { self.len() }
     }
 
-    /// Finds where the instructions of each program come from in the source of its robot, if the subject tells it.
-    pub(crate) fn find_positions(&mut self, robots: &[RobotFile], subject: &Subject<'_>)
-        ensures { self.new.programs ≡ self.old.programs }
-    {
-        if !subject.tells_positions() {
-            return;
-        }
+    /// Finds where the instructions of each program come from in the source of its robot.
+    pub(crate) fn positions(
+        &self,
+        robots: &[RobotFile],
+    ) -> ArrayVec<Option<SourcePositions>, MOST_FILES> {
+        let mut found = ArrayVec::new();
         for (program, robot) in self.programs.as_slice().iter().zip(robots) {
-            let _ = self
-                .positions
-                .try_push(positions_of(program, robot.source()));
+            let _ = found.try_push(positions_of(program, robot.source()));
         }
+        found
     }
 
     /// Returns the file of a robot: a single one is that of both robots.
-    fn file(&self, robot: usize) -> usize {
+    pub(crate) fn file(&self, robot: usize) -> usize {
         robot.min(self.len().saturating_sub(1))
     }
 
@@ -75,17 +69,6 @@ impl CompiledRobots {
         let program = self.programs.as_slice().get(file)?;
         let names = self.names[file].pools();
         Some(NamedProgram { program, names })
-    }
-
-    /// Returns where the instructions of a robot come from, if that was found.
-    pub(crate) fn positions(&self, robot: usize) -> Option<&SourcePositions> {
-        self.positions.as_slice().get(self.file(robot))?.as_ref()
-    }
-
-    /// Returns the line that the instruction of an address comes from, 0 if it isn't known.
-    pub(crate) fn line(&self, robot: usize, address: usize) -> u32 {
-        self.positions(robot)
-            .map_or(0, |positions| positions.line(address))
     }
 
     /// Returns the name of a robot's function that holds an address, a question mark if there is none.

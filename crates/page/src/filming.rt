@@ -48,8 +48,7 @@ pub fn tell_robots(
         Ok(Status::Done) => {
             // For the proof alone: a file that compiles is resolved.
             resolved_files();
-            compiled.find_positions(robots, subject);
-            let ending = tell_subject(&settings, &compiled, subject, film);
+            let ending = tell_subject(&settings, &compiled, robots, subject, film);
             if film.is_full() {
                 return Ending::Full;
             }
@@ -64,6 +63,7 @@ pub fn tell_robots(
 fn tell_subject(
     settings: &Settings<'_>,
     compiled: &CompiledRobots,
+    robots: &[RobotFile],
     subject: &Subject<'_>,
     sheet: &mut Sheet,
 ) -> Ending
@@ -75,10 +75,10 @@ fn tell_subject(
         settings.now.first settings.now.limit).cycles result }
 {
     match *subject {
-        Subject::Film(stretch) => return film_match(settings, compiled, stretch, sheet),
+        Subject::Film(stretch) => return film_match(settings, compiled, robots, stretch, sheet),
         Subject::Moment(target) => tell_inside(settings, compiled, target, false, sheet),
         Subject::Run(target) => tell_inside(settings, compiled, target, true, sheet),
-        Subject::Places => tell_places(compiled, sheet),
+        Subject::Places => tell_places(compiled, robots, sheet),
     }
     Ending::Done
 }
@@ -88,6 +88,7 @@ fn tell_subject(
 fn film_match(
     settings: &Settings<'_>,
     compiled: &CompiledRobots,
+    robots: &[RobotFile],
     stretch: Option<Stretch>,
     sheet: &mut Sheet,
 ) -> Ending
@@ -98,7 +99,8 @@ fn film_match(
         settings.now.limit).cycles result }
     ensures full { result ≡ Ending.Full → IsFull sheet.new }
 {
-    let mut film = Film::new(sheet, compiled, stretch);
+    let positions = compiled.positions(robots);
+    let mut film = Film::new(sheet, compiled, positions.as_slice(), stretch);
     let end = play_robots(settings, compiled, &mut film);
     let ending = ending_of(stretch, end);
     if ending == Ending::Done {

@@ -11,6 +11,7 @@ use crate::sheets::Sheet;
 use crate::stretches::Stretch;
 use arena::{Arena, MOST_BURSTS};
 use code::{Cause, Intrinsic};
+use derivations::SourcePositions;
 use watching::{
     Camera, Event, Exchange, FILM_COLUMNS, FilmRows, Listener, Pilot, Place, Stance, Turn,
     UPDATE_CYCLES, Watcher, word_of,
@@ -68,14 +69,17 @@ impl FilmRows for SheetRows<'_> {
 pub(crate) struct Film<'a> {
     camera: Camera<SheetRows<'a>>,
     compiled: &'a CompiledRobots,
+    positions: &'a [Option<SourcePositions>],
     missiles: [FiredMissile; MOST_BURSTS],
 }
 
 impl<'a> Film<'a> {
-    /// Begins a film of a stretch, or of a whole match, of compiled robots on a sheet.
+    /// Begins a film of a stretch, or of a whole match, of compiled robots on a sheet. These are the positions of each
+    /// file's instructions.
     pub(crate) fn new(
         sheet: &'a mut Sheet,
         compiled: &'a CompiledRobots,
+        positions: &'a [Option<SourcePositions>],
         stretch: Option<Stretch>,
     ) -> Film<'a>
         ensures stretch { result.camera.rows.stretch ≡ stretch }
@@ -90,6 +94,7 @@ impl<'a> Film<'a> {
         Film {
             camera: Camera::new(rows),
             compiled,
+            positions,
             missiles: [FiredMissile::default(); MOST_BURSTS],
         }
     }
@@ -98,6 +103,14 @@ impl<'a> Film<'a> {
     pub(crate) fn end(&mut self, cycle: u32) {
         self.camera.rows.stretch = None;
         self.camera.end(cycle, "end");
+    }
+
+    /// Returns the line that the instruction of an address comes from, 0 if it isn't known.
+    fn line(&self, robot: usize, address: usize) -> u32 {
+        match self.positions.get(self.compiled.file(robot)) {
+            Some(Some(positions)) => positions.line(address),
+            _ => 0,
+        }
     }
 
     /// Takes the film apart, and returns the sheet.
@@ -191,7 +204,7 @@ impl Watcher for Film<'_> {
         }
         let address = pilot.machine().address();
         let function = self.compiled.function_name(turn.robot, address);
-        let line = self.compiled.line(turn.robot, address);
+        let line = self.line(turn.robot, address);
         self.camera
             .restart(turn.cycle, turn.robot, word_of(cause), function, line);
     }

@@ -1,6 +1,7 @@
 //! What a robot's source has where: its names, and where its instructions come from.
 
 use crate::compiled_robots::CompiledRobots;
+use crate::robots::RobotFile;
 use crate::rows::Row;
 use crate::sheets::Sheet;
 use code::Instr;
@@ -13,14 +14,14 @@ use watching::{Event, Field};
 const COLUMNS: &[u8] = b"number\trobot\tkind\ta\tb\tc\td\te\n";
 
 /// Writes the names of each robot's source, and the instructions of its program with where they come from, a row each.
-pub(crate) fn tell_places(compiled: &CompiledRobots, sheet: &mut Sheet) {
+pub(crate) fn tell_places(compiled: &CompiledRobots, robots: &[RobotFile], sheet: &mut Sheet) {
     sheet.add(COLUMNS);
-    for robot in 0..compiled.len() {
+    for (robot, positions) in compiled.positions(robots).iter().enumerate() {
         let Some(named) = compiled.named(robot) else {
             return;
         };
         tell_names(robot, &named, sheet);
-        if let Some(positions) = compiled.positions(robot) {
+        if let Some(positions) = positions {
             tell_code(robot, &named, positions, sheet);
         }
     }

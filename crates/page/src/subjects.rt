@@ -15,10 +15,3 @@ pub enum Subject<'a> {
     /// Where the instructions of the robots come from.
     Places,
 }
-
-impl Subject<'_> {
-    /// Reports whether it tells of instructions where they come from.
-    pub(crate) fn tells_positions(&self) -> bool {
-        matches!(self, Subject::Film(_) | Subject::Places)
-    }
-}
