@@ -125,7 +125,8 @@ export class Series {
         }
         this.tail = text.slice(at);
         this.totals.add(again + matches, this.tail);
-        if (this.letters + at - from > MOST_LETTERS) {
+        // behind a report that is left out all are: those that are shown follow one another
+        if (this.leftOut || this.letters + at - from > MOST_LETTERS) {
             this.leftOut += matches;
         } else {
             this.reports.push(text.slice(from, at));

@@ -5,10 +5,11 @@ import selectors
 from typing import Any, Callable, Protocol
 
 from tools.faults import FILE, Fault
+from tools.output import put
 
 from .framing import NOTHING, Broken, Frames, encoded, framed
 
-INPUT, OUTPUT = 0, 1
+INPUT = 0
 PIECE = 1 << 16
 UNREAD = "cannot read standard input"
 Take = Callable[[Any], None]
@@ -77,6 +78,4 @@ def send(message: Any) -> None:
 
 def send_encoded(body: bytes) -> None:
     """Writes a message to the client, which is JSON already. One that reads no more gets nothing."""
-    rest = memoryview(framed(body))
-    while rest:
-        rest = rest[os.write(OUTPUT, rest) :]
+    put(framed(body))
