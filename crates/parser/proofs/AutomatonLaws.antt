@@ -1,8 +1,6 @@
 -- What the steps of an automaton share: where it is before and after, and how they are refused.
 use Rattle.std.proofs.Common.{true, ◌≡◌, ℕ, zero, suc, ◌+◌, ◌-◌, ◌*◌, ◌<◌, ◌≤◌, List, [], ◌∷◌, ◌++◌, refl, sym, ◌∙◌, subst, length, append-nil, arith}
-use Rattle.std.specs.Prelude.{None, Result, Ok, Err, IsErrAnd}
-use Rattle.tokens.specs.declared.located_tokens.Keyword.{Keyword}
-use Rattle.tokens.specs.declared.located_tokens.Token.{Token}
+use Rattle.std.specs.Prelude.{None, Result, Ok, Err}
 use Rattle.grammar.specs.declared.actions.Action.{Action}
 use Rattle.grammar.specs.declared.build.BuildFault.{BuildFault}
 use Rattle.grammar.specs.declared.build.BuildFault.TheVariants as build_fault
@@ -14,7 +12,7 @@ use Rattle.grammar.specs.Building.{AppendsAll, MayFollowAll, Refuses, Representa
 use Rattle.grammar.specs.Compiled.{diagnostic}
 use Rattle.grammar.specs.Derivation.{PartialTree, AnExpr}
 use Rattle.grammar.specs.Faults.{nested_count}
-use Rattle.grammar.specs.Grammar.{AKeyword, Item, Part, Statement, Symbol, is_keyword}
+use Rattle.grammar.specs.Grammar.{Item, Part, Symbol}
 use Rattle.grammar.specs.Laws.Climbing.{operator_from}
 use Rattle.grammar.specs.Tree.{Expr}
 use Rattle.grammar_laws.specs.Emission.{and_then}
@@ -32,10 +30,6 @@ use Rattle.parser.specs.Segment.{FailsAt}
 use Rattle.parser.specs.Stopping.{stop_with}
 use Rattle.parser.proofs.ExpressionSteps.{operators_path}
 use Rattle.parser.proofs.Operators.{none_past}
-use Rattle.parser.proofs.Forms.{Begins}
-use Rattle.parser.proofs.Parts.{word_is}
-use Rattle.parser.proofs.Passing.{passed_on}
-use Rattle.parser.proofs.Productions.{chooses_any, token_too_deep}
 use Rattle.parser.proofs.PathLaws.{faulty, may_all}
 
 -- Before and after.
@@ -187,19 +181,6 @@ pub nests : {F B : Type 0} {o : Origin} {denied : Type 0} {told : List Action �
     Refused o denied told f at.tokens
 nests {stack = stack} {symbol = symbol} h depth n fails =
     rw n.is (faulty (Part symbol ∷ []) stack h (fails (nested_count stack) (rw depth n.deep)))
-
--- at a statement that a keyword begins
-pub word_nests : {F B : Type 0} (denied : Type 0) (stands : B → Representation) {at : Automaton F B}
-    (result : Result Front ParseFault) {f : ParseFault} {w : Keyword} {items : List Item} {more : List Action} →
-    Begins w items more → IsErrAnd result (λ e. e ≡ f) → IsTooDeep at f →
-    is_keyword w (token_of at.tokens) ≡ true → Moves result denied stands front.Statement at at
-word_nests denied stands {at = at} result {w = w} {items = items} b is deep starts =
-    let here = word_is w (token_of at.tokens) starts in
-    rw (passed_on result is) (λ o h.
-    nests h.path h.depth deep (λ depth.
-    token_too_deep _ _ h.path.ready.near depth Statement (AKeyword w) items
-    (chooses_any h.path.ready.sound (λ after. rw here (b.chosen after))) (λ after more. rw here (b.nested after))
-    starts))
 
 -- Operators.
 

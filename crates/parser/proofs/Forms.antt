@@ -3,16 +3,9 @@ use Rattle.std.proofs.Common.{◌≡◌, [], ◌∷◌, refl, true, false}
 use Rattle.tokens.specs.declared.located_tokens.Punctuator.TheVariants as punctuator
 use Rattle.tokens.specs.declared.located_tokens.Token.{Token}
 use Rattle.tokens.specs.declared.located_tokens.Token.TheVariants as token
-use Rattle.tokens.specs.declared.located_tokens.Keyword.{Keyword}
 use Rattle.tokens.specs.declared.located_tokens.Keyword.TheVariants as keyword
-use Rattle.grammar.specs.declared.actions.Action.{Action}
-use Rattle.grammar.specs.declared.actions.Action.TheVariants.{BeginWhile}
 use Rattle.grammar.specs.Grammar.{AKeyword, Back, Block, Decide, DecideElse, Declarations, ElsePart, Empty, Evaluate, Exactly, Expression, GiveBack, Item, Make, Part, Close, Statement, Statements, Zero, is_punctuator, is_keyword, enters}
 use Rattle.std.specs.Prelude.{List}
-use Rattle.grammar.specs.Scope.{Scope}
-use Rattle.grammar_laws.specs.Emission.{on_choice}
-use Rattle.parser.specs.declared.frames.Frame.TheVariants as frame
-use Rattle.parser.specs.Automata.{frame_items}
 use Rattle.parser.specs.Forms.{begins_statement}
 use Rattle.parser.proofs.Parts.{Chooses, punctuator_is, word_is}
 
@@ -90,19 +83,6 @@ begins_block t is =
       chosen = λ after. rw at refl;
       opened = λ after. rw at refl;
     }
-
--- this keyword begins a nested statement with these items behind it, and its choice emits these actions
-pub record Begins (w : Keyword) (items : List Item) (more : List Action) : Type 0 where
-  pub chosen : Chooses Statement (token.Keyword w) (AKeyword w ∷ items)
-  pub nested : (after : Token) → enters Statement (token.Keyword w) after ≡ true
-  pub emits : (scope : Scope) → on_choice Statement (token.Keyword w) scope ≡ more
-
-pub if_begins : Begins keyword.If (Exactly punctuator.OpenRound ∷ Part Expression ∷ frame_items frame.If) []
-if_begins = record { chosen = λ after. refl; nested = λ after. refl; emits = λ scope. refl }
-
-pub while_begins :
-    Begins keyword.While (Exactly punctuator.OpenRound ∷ Part Expression ∷ frame_items frame.While) (BeginWhile ∷ [])
-while_begins = record { chosen = λ after. refl; nested = λ after. refl; emits = λ scope. refl }
 
 pub return_chosen : (t : Token) → is_keyword keyword.Return t ≡ true →
     Chooses Statement t (AKeyword keyword.Return ∷ Part Back ∷ Exactly punctuator.Semicolon ∷ Make GiveBack ∷ [])

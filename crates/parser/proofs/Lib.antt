@@ -16,6 +16,7 @@ pub mod PathLaws
 pub mod ListPaths
 pub mod AutomatonLaws
 pub mod StatementSteps
+pub mod FrameSteps
 pub mod Operators
 pub mod AssignmentForms
 pub mod OperandForms

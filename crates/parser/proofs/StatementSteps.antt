@@ -1,7 +1,6 @@
 -- The steps of statements: which production the next token chooses, and what it emits.
 use Rattle.std.proofs.Common.{◌≡◌, ◌<◌, List, [], ◌∷◌, ◌++◌, refl, true, false}
 use Rattle.tokens.specs.declared.located_tokens.Punctuator.TheVariants as punctuator
-use Rattle.tokens.specs.declared.located_tokens.Keyword.{Keyword}
 use Rattle.tokens.specs.declared.located_tokens.Keyword.TheVariants as keyword
 use Rattle.tokens.specs.declared.located_tokens.Token.{Token}
 use Rattle.tokens.specs.declared.located_tokens.Token.TheVariants as token
@@ -11,11 +10,11 @@ use Rattle.grammar.specs.Derivation.{PartialTree}
 use Rattle.grammar.specs.Faults.{nested_count}
 use Rattle.grammar.specs.Grammar.{Item, AKeyword, Exactly, Part, Make, Statement, Statements, Block, ElsePart, Back, Expression, Evaluate, GiveBack, Zero, Decide, DecideElse, Empty, is_keyword, is_punctuator}
 use Rattle.grammar.specs.Scope.{Scope}
-use Rattle.grammar_laws.specs.Emission.{and_then, on_choice}
+use Rattle.grammar_laws.specs.Emission.{on_choice}
 use Rattle.parser.specs.Forms.{begins_statement}
 use Rattle.parser.specs.Paths.{Origin, Path}
-use Rattle.parser.specs.ScopedCursors.{ScopedCursor, scope_of, token_of}
-use Rattle.parser.proofs.Forms.{Begins, BeginsBlock, Evaluates, begins_block, else_chosen, empty_chosen, empty_shallow, end_chosen, evaluates, in_braces, more_chosen, no_else_chosen, return_chosen, return_shallow, value_chosen, zero_chosen}
+use Rattle.parser.specs.ScopedCursors.{ScopedCursor, token_of}
+use Rattle.parser.proofs.Forms.{BeginsBlock, Evaluates, begins_block, else_chosen, empty_chosen, empty_shallow, end_chosen, evaluates, in_braces, more_chosen, no_else_chosen, return_chosen, return_shallow, value_chosen, zero_chosen}
 use Rattle.parser.proofs.Parts.{punctuator_is, word_is}
 use Rattle.parser.proofs.PathLaws.{chosen, opened}
 
@@ -26,17 +25,6 @@ module _ {o : Origin} {stack : List Item} {values : List PartialTree} {acts : Li
   empty_path is h =
       chosen {more = []} Statement (Exactly punctuator.Semicolon ∷ []) (λ after last. empty_chosen _ is after)
       (λ after last. empty_shallow _ is after) (rw (punctuator_is punctuator.Semicolon (token_of at) is) refl) h
-
-  -- a keyword begins a nested statement
-  pub word_path : {w : Keyword} {items : List Item} {more : List Action} → Begins w items more →
-      is_keyword w (token_of at) ≡ true → nested_count stack < MOST_NESTED →
-      Path o (Part Statement ∷ stack) values acts at →
-      Path o (AKeyword w ∷ items ++ stack) values (and_then acts more) at
-  word_path {w = w} {items = items} b is few h =
-      let here = word_is w (token_of at) is in
-      opened Statement (AKeyword w ∷ items) (λ after last. rw here (b.chosen after)) few
-      (rw here (b.emits (scope_of at)))
-      h
 
   pub else_path : is_keyword keyword.Else (token_of at) ≡ true → Path o (Part ElsePart ∷ stack) values acts at →
       Path o (AKeyword keyword.Else ∷ Make Empty ∷ Part Statement ∷ Make DecideElse ∷ stack) values acts at

@@ -14,3 +14,4 @@ pub mod Paths
 pub mod Automata
 pub mod FunctionEnds
 pub mod Complete
+pub mod FrameSteps

@@ -6,6 +6,7 @@ use crate::unary_ops::UnaryOp;
 use arrayvec::ArrayVec;
 use grammar::{Callee, Op, StoreOp, Var};
 use std::marker::Model;
+use tokens::{Keyword, Punctuator};
 
 /// The most frames: at each of the levels of nesting one for each level of operators.
 pub const MOST_FRAMES: usize = 715;
@@ -69,6 +70,28 @@ pub enum Frame {
     Block,
     /// `block → { decls • stmts }`, of a function, and `source`
     Function,
+}
+
+/// A token that a production has between its parts.
+#[derive(Clone, Copy, PartialEq, Eq)]
+pub enum Terminal {
+    /// this punctuator
+    Punctuator(Punctuator),
+    /// this keyword
+    Keyword(Keyword),
+}
+
+/// What a production has behind its tokens and its action.
+#[derive(Clone, Copy, PartialEq, Eq)]
+pub enum Next {
+    /// a statement, and behind it this frame
+    Statement(Frame),
+    /// an expression, and behind it this frame
+    Expression(Frame),
+    /// the end of a nested production
+    Close,
+    /// the end of another
+    End,
 }
 
 /// Frames, the one on top first.

@@ -4,6 +4,7 @@
 
 mod automaton;
 mod expressions;
+mod frame_steps;
 mod frames;
 mod function_headers;
 mod functions;

@@ -7,12 +7,21 @@ ghost use Rattle.parser.specs.Automata.{Falls, IsAt, KeepsBuilder, Moves, with_f
 ghost use Rattle.parser.specs.Forms.{StartsEvaluation};
 
 use crate::automaton::Automaton;
-use crate::frames::{Frame, Front};
+use crate::frames::{Frame, Front, Next, Terminal};
 use crate::name_lists::declarations;
 use crate::roles::Declared;
 use crate::token_predicates::{is_keyword, is_punctuator};
 use grammar::{Action, Build, ParseFault};
 use tokens::{Feed, Keyword, Punctuator, Token};
+
+/// `(`
+const OPEN_ROUND: Option<Terminal> = Some(Terminal::Punctuator(Punctuator::OpenRound));
+
+/// `)`
+const CLOSE_ROUND: Option<Terminal> = Some(Terminal::Punctuator(Punctuator::CloseRound));
+
+/// `;`
+const SEMICOLON: Option<Terminal> = Some(Terminal::Punctuator(Punctuator::Semicolon));
 
 impl<F: Feed, B: Build> Automaton<'_, '_, '_, F, B> {
     /// `stmt → • ;`, `• block`, `• if ( expr ) stmt elsepart`, `• while ( expr ) stmt`, `• return back ;` and `• expr ;`
@@ -50,7 +59,6 @@ impl<F: Feed, B: Build> Automaton<'_, '_, '_, F, B> {
     // elsepart → else stmt, and empty if no `else` is next
 
     /// `stmt → • if ( expr ) stmt elsepart`
-    #[tactic(auto, using(crate::proofs::AutomatonLaws::place))]
     fn if_statement(&mut self) -> Result<Front, ParseFault>
         requires at { IsAt B.stands Front.Statement self.old }
         requires starts { IsNextKeyword keyword.If self.old.tokens }
@@ -58,26 +66,23 @@ impl<F: Feed, B: Build> Automaton<'_, '_, '_, F, B> {
         ensures falls { Falls result Front.Statement self.old self.new }
         ensures builder { KeepsBuilder self.old self.new }
     {
-        self.check_nesting()?;
-        self.tokens.advance()?;
-        self.tokens.expect(Punctuator::OpenRound)?;
-        self.depth += 1;
-        self.frames.push(Frame::If);
-        Ok(Front::Expression)
+        self.begin(Keyword::If, None, OPEN_ROUND, Next::Expression(Frame::If))
     }
 
     /// `stmt → if ( expr • ) stmt elsepart`
-    #[tactic(auto, using(crate::proofs::AutomatonLaws::place))]
     pub fn if_test(&mut self) -> Result<Front, ParseFault>
         requires at { IsAt B.stands Front.Enclosing (with_frame Frame.If self.old) }
         ensures moves { Moves result B.denied B.stands Front.Enclosing (with_frame Frame.If self.old) self.new }
         ensures falls { Falls result Front.Enclosing (with_frame Frame.If self.old) self.new }
         ensures builder { KeepsBuilder self.old self.new }
     {
-        self.tokens.expect(Punctuator::CloseRound)?;
-        self.builder.act(Action::IfTest)?;
-        self.frames.push(Frame::Then);
-        Ok(Front::Statement)
+        self.go_on(
+            Frame::If,
+            CLOSE_ROUND,
+            None,
+            Some(Action::IfTest),
+            Next::Statement(Frame::Then),
+        )
     }
 
     /// `stmt → if ( expr ) stmt • elsepart`
@@ -117,15 +122,12 @@ impl<F: Feed, B: Build> Automaton<'_, '_, '_, F, B> {
         ensures falls { Falls result Front.Enclosing (with_frame Frame.Else self.old) self.new }
         ensures builder { KeepsBuilder self.old self.new }
     {
-        self.builder.act(Action::EndIf)?;
-        self.depth -= 1;
-        Ok(Front::Enclosing)
+        self.go_on(Frame::Else, None, None, Some(Action::EndIf), Next::Close)
     }
 
     // stmt → while ( expr ) stmt
 
     /// `stmt → • while ( expr ) stmt`
-    #[tactic(auto, using(crate::proofs::AutomatonLaws::place))]
     fn while_statement(&mut self) -> Result<Front, ParseFault>
         requires at { IsAt B.stands Front.Statement self.old }
         requires starts { IsNextKeyword keyword.While self.old.tokens }
@@ -133,27 +135,28 @@ impl<F: Feed, B: Build> Automaton<'_, '_, '_, F, B> {
         ensures falls { Falls result Front.Statement self.old self.new }
         ensures builder { KeepsBuilder self.old self.new }
     {
-        self.check_nesting()?;
-        self.builder.act(Action::BeginWhile)?;
-        self.tokens.advance()?;
-        self.tokens.expect(Punctuator::OpenRound)?;
-        self.depth += 1;
-        self.frames.push(Frame::While);
-        Ok(Front::Expression)
+        self.begin(
+            Keyword::While,
+            Some(Action::BeginWhile),
+            OPEN_ROUND,
+            Next::Expression(Frame::While),
+        )
     }
 
     /// `stmt → while ( expr • ) stmt`
-    #[tactic(auto, using(crate::proofs::AutomatonLaws::place))]
     pub fn while_test(&mut self) -> Result<Front, ParseFault>
         requires at { IsAt B.stands Front.Enclosing (with_frame Frame.While self.old) }
         ensures moves { Moves result B.denied B.stands Front.Enclosing (with_frame Frame.While self.old) self.new }
         ensures falls { Falls result Front.Enclosing (with_frame Frame.While self.old) self.new }
         ensures builder { KeepsBuilder self.old self.new }
     {
-        self.tokens.expect(Punctuator::CloseRound)?;
-        self.builder.act(Action::WhileTest)?;
-        self.frames.push(Frame::Loop);
-        Ok(Front::Statement)
+        self.go_on(
+            Frame::While,
+            CLOSE_ROUND,
+            None,
+            Some(Action::WhileTest),
+            Next::Statement(Frame::Loop),
+        )
     }
 
     /// `stmt → while ( expr ) stmt •`
@@ -163,9 +166,7 @@ impl<F: Feed, B: Build> Automaton<'_, '_, '_, F, B> {
         ensures falls { Falls result Front.Enclosing (with_frame Frame.Loop self.old) self.new }
         ensures builder { KeepsBuilder self.old self.new }
     {
-        self.builder.act(Action::EndWhile)?;
-        self.depth -= 1;
-        Ok(Front::Enclosing)
+        self.go_on(Frame::Loop, None, None, Some(Action::EndWhile), Next::Close)
     }
 
     // stmt → return back ;
@@ -196,9 +197,13 @@ impl<F: Feed, B: Build> Automaton<'_, '_, '_, F, B> {
         ensures falls { Falls result Front.Enclosing (with_frame Frame.Return self.old) self.new }
         ensures builder { KeepsBuilder self.old self.new }
     {
-        self.tokens.expect(Punctuator::Semicolon)?;
-        self.builder.act(Action::GiveBack)?;
-        Ok(Front::Enclosing)
+        self.go_on(
+            Frame::Return,
+            SEMICOLON,
+            None,
+            Some(Action::GiveBack),
+            Next::End,
+        )
     }
 
     // stmt → expr ;
@@ -223,9 +228,13 @@ impl<F: Feed, B: Build> Automaton<'_, '_, '_, F, B> {
         ensures falls { Falls result Front.Enclosing (with_frame Frame.Evaluate self.old) self.new }
         ensures builder { KeepsBuilder self.old self.new }
     {
-        self.tokens.expect(Punctuator::Semicolon)?;
-        self.builder.act(Action::Chop)?;
-        Ok(Front::Enclosing)
+        self.go_on(
+            Frame::Evaluate,
+            SEMICOLON,
+            None,
+            Some(Action::Chop),
+            Next::End,
+        )
     }
 
     // block → { decls stmts }
