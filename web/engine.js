@@ -2,16 +2,17 @@
 //
 // The module's calls take the addresses of blocks that this file laid out once, behind the module's own memory, and
 // never anything else. The blocks hold numbers and bytes alone, and every value of them is allowed.
-import {Limits, NAME_BYTES, Usual} from "./limits.js";
+import {Ending, Limits, NAME_BYTES, Usual} from "./limits.js";
 
 const PAGE_BYTES = 65536;
 const ORDER_BYTES = 40;
 const ROBOT_BYTES = 8 + NAME_BYTES + Limits.sourceBytes;
 const FRAME_BYTES = 256;
-const FRAMES = 131072;
+const FRAMES = 32768;
 const SHEET_BYTES = 16 + FRAMES * FRAME_BYTES;
 const MARKS = 4000;
 const TARGET_BYTES = 16 + MARKS;
+const MOST_ROWS = 1000000;
 
 /**
  * What the module exports. Addresses and counts are numbers of 64 bits.
@@ -25,6 +26,15 @@ const CALLS = ["run", "film", "film_windows", "moment", "find", "places", "expla
 
 const encoder = new TextEncoder();
 const decoder = new TextDecoder();
+
+/** Counts a letter in a text. */
+function countOf(letter, text) {
+    let count = 0;
+    for (let at = text.indexOf(letter); at >= 0; at = text.indexOf(letter, at + 1)) {
+        count += 1;
+    }
+    return count;
+}
 
 /** The module with the blocks that it works on. */
 export class Engine {
@@ -108,9 +118,9 @@ export class Engine {
         return this.explain(settings, robots, this.exports.turns);
     }
 
-    /** Plays the first match of the settings. Returns {ending, text, faults}, whose text is its film, as far as a sheet has room. */
+    /** Plays the first match of the settings. Returns {ending, text, faults}, whose text is its film. */
     film(settings, robots) {
-        return this.runIn(1, settings, robots, this.exports.film);
+        return this.inParts(settings, robots, this.exports.film);
     }
 
     /**
@@ -118,7 +128,24 @@ export class Engine {
      * numbers from 0 to 2 ** 32 - 1 will do. Returns {ending, text, faults}; the ending is GOES_ON if the match goes on.
      */
     windows(settings, robots) {
-        return this.runIn(1, settings, robots, this.exports.film_windows);
+        return this.inParts(settings, robots, this.exports.film_windows);
+    }
+
+    /**
+     * Makes a film. One that is longer than a sheet comes in parts: the match is played anew for each. After a million rows
+     * it is cut off.
+     */
+    inParts(settings, robots, call) {
+        let film = "";
+        for (let skipped = 0; ; ) {
+            const {ending, text, faults} = this.runIn(1, {...settings, skipped}, robots, call);
+            const rows = text.slice(text.indexOf("\n") + 1);
+            film += film ? rows : text;
+            skipped += countOf("\n", rows);
+            if (ending !== Ending.FULL || skipped >= MOST_ROWS) {
+                return {ending, text: film, faults};
+            }
+        }
     }
 
     /**
@@ -157,10 +184,10 @@ export class Engine {
 
     putOrder(mode, settings) {
         const {matches = Usual.matches, limit = Usual.limit, seed = Usual.seed, profile = Usual.profile, first = Usual.first} = settings;
-        const {from = 0, windows = 0} = settings;
+        const {skipped = 0, from = 0, windows = 0} = settings;
         const view = new DataView(this.memory.buffer, this.order, ORDER_BYTES);
         view.setBigUint64(0, BigInt(seed), true);
-        [mode, matches, limit, profile, first, from, windows]
+        [mode, matches, limit, profile, first, skipped, from, windows]
             .forEach((n, i) => view.setUint32(8 + 4 * i, n, true));
     }
 

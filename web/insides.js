@@ -111,10 +111,11 @@ export class Inside {
         if (this.isOpen) {
             const {wish, robot} = this;
             const {source} = wish.robots[Math.min(robot, wish.robots.length - 1)];
-            const places = await this.ask("places", {}, [{...FILE, source}]);
-            if (places?.ending === Ending.DONE && wish === this.wish && robot === this.robot) {
+            const asked = ["list", "places"].map(call => this.ask(call, {}, [{...FILE, source}]));
+            const [listed, places] = await Promise.all(asked);
+            if (listed?.ending === Ending.DONE && wish === this.wish && robot === this.robot) {
                 this.showSource(source);
-                this.code = new Code(places.text);
+                this.code = new Code(listed.text, places.text);
             }
         }
     }

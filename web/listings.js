@@ -1,10 +1,10 @@
-// A robot's code beside its source: each instruction with its address and its line, and what turns of loops take.
+// The listing of a robot's code beside its source: each instruction with its address and its line, and what turns of loops take.
 import {Ending} from "./limits.js";
 
 /**
  * Reads what a robot's source has where, as the module lists it: the names of its externals and of its functions' variables, where
- * functions begin, and of each instruction its line, its column, whether the line is entered at it, the number of its function, the
- * name in it, and its words.
+ * functions begin, and of each instruction its line, its column, whether the line is entered at it, the number of its function, and
+ * the name in it.
  */
 export function partsOf(places) {
     const parts = {externals: [], functions: [], code: []};
@@ -13,24 +13,18 @@ export function partsOf(places) {
         function: ([begin, name]) => parts.functions.push({name, begin: Number(begin), variables: []}),
         variable: ([of, name]) => parts.functions[of].variables.push(name),
         code: ([line, column, entry, of, name]) =>
-            parts.code.push({line: Number(line), column: Number(column), isEntry: entry === "1", of: Number(of), name, words: []}),
-        instruction: ([words], address) => { parts.code[address].words = words.split(" "); },
+            parts.code.push({line: Number(line), column: Number(column), isEntry: entry === "1", of: Number(of), name}),
     };
     for (const row of places.split("\n").slice(1, -1)) {
-        const [number, , kind, ...values] = row.split("\t");
-        kinds[kind](values, number);
+        const [, , kind, ...values] = row.split("\t");
+        kinds[kind](values);
     }
     return parts;
 }
 
-/** Numbers and names as a heading has them. */
-const numbered = names => names.map((name, number) => ` ${number} ${name}`).join(",");
-
-/** Returns the headings before the addresses of some instructions: the externals, and each function with its variables. */
-function headingsOf({externals, functions}) {
-    const headings = functions.map(({name, begin, variables}, number) =>
-        ({begin, instruction: `Function ${number} ${name}${variables.length ? `:${numbered(variables)}` : ""}`}));
-    return externals.length ? [{begin: 0, instruction: `Externals:${numbered(externals)}`}, ...headings] : headings;
+/** Returns the instructions of a listing as it has them, by their addresses: its last rows, so many. */
+export function instructionsOf(listing, count) {
+    return count ? listing.trimEnd().split("\n").slice(-count).map((row, address) => row.trim().slice(`${address} `.length)) : [];
 }
 
 /** Returns what is known of the turns of loops, as the module reports it: {line, text} of each. */
@@ -43,7 +37,7 @@ export function turnsOf({ending, text}) {
     });
 }
 
-/** The code as a list, from which one goes to the source's lines. */
+/** The listing as a list, from which one goes to the source's lines. */
 export class Listing {
     /** Fills a list box; `goTo` is called with the line of the row that is chosen. */
     constructor(box, goTo) {
@@ -55,12 +49,12 @@ export class Listing {
         box.addEventListener("keydown", event => this.press(event));
     }
 
-    /** Shows the code of a source, by what that has where, and what turns of loops take, each before its loop. */
-    show(parts, turns) {
-        const headings = headingsOf(parts);
-        const rows = parts.code.flatMap(({line, words}, address) =>
-            [...headings.filter(({begin}) => begin === address).map(({instruction}) => ({instruction})), {address, instruction: words.join(" "), line}]);
-        this.rows = rows.map((row, at) => this.row(row, at));
+    /** Shows a listing, whose instructions come from these places, and what turns of loops take, each before its loop. */
+    show(text, code, turns) {
+        const rows = text.trimEnd().split("\n").slice(1);
+        const headings = rows.slice(0, rows.length - code.length);
+        const instructions = instructionsOf(text, code.length).map((instruction, address) => ({address, instruction, line: code[address].line}));
+        this.rows = [...headings.map(row => ({instruction: row.trim()})), ...instructions].map((parts, at) => this.row(parts, at));
         turns.forEach((turn, at) => {
             const row = this.row({instruction: turn.text}, `turn-${at}`);
             row.dataset.line = turn.line;

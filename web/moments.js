@@ -1,16 +1,16 @@
 // Moments: where a robot is after a cycle of a match, by the names and the lines of its source.
-import {partsOf} from "./listings.js";
+import {instructionsOf, partsOf} from "./listings.js";
 
 /** A robot's code: its instructions with their lines, and the names of its externals and of its functions' variables. */
 export class Code {
-    /** `places` is what its source has where, as the module writes it. */
-    constructor(places) {
+    /** `listing` is the code's, `places` what its source has where, both as the module writes them. */
+    constructor(listing, places) {
         const {externals, functions, code} = partsOf(places);
         this.externals = externals;
         this.functions = functions;
         this.code = code;
         this.lines = code.map(({line}) => line);
-        this.instructions = code.map(({words}) => words.join(" "));
+        this.instructions = instructionsOf(listing, code.length);
     }
 
     /** The function of an address. */

@@ -66,9 +66,9 @@ export class Sweeping {
         }
     }
 
-    /** Offers the numbers of a source, by the places of its instructions; none of one with a fault, which has no places. */
-    offer(source, places) {
-        const {found, fault} = this.numbersOf(source, places);
+    /** Offers the numbers of a source, by its listing and the places of its instructions; none of one with a fault. */
+    offer(source, compiled) {
+        const {found, fault} = this.numbersOf(source, compiled);
         const lineOf = ({end}) => source.lastIndexOf("\n", end - 1) + 1;
         this.editor.offer(found.map(it => ({line: it.line, at: it.end - lineOf(it), call: () => this.sweep(source, it)})));
         const told = fault ? [made("span", fault, "fault")] : [];
@@ -76,9 +76,9 @@ export class Sweeping {
         byId("sweeps").hidden = !found.length && !fault && !byId("sweep").children.length;
     }
 
-    numbersOf(source, places) {
+    numbersOf(source, compiled) {
         try {
-            return {found: places ? tunablesOf(source, constantsOf(source, places)) : [], fault: ""};
+            return {found: compiled ? tunablesOf(source, constantsOf(source, compiled.listing, compiled.places)) : [], fault: ""};
         } catch (fault) {
             return {found: [], fault: `A mark is wrong: ${fault.message}.`};
         }

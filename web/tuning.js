@@ -1,9 +1,9 @@
 // Numbers of a robot that may be changed: those with a mark in the comment behind them, by the rules of crobots-tune.
 //
-// The proved module says where constants stand: it has each instruction with its place in the source. Between a constant and the
-// next token are blanks and comments alone. Places count bytes, so a source is looked at as its bytes.
+// The proved module says where constants stand: its listing has them, and of each instruction the place in the source. Between a
+// constant and the next token are blanks and comments alone. Places count bytes, so a source is looked at as its bytes.
 
-import {partsOf} from "./listings.js";
+import {instructionsOf, partsOf} from "./listings.js";
 
 /**
  * @typedef {{line: number, column: number}} Place
@@ -67,13 +67,15 @@ class Bytes {
 }
 
 /**
- * Returns where the constants of a source stand, by the places of its instructions. Some instructions push a constant that nobody
- * wrote.
+ * Returns where the constants of a source stand, of its listing and of the places of its instructions. Some instructions push a
+ * constant that nobody wrote.
  * @returns {Place[]}
  */
-export function constantsOf(source, places) {
+export function constantsOf(source, listing, places) {
     const bytes = new Bytes(source);
-    const pushed = partsOf(places).code.filter(({words: [word]}) => word === "CONST");
+    const {code} = partsOf(places);
+    const instructions = instructionsOf(listing, code.length);
+    const pushed = code.filter((_, address) => instructions[address].startsWith("CONST "));
     return pushed.map(({line, column}) => ({line, column})).filter(place => Number.isFinite(bytes.endOf(place)));
 }
 

@@ -29,8 +29,8 @@ export class Workbench {
         this.compiler = compiler;
         this.faults = new Map();
         /**
-         * Is called with a source that was compiled, and with its places, "" if it has a fault.
-         * @type {((source: string, places: string) => void) | null}
+         * Is called with a source that was compiled, and with its listing and places if it has no fault.
+         * @type {((source: string, compiled: {listing: string, places: string} | null) => void) | null}
          */
         this.onCompile = null;
         this.listing = new Listing(byId("code"), line => editor.goTo(line));
@@ -147,19 +147,19 @@ export class Workbench {
         return answered(this.compiler.call(call, {profile: this.store.battle.settings.profile}, [{name: "robot", source}]));
     }
 
-    /** Compiles the robot that is edited, and shows its warnings, and its code or its diagnostic with what explains it. */
+    /** Compiles the robot that is edited, and shows its warnings, and its listing or its diagnostic with what explains it. */
     async compile() {
         const {key, source} = this.robot;
         const {current} = this.store;
-        const [places, explained, turns] = await Promise.all(["places", "explain", "turns"].map(call => this.ask(call, {source})));
+        const [listed, places, explained, turns] = await Promise.all(["list", "places", "explain", "turns"].map(call => this.ask(call, {source})));
         if (current === this.store.current && key === this.robot.key && source === this.robot.source) {
-            const fault = this.take(key, places);
+            const fault = this.take(key, listed);
             this.editor.mark(fault?.line ?? null, fault ? `${fault.text}. ${adviceOf(fault.text)}` : "");
             this.editor.warn(warningsOf(explained).filter(({line}) => line !== fault?.line));
-            this.listing.show(partsOf(places.text), turnsOf(turns));
+            this.listing.show(listed.text, partsOf(places.text).code, turnsOf(turns));
             this.listing.mark(this.editor.line);
-            this.onCompile?.(source, places.text);
-            this.showDiagnostic(fault, places);
+            this.onCompile?.(source, listed.ending === Ending.DONE ? {listing: listed.text, places: places.text} : null);
+            this.showDiagnostic(fault, listed);
             showExplanation(byId("explanation"), explained, line => this.editor.goTo(line));
         }
     }

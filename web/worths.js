@@ -14,7 +14,7 @@ export class Worths {
         const bench = new Bench(newCaller);
         this.contesting = new Contesting(store, bench, samples, new Duo(bench));
         this.sweeping = new Sweeping(store, editor, bench, samples);
-        workbench.onCompile = (source, places) => this.sweeping.offer(source, places);
+        workbench.onCompile = (source, compiled) => this.sweeping.offer(source, compiled);
     }
 
     /** Says what the change of the robot that is shown is worth since it was like this. */

@@ -5,11 +5,10 @@ import selectors
 from typing import Any, Callable, Protocol
 
 from tools.faults import FILE, Fault
-from tools.output import put
 
 from .framing import NOTHING, Broken, Frames, encoded, framed
 
-INPUT = 0
+INPUT, OUTPUT = 0, 1
 PIECE = 1 << 16
 UNREAD = "cannot read standard input"
 Take = Callable[[Any], None]
@@ -78,4 +77,6 @@ def send(message: Any) -> None:
 
 def send_encoded(body: bytes) -> None:
     """Writes a message to the client, which is JSON already. One that reads no more gets nothing."""
-    put(framed(body))
+    rest = memoryview(framed(body))
+    while rest:
+        rest = rest[os.write(OUTPUT, rest) :]

@@ -4,7 +4,7 @@ import importlib
 from typing import Callable
 
 from tools.faults import Misuse
-from tools.output import put
+from tools.output import OUTPUT, write_all
 from tools.programs import number
 from tools.running import run as begin
 
@@ -24,9 +24,9 @@ def serve(name: str, words: list[str]) -> int:
     if strange := next((word for word in asked if not is_text(word)), None):
         raise Misuse(f"{strange} is no text")
     if {*asked} & {"-h", "--help"}:
-        put(help_page(name, ABOUT[name]).encode())
+        write_all(OUTPUT, help_page(name, ABOUT[name]).encode())
     elif asked and {*asked} == {VERSION}:
-        put(f"{name} {number()}\n".encode())
+        write_all(OUTPUT, f"{name} {number()}\n".encode())
     elif unknown := next((word for word in asked if word != VERSION), None):
         raise Misuse(f"unknown option {unknown}" if unknown.startswith("-") else f"{unknown}: no file is read")
     else:

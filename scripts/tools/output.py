@@ -7,7 +7,7 @@ import os
 import tempfile
 from typing import Iterable
 
-from .faults import FILE, UNWRITTEN, Fault, plain
+from .faults import FILE, Fault, plain
 
 CHUNK = 1 << 16
 INPUT, OUTPUT, ERRORS = 0, 1, 2
@@ -49,18 +49,6 @@ def show(pieces: Iterable[str]) -> None:
         raise
     except OSError as why:
         raise Fault(f"cannot write: {why.strerror}", FILE) from why
-
-
-def put(text: bytes) -> None:
-    """Writes it to standard output for a program that reads it, as `show` does, with the line and the status of the proved programs."""
-    rest = memoryview(text)
-    try:
-        while rest:
-            rest = rest[os.write(OUTPUT, rest):]
-    except BrokenPipeError:
-        raise
-    except OSError as why:
-        raise Fault("cannot write", UNWRITTEN) from why
 
 
 def replaced(path: str, text: bytes, mode: int = 0o644) -> None:

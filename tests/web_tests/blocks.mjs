@@ -16,7 +16,7 @@ const MOST = 2 ** 32 - 1;
 const SIZES = [0, 1, 68, 69, 255, 256, 1048576, 1048577, 1048578, MOST];
 const NUMBERS = [0, 1, 2, 26, 27, 2 ** 31, MOST];
 const ORDERS = {mode: [0, 1, 1, 2, MOST], matches: [0, 1, 2, 1000001, MOST], limit: [0, 1, 15, 400, 1000000001, MOST],
-    profile: [0, 1, 2, 3, MOST], first: [0, 1, 1000000, 1000001, MOST]};
+    profile: [0, 1, 2, 3, MOST], first: [0, 1, 1000000, 1000001, MOST], skipped: [0, 1, MOST]};
 
 let state = Number(seed) * 2 + 1;
 
@@ -40,7 +40,7 @@ function putOrder() {
     spoil(engine.order, 40);
     Object.values(ORDERS).forEach((several, n) => view.setUint32(8 + 4 * n, below(8) ? several[1] : oneOf(several), true));
     // the windows of a film
-    [28, 32].forEach(at => view.setUint32(at, oneOf(NUMBERS), true));
+    [32, 36].forEach(at => view.setUint32(at, oneOf(NUMBERS), true));
 }
 
 /** Fills a robot: with a source, and maybe bytes of any kind over it, and sizes of any kind. */

@@ -287,8 +287,7 @@ def keys(page: Page) -> list[str]:
     source = samples()[2][1].decode()
     page.show(Battle(samples()[2:4]))
     page.js("document.getElementById('listing').open = true; document.getElementById('code').focus()")
-    # behind two headings and what a turn takes stand the 16 instructions of its first function
-    page.press("ARROW_DOWN", *["ARROW_DOWN"] * 9, "ENTER")
+    page.press("ARROW_DOWN", *["ARROW_DOWN"] * 20, "ENTER")
     chosen = page.js("return document.querySelector('#code [aria-selected=true]').dataset.line")
     mirror = "document.querySelector('.CodeMirror').CodeMirror"
     at, text = page.js(f"return [{mirror}.getCursor().line + 1, {mirror}.getValue()]")

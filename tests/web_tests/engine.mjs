@@ -9,9 +9,11 @@ const engine = await Engine.load(fs.readFileSync(process.argv[2]));
 
 function answer(job) {
     const robots = job.robots.map(({name, source}) => ({name, source: Buffer.from(source, "base64")}));
-    const {ending} = engine[job.call](job.settings, robots);
-    const [text, faults] = [engine.text, engine.faults].map(sheet => Buffer.from(engine.bytesOf(sheet)).toString("base64"));
-    return {ending, text, faults};
+    const {ending, text: film} = engine[job.call](job.settings, robots);
+    const [sheet, faults] = [engine.text, engine.faults].map(it => Buffer.from(engine.bytesOf(it)));
+    // a long film comes in parts, and the sheet has the last of them
+    const text = ["film", "windows"].includes(job.call) ? Buffer.from(film) : sheet;
+    return {ending, text: text.toString("base64"), faults: faults.toString("base64")};
 }
 
 const jobs = JSON.parse(fs.readFileSync(0, "utf8"));

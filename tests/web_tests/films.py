@@ -1,4 +1,4 @@
-"""Tests of films: the rows of the page's films are those that crobots-trace writes, of whole matches and by windows. And of what
+"""Tests of films: the rows of the page's films are those that crobots-trace writes, of whole matches, in sheets and by windows. And of what
 compares them: it sees each row, and plants what may be wrong in crates/page/src/films.rt among the rows."""
 
 from __future__ import annotations
@@ -39,6 +39,8 @@ LEAST = {"at": 20_000, "scan": 30_000, "shot": 4_000, "burst": 4_000, "restart":
 LEAST_ALONE = {"name": 500, "refused": 4_000, "stands": 1_500, "flies": 200}
 # how many films each plant changes at least
 LEAST_PLANTED = 5
+# more bytes than a sheet has
+OVER_A_SHEET = 32_768 * 255
 
 # They restart in several lines: in a function that calls itself, for want of words, at their end. Names are of 31 bytes at most.
 FRAMES = ("frames.r", b"main()\r\n{\n\n  abcdefghijklmnopqrstuvwxyz_1234(1);\n}\n\nabcdefghijklmnopqrstuvwxyz_1234(a)\n{\n\treturn abcdefghijklmnopqrstuvwxyz_1234(a + 1);\n}\n")
@@ -150,7 +152,7 @@ def counts(films: list[Film]) -> list[str]:
 
 
 def long_films(trace: str, folder: str) -> list[str]:
-    """Films of some hundred thousand rows, one of them by windows."""
+    """Films that are longer than one sheet, than two, and than one with windows: a row stands once where a part ends."""
     battles = [Battle([STILL, SCANNER, ("later.r", b"main() {\n\n\n}\n")], Settings(limit=250_000), "film"),
                Battle([STILL], Settings(limit=480_000), "film"),
                Battle([SCANNER, STILL, STILL], Settings(limit=250_000), "windows", (0, MOST_NUMBER))]
@@ -158,6 +160,7 @@ def long_films(trace: str, folder: str) -> list[str]:
     for battle in battles:
         answer = answers(folder, [battle])[0]
         rows = [row for row in rows_of(answer) if row[2] not in WINDOWS_ALONE]
+        wrong += [] if len(answer[1]) > OVER_A_SHEET else [f"{titled(battle)}: {len(answer[1])} bytes"]
         wrong += [f"{titled(battle)}: {line}" for line in differences(rows, told_by(trace, battle))]
     return wrong
 
@@ -360,7 +363,7 @@ def with_living_at_the_end(film: Film) -> list[Row]:
 
 
 def cut_off(film: Film) -> list[Row]:
-    """A row is lost in the middle."""
+    """A row is lost where a part of a film begins."""
     return film.paged[:len(film.paged) // 2] + film.paged[len(film.paged) // 2 + 1:]
 
 
@@ -383,7 +386,7 @@ PLANTS: dict[str, Plant] = {
     "a scan isn't the first one": with_late_scans,
     "an update's cycle is the next one's": with_late_updates,
     "dead robots have no end": with_living_at_the_end,
-    "a row is lost between two frames": cut_off,
+    "a row is lost between two sheets": cut_off,
 }
 
 
@@ -460,7 +463,7 @@ def results(programs: Programs, folder: str) -> Iterator[tuple[str, list[str]]]:
     films = whole_films(trace, folder)
     yield "films are those of crobots-trace", alike(films)
     yield "kinds of rows", counts(films)
-    yield "long films", long_films(trace, folder)
+    yield "films in sheets", long_films(trace, folder)
     yield "when missiles burst", modelled(films)
     stretched = stretches_of(trace, folder)
     yield "films of windows", windows(stretched)

@@ -17,7 +17,7 @@ const {placesOf} = await load("finding");
 const {completions, openCall, wordAt} = await load("helping");
 const {Series, ended} = await load("series");
 const {adviceOf} = await load("advice");
-const {partsOf, turnsOf} = await load("listings");
+const {turnsOf} = await load("listings");
 const {reasonOf, warningsOf} = await load("explaining");
 const {filmOf} = await load("player/films");
 const {DamageDrawing, FieldDrawing} = await load("player/drawing");
@@ -260,8 +260,32 @@ const died = new Series({matches: 99, first: 1}, () => { throw new Error("stoppe
 check("a series that is stopped", ended(died, await died.play(), 0), "Stopped. No match was played to its end.");
 
 // int seen; | main() { | while (1) { f(2); } } | f(n) { seen += n; return n; }
-const INSTRUCTIONS = ["CONST 1", "BRANCH 8", "FRAME", "CONST 2", "FCALL 1", "CHOP", "CONST 0", "BRANCH 0", "CONST 0", "RETSUB",
-    "FETCH L0", "STORE E0 +=", "CHOP", "FETCH L0", "RETSUB", "CONST 0", "RETSUB", "NOP"];
+const LISTING = `File robot
+Externals 1
+  0 seen
+Function 0 main vars 0 at 0
+Function 1 f vars 1 at 10
+  0 n
+Code 18
+    0 CONST 1
+    1 BRANCH 8
+    2 FRAME
+    3 CONST 2
+    4 FCALL 1
+    5 CHOP
+    6 CONST 0
+    7 BRANCH 0
+    8 CONST 0
+    9 RETSUB
+   10 FETCH L0
+   11 STORE E0 +=
+   12 CHOP
+   13 FETCH L0
+   14 RETSUB
+   15 CONST 0
+   16 RETSUB
+   17 NOP
+`;
 // main is entered at its first instruction, f at its own: by hand
 const NAMED = {4: "f", 10: "n", 11: "seen", 13: "n"};
 const PLACES = `number\trobot\tkind\ta\tb\tc\td\te
@@ -269,9 +293,8 @@ const PLACES = `number\trobot\tkind\ta\tb\tc\td\te
 0\t1\tfunction\t0\tmain
 1\t1\tfunction\t10\tf
 0\t1\tvariable\t1\tn
-${INSTRUCTIONS.map((words, at) => `${at}\t1\tcode\t${at < 10 ? 3 : 4}\t1\t${[0, 10].includes(at) ? 1 : 0}\t${at < 10 ? 0 : 1}\t${NAMED[at] ?? ""}\n${at}\t1\tinstruction\t${words}\n`).join("")}`;
-const code = new Code(PLACES);
-check("instructions", [code.instructions, partsOf("")], [INSTRUCTIONS, {externals: [], functions: [], code: []}]);
+${Array.from({length: 18}, (_, at) => `${at}\t1\tcode\t${at < 10 ? 3 : 4}\t1\t${[0, 10].includes(at) ? 1 : 0}\t${at < 10 ? 0 : 1}\t${NAMED[at] ?? ""}\n`).join("")}`;
+const code = new Code(LISTING, PLACES);
 check("names in instructions", [0, 4, 10, 11].map(at => code.nameIn(at)), ["", "f", "n", "seen"]);
 check("where lines begin", [[3], [4], [3, 4], [2]].map(lines => code.entriesOf(new Set(lines))), [[0], [10], [0, 10], []]);
 check("where any line begins", code.entriesOf(), [0, 10]);
@@ -283,7 +306,7 @@ check("a moment", [inside.cycle, inside.address, inside.isAlive, inside.isOver, 
 // the frame that was opened last is of a call whose arguments are being worked out
 check("open calls of a robot", callsOf(code, inside), [{line: 4, name: "f", variables: [{name: "n", value: 2}], frames: 2}, {line: 3, name: "main", variables: [], frames: 1}]);
 // the line of a call is that of its FCALL, though what follows it comes from another line
-const apart = new Code(PLACES.replace("\n5\t1\tcode\t3", "\n5\t1\tcode\t9"));
+const apart = new Code(LISTING, PLACES.replace("\n5\t1\tcode\t3", "\n5\t1\tcode\t9"));
 check("the line of a call", [apart.lines[4], apart.lines[5], ...callsOf(apart, inside).map(({line}) => line)], [3, 9, 4, 3]);
 check("externals", valuesOf(code.externals, inside.externals), [{name: "seen", value: 4}]);
 check("no moment, and what was found", [momentOf(ROWS), foundIn(ROWS), foundIn(`${ROWS}8\t1\tfound\n`)], [null, null, 8]);

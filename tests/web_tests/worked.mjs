@@ -21,7 +21,8 @@ const quiet = () => {};
 
 /** Where constants of a source stand, by the module. */
 function constants(source, profile) {
-    return constantsOf(source, engine.places({profile}, [{name: "robot", source}]).text);
+    const [listed, places] = [engine.list({profile}, [{name: "robot", source}]), engine.places({profile}, [{name: "robot", source}])];
+    return constantsOf(source, listed.text, places.text);
 }
 
 async function sweep(settings, source, opponents, each) {

@@ -203,21 +203,9 @@ export function cyclesOf(text) {
     return Number(text.slice(text.lastIndexOf("\n", text.length - 2) + 1).split("\t")[0]);
 }
 
-/** Whether a row says where a robot is at the start of a film. */
-function isStart(line) {
-    const [cycle, , kind] = line.split("\t");
-    return kind === "stands" || kind === "at" && cycle === "0";
-}
-
 /** Returns whether a film has where robots are at its start: that of windows after a match's end has none. */
 export function isFilm(text) {
-    // mostly the first row says it, and a film may be long
-    for (let at = 0; at < text.length; at = text.indexOf("\n", at) + 1 || text.length) {
-        if (isStart(text.slice(at, text.indexOf("\n", at)))) {
-            return true;
-        }
-    }
-    return false;
+    return /\tstands\t|^0\t1\tat\t/m.test(text);
 }
 
 /**

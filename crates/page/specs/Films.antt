@@ -29,7 +29,7 @@ diagnostics order robots =
 
 -- the stretch of a subject: only a film has one
 abbrev pub stretch_in : Subject → Option Stretch
-stretch_in (Film stretch) = stretch
+stretch_in (Film stretch skipped) = stretch
 stretch_in (Moment target) = None
 stretch_in (Run target) = None
 stretch_in Places = None

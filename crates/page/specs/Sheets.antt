@@ -23,7 +23,7 @@ contents_of sheet = Some (record { portions = told sheet; whole = false })
 
 -- how many frames a sheet has
 abbrev pub most_frames : ℕ
-most_frames = 131072
+most_frames = 32768
 
 -- how many writes it refused: a sheet that has a free frame refuses none
 abbrev pub refused : Sheet → ℕ

@@ -46,7 +46,15 @@ impl CompiledRobots {
         if self.len() == 1 { 2 } else { self.len() }
     }
 
-    /// Finds where the instructions of each program come from in the source of its robot.
+    /// Returns the program of a robot, with its names. A single file's is that of both robots.
+    pub(crate) fn named(&self, robot: usize) -> Option<NamedProgram<'_>> {
+        let file = robot.min(self.len().saturating_sub(1));
+        let program = self.programs.as_slice().get(file)?;
+        let names = self.names[file].pools();
+        Some(NamedProgram { program, names })
+    }
+
+    /// Finds the positions of the instructions of each program in the source of its robot.
     pub(crate) fn positions(
         &self,
         robots: &[RobotFile],
@@ -56,27 +64,6 @@ impl CompiledRobots {
             let _ = found.try_push(positions_of(program, robot.source()));
         }
         found
-    }
-
-    /// Returns the file of a robot: a single one is that of both robots.
-    pub(crate) fn file(&self, robot: usize) -> usize {
-        robot.min(self.len().saturating_sub(1))
-    }
-
-    /// Returns the program of a robot, with its names.
-    pub(crate) fn named(&self, robot: usize) -> Option<NamedProgram<'_>> {
-        let file = self.file(robot);
-        let program = self.programs.as_slice().get(file)?;
-        let names = self.names[file].pools();
-        Some(NamedProgram { program, names })
-    }
-
-    /// Returns the name of a robot's function that holds an address, a question mark if there is none.
-    pub(crate) fn function_name(&self, robot: usize, address: usize) -> &str {
-        match self.named(robot) {
-            Some(named) => named.function_name(named.function(address)),
-            None => "?",
-        }
     }
 }
 

@@ -45,7 +45,8 @@ pub extern "C" fn film(
 ) -> u32
     ensures { EndsWith (λ ending. FilmsRobots order.now robots.now None ending text.new faults.new) result }
 {
-    tell(order, robots, &Subject::Film(None), text, faults)
+    let film = Subject::Film(None, order.skipped);
+    tell(order, robots, &film, text, faults)
 }
 
 /// Plays the first match that the order asks for of one to four robots up to a number of updates, and films a number of
@@ -64,7 +65,7 @@ pub extern "C" fn film_windows(
 ) -> u32
     ensures { EndsWith (λ ending. FilmsRobots order.now robots.now (Some (stretch_of order.now)) ending text.new faults.new) result }
 {
-    let film = Subject::Film(Some(order.stretch()));
+    let film = Subject::Film(Some(order.stretch()), order.skipped);
     tell(order, robots, &film, text, faults)
 }
 
@@ -99,8 +100,8 @@ pub extern "C" fn find(
     tell(order, robots, &Subject::Run(target), text, faults)
 }
 
-/// Writes the names of one to four robots, and their instructions with where they come from, a row each, or the
-/// diagnostics of faulty sources. Answers as `run` does.
+/// Writes where the instructions of one to four robots come from, a row each, or the diagnostics of faulty sources.
+/// Answers as `run` does.
 #[unsafe(no_mangle)]
 pub extern "C" fn places(
     order: &Order,
@@ -170,7 +171,7 @@ pub extern "C" fn robot_bytes() -> usize
 /// Returns how many bytes a sheet has.
 #[unsafe(no_mangle)]
 pub extern "C" fn sheet_bytes() -> usize
-    ensures { result ≡ 33554448 }
+    ensures { result ≡ 8388624 }
 {
     size_of::<Sheet>()
 }

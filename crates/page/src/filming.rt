@@ -75,7 +75,9 @@ fn tell_subject(
         settings.now.first settings.now.limit).cycles result }
 {
     match *subject {
-        Subject::Film(stretch) => return film_match(settings, compiled, robots, stretch, sheet),
+        Subject::Film(stretch, skipped) => {
+            return film_match(settings, compiled, robots, stretch, skipped, sheet);
+        }
         Subject::Moment(target) => tell_inside(settings, compiled, target, false, sheet),
         Subject::Run(target) => tell_inside(settings, compiled, target, true, sheet),
         Subject::Places => tell_places(compiled, robots, sheet),
@@ -83,13 +85,14 @@ fn tell_subject(
     Ending::Done
 }
 
-/// Plays the first match of compiled robots, and writes its film on a sheet: of a stretch, or of all of it. `Full` if it
-/// was cut off, since the sheet is full.
+/// Plays the first match of compiled robots, and writes its film on a sheet: of a stretch, or of all of it, without some
+/// of its first rows. `Full` if it was cut off, since the sheet is full.
 fn film_match(
     settings: &Settings<'_>,
     compiled: &CompiledRobots,
     robots: &[RobotFile],
     stretch: Option<Stretch>,
+    skipped: u32,
     sheet: &mut Sheet,
 ) -> Ending
     requires { 0 < length compiled.now.programs.items }
@@ -100,7 +103,7 @@ fn film_match(
     ensures full { result ≡ Ending.Full → IsFull sheet.new }
 {
     let positions = compiled.positions(robots);
-    let mut film = Film::new(sheet, compiled, positions.as_slice(), stretch);
+    let mut film = Film::new(sheet, compiled, positions.as_slice(), stretch, skipped);
     let end = play_robots(settings, compiled, &mut film);
     let ending = ending_of(stretch, end);
     if ending == Ending::Done {

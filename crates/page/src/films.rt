@@ -23,6 +23,7 @@ struct SheetRows<'a> {
     sheet: &'a mut Sheet,
     stretch: Option<Stretch>,
     updates: u32,
+    skipped: u32,
 }
 
 impl SheetRows<'_> {
@@ -34,10 +35,14 @@ impl SheetRows<'_> {
         }
     }
 
-    /// Writes a row.
+    /// Writes a row, unless it is one of the first ones that are left out.
     fn put(&mut self, cycle: u32, robot: usize, event: &Event<'_>)
         ensures { kept_by self.new ≡ kept_by self.old }
     {
+        if self.skipped > 0 {
+            self.skipped -= 1;
+            return;
+        }
         self.sheet.add(Row::new(cycle, robot, event).as_slice());
     }
 }
@@ -75,12 +80,13 @@ pub(crate) struct Film<'a> {
 
 impl<'a> Film<'a> {
     /// Begins a film of a stretch, or of a whole match, of compiled robots on a sheet. These are the positions of each
-    /// file's instructions.
+    /// file's instructions. The given number of rows are left out.
     pub(crate) fn new(
         sheet: &'a mut Sheet,
         compiled: &'a CompiledRobots,
         positions: &'a [Option<SourcePositions>],
         stretch: Option<Stretch>,
+        skipped: u32,
     ) -> Film<'a>
         ensures stretch { result.camera.rows.stretch ≡ stretch }
         ensures sheet { result.camera.rows.sheet.ghost_name ≡ sheet.entry.ghost_name }
@@ -90,6 +96,7 @@ impl<'a> Film<'a> {
             sheet,
             stretch,
             updates: 0,
+            skipped,
         };
         Film {
             camera: Camera::new(rows),
@@ -105,9 +112,11 @@ impl<'a> Film<'a> {
         self.camera.end(cycle, "end");
     }
 
-    /// Returns the line that the instruction of an address comes from, 0 if it isn't known.
+    /// Returns the line that the instruction of an address comes from, 0 if it isn't known. A single file's program is
+    /// that of both robots.
     fn line(&self, robot: usize, address: usize) -> u32 {
-        match self.positions.get(self.compiled.file(robot)) {
+        let file = robot.min(self.positions.len().saturating_sub(1));
+        match self.positions.get(file) {
             Some(Some(positions)) => positions.line(address),
             _ => 0,
         }
@@ -203,7 +212,7 @@ impl Watcher for Film<'_> {
             return;
         }
         let address = pilot.machine().address();
-        let function = self.compiled.function_name(turn.robot, address);
+        let function = function_name(self.compiled, turn.robot, address);
         let line = self.line(turn.robot, address);
         self.camera
             .restart(turn.cycle, turn.robot, word_of(cause), function, line);
@@ -236,6 +245,14 @@ impl Watcher for Film<'_> {
 pub(crate) fn add_columns(sheet: &mut Sheet) {
     sheet.add(FILM_COLUMNS.as_bytes());
     sheet.add(b"\n");
+}
+
+/// Returns the name of a robot's function that holds an address.
+fn function_name(compiled: &CompiledRobots, robot: usize, address: usize) -> &str {
+    match compiled.named(robot) {
+        Some(named) => named.function_name(named.function(address)),
+        None => "?",
+    }
 }
 
 /// Returns the event that a missile is in the air: what it was fired with, and where.

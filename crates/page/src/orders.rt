@@ -24,6 +24,8 @@ pub struct Order {
     pub profile: u32,
     /// The number of the first match, 1 to 1,000,000.
     pub first: u32,
+    /// How many rows of a film are left out, from its start. A run has no use for it.
+    pub skipped: u32,
     /// How many updates are before the windows that are filmed. Only a film of windows has a use for it.
     pub from: u32,
     /// How many windows are filmed. Only a film of windows has a use for it.

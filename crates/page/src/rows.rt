@@ -26,16 +26,6 @@ impl Row {
         row
     }
 
-    /// Makes the beginning of a row of this kind, behind which its one field has to be written, and the end of its line.
-    pub(crate) fn begin(cycle: u32, robot: usize, kind: &'static str) -> Row {
-        let mut row = Row {
-            text: ArrayString::new(),
-        };
-        let _ = row.fill(cycle, robot, &Event::new(kind, &[]));
-        let _ = row.text.write_str("\t");
-        row
-    }
-
     /// Returns the bytes of the row.
     pub(crate) fn as_slice(&self) -> &[u8] {
         self.text.as_bytes()

@@ -10,8 +10,8 @@ use tokens::DeviceFault;
 /// The most bytes of a frame.
 pub const FRAME_BYTES: usize = 255;
 
-/// The frames of a sheet: room for a film of about a million rows.
-pub const FRAMES: usize = 131_072;
+/// The frames of a sheet.
+pub const FRAMES: usize = 32_768;
 
 /// A piece of text of at most 255 bytes: the first `size` of `bytes`.
 #[repr(C)]
@@ -50,7 +50,7 @@ impl SheetBlock {
     }
 }
 
-/// A text in memory that the caller lends: its first `used` frames. It has at most 131,072.
+/// A text in memory that the caller lends: its first `used` frames. It has at most 32,768.
 #[repr(C)]
 pub struct Sheet {
     /// How many frames the text has.

@@ -4,16 +4,14 @@ use crate::compiled_robots::CompiledRobots;
 use crate::robots::RobotFile;
 use crate::rows::Row;
 use crate::sheets::Sheet;
-use code::Instr;
 use derivations::{NamedProgram, SourcePositions};
-use listings::put_instruction;
 use tokens::Name;
 use watching::{Event, Field};
 
 /// The first line of a list of places: the names of its columns.
 const COLUMNS: &[u8] = b"number\trobot\tkind\ta\tb\tc\td\te\n";
 
-/// Writes the names of each robot's source, and the instructions of its program with where they come from, a row each.
+/// Writes the names of each robot's source, and where the instructions of its program come from, a row each.
 pub(crate) fn tell_places(compiled: &CompiledRobots, robots: &[RobotFile], sheet: &mut Sheet) {
     sheet.add(COLUMNS);
     for (robot, positions) in compiled.positions(robots).iter().enumerate() {
@@ -44,8 +42,7 @@ fn tell_names(robot: usize, named: &NamedProgram<'_>, sheet: &mut Sheet) {
     }
 }
 
-/// Writes of each instruction its line, its column, whether the line is entered at it, its function, and the name in it;
-/// and then itself.
+/// Writes of each instruction its line, its column, whether the line is entered at it, its function, and the name in it.
 fn tell_code(
     robot: usize,
     named: &NamedProgram<'_>,
@@ -62,24 +59,12 @@ fn tell_code(
             Field::Text(named.name_in(address).unwrap_or("")),
         ];
         tell(sheet, robot, address, &Event::new("code", &fields));
-        if let Some(instr) = named.program.instructions().get(address) {
-            tell_instruction(sheet, robot, address, *instr);
-        }
     }
 }
 
-/// Writes the instruction of an address, as a listing has it.
-fn tell_instruction(sheet: &mut Sheet, robot: usize, address: usize, instr: Instr) {
-    sheet.add(Row::begin(row_number(address), robot, "instruction").as_slice());
-    if !sheet.is_full() {
-        let _ = put_instruction(sheet, instr);
-    }
-    sheet.add(b"\n");
-}
-
-/// Returns the number of a function as a field.
+/// Returns the number of a function as a field. No program has so many that it is cut off.
 fn number_of(function: usize) -> Field<'static> {
-    Field::Number(i64::from(row_number(function)))
+    Field::Number(function.min(u32::MAX as usize) as i64)
 }
 
 /// Returns a name as a field.
@@ -89,10 +74,6 @@ fn text(name: &Name) -> Field<'_> {
 
 /// Writes a row.
 fn tell(sheet: &mut Sheet, robot: usize, number: usize, event: &Event<'_>) {
-    sheet.add(Row::new(row_number(number), robot, event).as_slice());
-}
-
-/// Returns a number as the first field of a row. No program has so many of anything that it is cut off.
-fn row_number(number: usize) -> u32 {
-    number.min(u32::MAX as usize) as u32
+    let number = number.min(u32::MAX as usize) as u32;
+    sheet.add(Row::new(number, robot, event).as_slice());
 }

@@ -6,8 +6,8 @@ use crate::targets::Target;
 /// What is reported of the robots of an order, and of the first match that it asks for.
 #[derive(Clone, Copy)]
 pub enum Subject<'a> {
-    /// Its film, of a stretch or of all of it.
-    Film(Option<Stretch>),
+    /// Its film, of a stretch or of all of it, without the given number of its first rows.
+    Film(Option<Stretch>, u32),
     /// Where a robot is after a cycle.
     Moment(&'a Target),
     /// The first or the last cycle after which a robot is at one of some instructions.
