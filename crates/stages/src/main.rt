@@ -18,7 +18,6 @@ mod flow_rows;
 mod forms;
 mod items;
 mod labels;
-mod laws;
 mod lookaheads;
 mod looks;
 mod markup;
