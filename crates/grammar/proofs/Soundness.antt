@@ -12,7 +12,7 @@ use Rattle.grammar.specs.declared.resolved_names.Callee.{Callee}
 use Rattle.grammar.specs.declared.resolved_names.Intrinsic.{Intrinsic}
 use Rattle.grammar.specs.Derivation.{PartialTree, AnExpr, AVariable, ACall, ABody, Definition, last_body, trees_after}
 use Rattle.grammar.specs.Faults.{Fault, fault, no_room, role_faults}
-use Rattle.grammar.specs.Grammar.{SemanticAction, Operate, Negate, Not, Complement, Fetch, Store, PrefixIncrement, PostfixIncrement, AddArgument, Invoke, Empty, Evaluate, Decide, DecideElse, Repeat, Zero, GiveBack, Define, Role, Defined, External, Parameter, Typed, Local, Called, Mentioned}
+use Rattle.grammar.specs.Grammar.{SemanticAction, Operate, Negate, Not, Complement, Fetch, Store, PrefixIncrement, PostfixIncrement, AddArgument, Invoke, Empty, Evaluate, Decide, DecideElse, Repeat, RepeatDo, Zero, GiveBack, Define, Role, Defined, External, Parameter, Typed, Local, Called, Mentioned}
 use Rattle.grammar.specs.Intrinsics.{intrinsic_named, is_intrinsic}
 use Rattle.grammar.specs.Pools.{FunctionNames}
 use Rattle.grammar.specs.Resolved.{IsVariable, IsCallable, InExpr, InArgs, InBody, FitsFile, IsAmong, AreDistinct}
@@ -93,6 +93,8 @@ made_in e l n Decide (ABody s ∷ AnExpr c ∷ ABody b ∷ values) h = (join_in 
 made_in e l n DecideElse (ABody t ∷ ABody s ∷ AnExpr c ∷ ABody b ∷ values) h =
     (join_in e l n b _ h.1.1.1.0 (h.1.1.0, h.1.0, h.0, tt), h.1.1.1.1)
 made_in e l n Repeat (ABody s ∷ AnExpr c ∷ ABody b ∷ values) h = (join_in e l n b _ h.1.1.0 (h.1.0, h.0, tt), h.1.1.1)
+made_in e l n RepeatDo (AnExpr c ∷ ABody s ∷ ABody b ∷ values) h =
+    (join_in e l n b _ h.1.1.0 (h.0, h.1.0, tt), h.1.1.1)
 made_in e l n Zero values h = (tt, h)
 made_in e l n GiveBack (AnExpr x ∷ ABody b ∷ values) h = (join_in e l n b _ h.1.0 (h.0, tt), h.1.1)
 made_in e l n Define values h = tt

@@ -11,7 +11,7 @@ use Rattle.grammar.specs.Tree as tree
 use Rattle.grammar.specs.Tree.{Expr, Args, Body, add_argument, join, Function}
 use Rattle.grammar.specs.Grammar.{Source, Role, Called, Mentioned, Item, Exactly, AKeyword, AName, AConstant, AnEnd, Part}
 use Rattle.grammar.specs.Grammar.{Make, Close, SemanticAction, Operate, Negate, Not, Complement, Fetch, Store}
-use Rattle.grammar.specs.Grammar.{PrefixIncrement, PostfixIncrement, AddArgument, Invoke, Empty, Evaluate, Decide, DecideElse, Repeat}
+use Rattle.grammar.specs.Grammar.{PrefixIncrement, PostfixIncrement, AddArgument, Invoke, Empty, Evaluate, Decide, DecideElse, Repeat, RepeatDo}
 use Rattle.grammar.specs.Grammar.{Zero, GiveBack, Define, Production, choice, is_lexical_error, is_punctuator, is_keyword}
 use Rattle.grammar.specs.Pools.{FunctionNames}
 use Rattle.grammar.specs.Scope.{Scope, no_names, scope_after_name, end_definition, variable_of, callee_of}
@@ -81,6 +81,7 @@ trees_after Decide (ABody s ∷ AnExpr c ∷ ABody b ∷ values) = ABody (join b
 trees_after DecideElse (ABody t ∷ ABody s ∷ AnExpr c ∷ ABody b ∷ values) = ABody
     (join b (tree.IfElseStatement c s t tree.Done)) ∷ values
 trees_after Repeat (ABody s ∷ AnExpr c ∷ ABody b ∷ values) = ABody (join b (tree.While c s tree.Done)) ∷ values
+trees_after RepeatDo (AnExpr c ∷ ABody s ∷ ABody b ∷ values) = ABody (join b (tree.While c s tree.Done)) ∷ values
 trees_after Zero values = AnExpr (tree.Constant (pos 0)) ∷ values
 trees_after GiveBack (AnExpr e ∷ ABody b ∷ values) = ABody (join b (tree.Return e tree.Done)) ∷ values
 trees_after Define values = []

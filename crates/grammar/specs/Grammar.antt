@@ -72,6 +72,7 @@ pub data SemanticAction : Type 0 where
   Decide : SemanticAction  -- `if`
   DecideElse : SemanticAction  -- `if` with its `else`
   Repeat : SemanticAction  -- `while`
+  RepeatDo : SemanticAction  -- `do`
   Zero : SemanticAction  -- the value of `return;`
   GiveBack : SemanticAction  -- `return`
   Define : SemanticAction  -- the function, with its body
@@ -160,6 +161,9 @@ choice Statement (token.Keyword keyword.If) after =
 choice Statement (token.Keyword keyword.While) after =
     Some (AKeyword keyword.While ∷ Exactly punctuator.OpenRound ∷ Part Expression ∷ Exactly punctuator.CloseRound
     ∷ Make Empty ∷ Part Statement ∷ Make Repeat ∷ Close ∷ [])
+choice Statement (token.Keyword keyword.Do) after =
+    Some (AKeyword keyword.Do ∷ Make Empty ∷ Part Statement ∷ AKeyword keyword.While ∷ Exactly punctuator.OpenRound
+    ∷ Part Expression ∷ Exactly punctuator.CloseRound ∷ Exactly punctuator.Semicolon ∷ Make RepeatDo ∷ Close ∷ [])
 choice Statement (token.Keyword keyword.Return) after =
     Some (AKeyword keyword.Return ∷ Part Back ∷ Exactly punctuator.Semicolon ∷ Make GiveBack ∷ [])
 choice Statement next after = Some (Part Expression ∷ Exactly punctuator.Semicolon ∷ Make Evaluate ∷ [])
@@ -210,6 +214,7 @@ enters FunctionBlock (token.Punctuator punctuator.OpenCurly) after = true
 enters Block (token.Punctuator punctuator.OpenCurly) after = true
 enters Statement (token.Keyword keyword.If) after = true
 enters Statement (token.Keyword keyword.While) after = true
+enters Statement (token.Keyword keyword.Do) after = true
 enters Expression (token.Name name) (token.Punctuator m) = is_some (store_of m)
 enters Unary (token.Punctuator punctuator.Minus) after = true
 enters Unary (token.Punctuator punctuator.Not) after = true

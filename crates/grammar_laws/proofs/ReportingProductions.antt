@@ -287,6 +287,7 @@ statement_reports A (token.Keyword keyword.If) after stack values scope n k ds a
     decides A stack values n k ds acts (λ a. nested a refl) h
 statement_reports A (token.Keyword keyword.While) after stack values scope n k ds acts nested h =
     repeats A stack values n k ds acts (λ a. nested a refl) h
+statement_reports A (token.Keyword keyword.Do) after stack values scope n k ds acts nested h = ?
 statement_reports A (token.Keyword keyword.Return) after stack values scope n k ds acts nested h =
     gives_back A stack values n k ds acts h
 statement_reports A next after stack values scope n k ds acts nested h = evaluates A stack values n k ds acts h

@@ -131,6 +131,7 @@ silent : (symbol : Symbol) (next after : Token) (scope : Scope) → choice symbo
 silent FunctionBlock (token.Punctuator punctuator.OpenCurly) after scope e = absurd (cc)
 silent FunctionBlock next after scope e = refl
 silent Statement (token.Keyword keyword.While) after scope e = absurd (cc)
+silent Statement (token.Keyword keyword.Do) after scope e = absurd (cc)
 silent Statement next after scope e = refl
 silent (Tail n) (token.Punctuator p) after scope e = absurd (cc)
 silent (Tail n) next after scope e = refl

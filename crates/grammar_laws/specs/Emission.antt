@@ -16,7 +16,7 @@ use Rattle.grammar.specs.Derivation.{PartialTree, AnExpr, AVariable, ACall, Stat
 use Rattle.grammar.specs.Derivation.{stepped}
 use Rattle.grammar.specs.Grammar.{Role, Called, Symbol, FunctionBlock, Statement, ElsePart, Tail, Unary, is_lexical_error}
 use Rattle.grammar.specs.Grammar.{SemanticAction, Operate, Negate, Not, Complement, Fetch, Store, PrefixIncrement}
-use Rattle.grammar.specs.Grammar.{PostfixIncrement, Invoke, Empty, Evaluate, Decide, DecideElse, Repeat, Zero, GiveBack}
+use Rattle.grammar.specs.Grammar.{PostfixIncrement, Invoke, Empty, Evaluate, Decide, DecideElse, Repeat, RepeatDo, Zero, GiveBack}
 use Rattle.grammar.specs.Grammar.{Define, Item, AName, AConstant, Part, Make}
 use Rattle.grammar.specs.Operators.{operator_at}
 use Rattle.grammar.specs.Scope.{Scope}
@@ -36,6 +36,7 @@ abbrev pub on_choice : Symbol → Token → Scope → List Action
 on_choice FunctionBlock (token.Punctuator punctuator.OpenCurly) scope = BeginFunction scope.number
     scope.current.parameters ∷ []
 on_choice Statement (token.Keyword keyword.While) scope = BeginWhile ∷ []
+on_choice Statement (token.Keyword keyword.Do) scope = BeginWhile ∷ []
 on_choice (Tail n) next scope = on_operator (operator_at n next)
 on_choice Unary (token.Punctuator punctuator.Minus) scope = PushConstant (pos 0) ∷ []
 on_choice symbol next scope = []
@@ -74,6 +75,7 @@ on_rule Evaluate stack values variables = Chop ∷ []
 on_rule Decide stack values variables = EndIf ∷ []
 on_rule DecideElse stack values variables = EndIf ∷ []
 on_rule Repeat stack values variables = EndWhile ∷ []
+on_rule RepeatDo stack values variables = EndWhile ∷ []
 on_rule Zero stack values variables = PushConstant (pos 0) ∷ []
 on_rule GiveBack stack values variables = action.GiveBack ∷ []
 on_rule Define stack values variables = PushConstant (pos 0) ∷ action.GiveBack ∷ EndFunction variables ∷ []

@@ -109,6 +109,8 @@ few_frames n (frame.While ∷ frames) small t = omega (arith, t.0, few_frames 0 
 few_frames n (frame.Then ∷ frames) small t = omega (arith, t.0, few_frames 0 frames (omega arith) t.1)
 few_frames n (frame.Else ∷ frames) small t = omega (arith, t.0, few_frames 0 frames (omega arith) t.1)
 few_frames n (frame.Loop ∷ frames) small t = omega (arith, t.0, few_frames 0 frames (omega arith) t.1)
+few_frames n (frame.Do ∷ frames) small t = omega (arith, t.0, few_frames 0 frames (omega arith) t.1)
+few_frames n (frame.DoTest ∷ frames) small t = omega (arith, t.0, few_frames 0 frames (omega arith) t.1)
 few_frames n (frame.Block ∷ frames) small t = omega (arith, t.0, few_frames 0 frames (omega arith) t.1)
 few_frames n (frame.Function ∷ frames) small t = rw t.1 (omega (arith, t.0))
 

@@ -22,6 +22,7 @@ evaluates (token.Punctuator punctuator.OpenCurly) plain = absurd (cc)
 evaluates (token.Punctuator m) plain = record { chosen = λ after. refl; shallow = λ after. refl }
 evaluates (token.Keyword keyword.If) plain = absurd (cc)
 evaluates (token.Keyword keyword.While) plain = absurd (cc)
+evaluates (token.Keyword keyword.Do) plain = absurd (cc)
 evaluates (token.Keyword keyword.Return) plain = absurd (cc)
 evaluates t plain = record { chosen = λ after. refl; shallow = λ after. refl }
 

@@ -69,6 +69,7 @@ module _ {o : Origin} {stack : List Item} {values : List PartialTree} {acts : Li
       emits : (t : Token) (scope : Scope) → begins_statement t ≡ false → on_choice Statement t scope ≡ []
       emits (token.Punctuator m) scope plain = refl
       emits (token.Keyword keyword.While) scope plain = absurd (cc)
+      emits (token.Keyword keyword.Do) scope plain = absurd (cc)
       emits t scope plain = refl
 
   pub block_path : is_punctuator punctuator.OpenCurly (token_of at) ≡ true →

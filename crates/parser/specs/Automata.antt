@@ -3,6 +3,7 @@ use Rattle.std.specs.Prelude.{ℕ, zero, suc, ◌+◌, ◌-◌, ◌*◌, ◌≡�
 use Rattle.tokens.specs.declared.located_tokens.Token.{Token}
 use Rattle.tokens.specs.declared.located_tokens.Token.TheVariants as token
 use Rattle.tokens.specs.declared.located_tokens.Punctuator.TheVariants as punctuator
+use Rattle.tokens.specs.declared.located_tokens.Keyword.TheVariants as keyword
 use Rattle.grammar.specs.declared.actions.Action.{Action}
 use Rattle.grammar.specs.declared.diagnostics.Code.TheVariants as fault_code
 use Rattle.grammar.specs.declared.diagnostics.ParseFault.{ParseFault}
@@ -15,8 +16,8 @@ use Rattle.grammar.specs.Building.{Representation}
 use Rattle.grammar.specs.Compiled.{diagnostic}
 use Rattle.grammar.specs.Derivation.{PartialTree, AnExpr, AVariable, ACall}
 use Rattle.grammar.specs.Faults.{nested_count}
-use Rattle.grammar.specs.Grammar.{Item, AnEnd, Exactly, Part, Make, Close, Source, Head, Statement, Statements, ElsePart, Expression, Unary, Tail, MoreArguments, definition_items}
-use Rattle.grammar.specs.Grammar.{Operate, Store, AddArgument, Invoke, Evaluate, GiveBack, Empty, DecideElse, Repeat, Define}
+use Rattle.grammar.specs.Grammar.{Item, AKeyword, AnEnd, Exactly, Part, Make, Close, Source, Head, Statement, Statements, ElsePart, Expression, Unary, Tail, MoreArguments, definition_items}
+use Rattle.grammar.specs.Grammar.{Operate, Store, AddArgument, Invoke, Evaluate, GiveBack, Empty, DecideElse, Repeat, RepeatDo, Define}
 use Rattle.grammar.specs.Laws.Climbing.{operator_from}
 use Rattle.parser.specs.declared.automaton.Automaton.{Automaton}
 use Rattle.parser.specs.declared.frames.Frame.{Frame}
@@ -59,6 +60,11 @@ frame_items frame.Else = Make DecideElse ∷ Close ∷ []
 frame_items frame.While =
     Exactly punctuator.CloseRound ∷ Make Empty ∷ Part Statement ∷ Make Repeat ∷ Close ∷ []
 frame_items frame.Loop = Make Repeat ∷ Close ∷ []
+frame_items frame.Do =
+    AKeyword keyword.While ∷ Exactly punctuator.OpenRound ∷ Part Expression ∷ Exactly punctuator.CloseRound
+    ∷ Exactly punctuator.Semicolon ∷ Make RepeatDo ∷ Close ∷ []
+frame_items frame.DoTest =
+    Exactly punctuator.CloseRound ∷ Exactly punctuator.Semicolon ∷ Make RepeatDo ∷ Close ∷ []
 frame_items frame.Block = Part Statements ∷ Exactly punctuator.CloseCurly ∷ Close ∷ []
 frame_items frame.Function =
     Part Statements ∷ Make Define ∷ Exactly punctuator.CloseCurly ∷ Close ∷ Part Source ∷ []
@@ -98,6 +104,8 @@ Takes n (frame.While ∷ frames) = (n ≡ 1) × Takes 0 frames
 Takes n (frame.Then ∷ frames) = (n ≡ 0) × Takes 0 frames
 Takes n (frame.Else ∷ frames) = (n ≡ 0) × Takes 0 frames
 Takes n (frame.Loop ∷ frames) = (n ≡ 0) × Takes 0 frames
+Takes n (frame.Do ∷ frames) = (n ≡ 0) × Takes 0 frames
+Takes n (frame.DoTest ∷ frames) = (n ≡ 1) × Takes 0 frames
 Takes n (frame.Block ∷ frames) = (n ≡ 0) × Takes 0 frames
 Takes n (frame.Function ∷ frames) = (n ≡ 0) × (frames ≡ [])
 

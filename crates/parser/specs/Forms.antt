@@ -6,12 +6,13 @@ use Rattle.tokens.specs.declared.located_tokens.Token.TheVariants as token
 use Rattle.tokens.specs.declared.located_tokens.Keyword.TheVariants as keyword
 use Rattle.parser.specs.ScopedCursors.{ScopedCursor, token_of}
 
--- ; { if while return: any other token begins an expression statement
+-- ; { if while do return: any other token begins an expression statement
 abbrev pub begins_statement : Token → Bool
 begins_statement (token.Punctuator punctuator.Semicolon) = true
 begins_statement (token.Punctuator punctuator.OpenCurly) = true
 begins_statement (token.Keyword keyword.If) = true
 begins_statement (token.Keyword keyword.While) = true
+begins_statement (token.Keyword keyword.Do) = true
 begins_statement (token.Keyword keyword.Return) = true
 begins_statement next = false
 

@@ -8,7 +8,7 @@ use Rattle.grammar.specs.declared.actions.Action.TheVariants as action
 use Rattle.grammar.specs.Derivation.{PartialTree}
 use Rattle.grammar.specs.Faults.{nested_count}
 use Rattle.grammar.specs.Grammar.{Item, AKeyword, Exactly, Part, Make, Close, Statement, Expression, SemanticAction, choice, enters}
-use Rattle.grammar.specs.Grammar.{Evaluate, GiveBack, Empty, DecideElse, Repeat}
+use Rattle.grammar.specs.Grammar.{Evaluate, GiveBack, Empty, DecideElse, Repeat, RepeatDo}
 use Rattle.grammar.specs.Scope.{Scope}
 use Rattle.grammar_laws.specs.Emission.{on_body, on_choice, on_rule}
 use Rattle.parser.specs.declared.frames.Frame.{Frame}
@@ -32,6 +32,7 @@ terminal_items (Some (terminal.Keyword w)) = AKeyword w ∷ []
 abbrev pub rule_of : Frame → SemanticAction
 rule_of frame.Else = DecideElse
 rule_of frame.Loop = Repeat
+rule_of frame.DoTest = RepeatDo
 rule_of frame.Return = GiveBack
 rule_of frame.Evaluate = Evaluate
 rule_of f = Empty

@@ -93,6 +93,8 @@ impl<F: Feed, B: Build> Automaton<'_, '_, '_, F, B> {
             Frame::Else => self.end_if(),
             Frame::While => self.while_test(),
             Frame::Loop => self.end_while(),
+            Frame::Do => self.do_test(),
+            Frame::DoTest => self.end_do(),
             Frame::Block => self.block(),
             Frame::Function => self.function(),
             Frame::Return => self.end_return(),

@@ -66,6 +66,10 @@ pub enum Frame {
     While,
     /// `stmt → while ( expr ) stmt •`
     Loop,
+    /// `stmt → do stmt • while ( expr ) ;`
+    Do,
+    /// `stmt → do stmt while ( expr • ) ;`
+    DoTest,
     /// `block → { decls • stmts }`, within a function
     Block,
     /// `block → { decls • stmts }`, of a function, and `source`

@@ -23,8 +23,12 @@ const CLOSE_ROUND: Option<Terminal> = Some(Terminal::Punctuator(Punctuator::Clos
 /// `;`
 const SEMICOLON: Option<Terminal> = Some(Terminal::Punctuator(Punctuator::Semicolon));
 
+/// `while`
+const WHILE: Option<Terminal> = Some(Terminal::Keyword(Keyword::While));
+
 impl<F: Feed, B: Build> Automaton<'_, '_, '_, F, B> {
-    /// `stmt → • ;`, `• block`, `• if ( expr ) stmt elsepart`, `• while ( expr ) stmt`, `• return back ;` and `• expr ;`
+    /// `stmt → • ;`, `• block`, `• if ( expr ) stmt elsepart`, `• while ( expr ) stmt`, `• do stmt while ( expr ) ;`,
+    /// `• return back ;` and `• expr ;`
     pub fn statement(&mut self) -> Result<Front, ParseFault>
         requires at { IsAt B.stands Front.Statement self.old }
         ensures moves { Moves result B.denied B.stands Front.Statement self.old self.new }
@@ -36,6 +40,7 @@ impl<F: Feed, B: Build> Automaton<'_, '_, '_, F, B> {
             Token::Punctuator(Punctuator::OpenCurly) => self.begin_block(),
             Token::Keyword(Keyword::If) => self.if_statement(),
             Token::Keyword(Keyword::While) => self.while_statement(),
+            Token::Keyword(Keyword::Do) => self.do_statement(),
             Token::Keyword(Keyword::Return) => self.return_statement(),
             _ => self.evaluation(),
         }
@@ -167,6 +172,56 @@ impl<F: Feed, B: Build> Automaton<'_, '_, '_, F, B> {
         ensures builder { KeepsBuilder self.old self.new }
     {
         self.go_on(Frame::Loop, None, None, Some(Action::EndWhile), Next::Close)
+    }
+
+    // stmt → do stmt while ( expr ) ;
+
+    /// `stmt → • do stmt while ( expr ) ;`
+    fn do_statement(&mut self) -> Result<Front, ParseFault>
+        requires at { IsAt B.stands Front.Statement self.old }
+        requires starts { IsNextKeyword keyword.Do self.old.tokens }
+        ensures moves { Moves result B.denied B.stands Front.Statement self.old self.new }
+        ensures falls { Falls result Front.Statement self.old self.new }
+        ensures builder { KeepsBuilder self.old self.new }
+    {
+        self.begin(
+            Keyword::Do,
+            Some(Action::BeginWhile),
+            None,
+            Next::Statement(Frame::Do),
+        )
+    }
+
+    /// `stmt → do stmt • while ( expr ) ;`
+    pub fn do_test(&mut self) -> Result<Front, ParseFault>
+        requires at { IsAt B.stands Front.Enclosing (with_frame Frame.Do self.old) }
+        ensures moves { Moves result B.denied B.stands Front.Enclosing (with_frame Frame.Do self.old) self.new }
+        ensures falls { Falls result Front.Enclosing (with_frame Frame.Do self.old) self.new }
+        ensures builder { KeepsBuilder self.old self.new }
+    {
+        self.go_on(
+            Frame::Do,
+            WHILE,
+            OPEN_ROUND,
+            None,
+            Next::Expression(Frame::DoTest),
+        )
+    }
+
+    /// `stmt → do stmt while ( expr • ) ;`
+    pub fn end_do(&mut self) -> Result<Front, ParseFault>
+        requires at { IsAt B.stands Front.Enclosing (with_frame Frame.DoTest self.old) }
+        ensures moves { Moves result B.denied B.stands Front.Enclosing (with_frame Frame.DoTest self.old) self.new }
+        ensures falls { Falls result Front.Enclosing (with_frame Frame.DoTest self.old) self.new }
+        ensures builder { KeepsBuilder self.old self.new }
+    {
+        self.go_on(
+            Frame::DoTest,
+            CLOSE_ROUND,
+            SEMICOLON,
+            Some(Action::EndWhile),
+            Next::Close,
+        )
     }
 
     // stmt → return back ;

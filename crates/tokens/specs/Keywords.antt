@@ -14,7 +14,7 @@ type_words = codes "int" ∷ codes "long" ∷ codes "auto" ∷ codes "register" 
 -- reserved, with no use
 abbrev pub refused_words : List (List ℕ)
 refused_words =
-    codes "for" ∷ codes "do" ∷ codes "break" ∷ codes "continue" ∷ codes "switch" ∷ codes "case" ∷ codes "default"
+    codes "for" ∷ codes "break" ∷ codes "continue" ∷ codes "switch" ∷ codes "case" ∷ codes "default"
     ∷ codes "goto"
     ∷ codes "struct" ∷ codes "union" ∷ codes "typedef" ∷ codes "char" ∷ codes "float" ∷ codes "double" ∷ codes "void"
     ∷ codes "sizeof"
@@ -25,7 +25,8 @@ keyword_of name =
     if bytes_eq name (codes "if") then Some keyword.If
     else (if bytes_eq name (codes "else") then Some keyword.Else
     else (if bytes_eq name (codes "while") then Some keyword.While
+    else (if bytes_eq name (codes "do") then Some keyword.Do
     else (if bytes_eq name (codes "return") then Some keyword.Return
     else (if is_one_of type_words name then Some keyword.Type
     else (if is_one_of refused_words name then Some keyword.Refused
-    else None)))))
+    else None))))))

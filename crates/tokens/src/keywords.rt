@@ -27,9 +27,9 @@ impl Keyword {
             b'c' => Keyword::Refused.when(
                 spells(name, b"case") || spells(name, b"char") || spells(name, b"continue"),
             ),
-            b'd' => Keyword::Refused.when(
-                spells(name, b"do") || spells(name, b"double") || spells(name, b"default"),
-            ),
+            b'd' => Keyword::Do
+                .when(spells(name, b"do"))
+                .or(Keyword::Refused.when(spells(name, b"double") || spells(name, b"default"))),
             b'e' => Keyword::Else
                 .when(spells(name, b"else"))
                 .or(Keyword::Refused.when(spells(name, b"extern"))),

@@ -97,6 +97,8 @@ pub enum Keyword {
     Else,
     /// `while`
     While,
+    /// `do`
+    Do,
     /// `return`
     Return,
     /// `int`, `long`, `auto` or `register`
