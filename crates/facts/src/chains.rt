@@ -1,5 +1,7 @@
 //! The functions that call one another where a robot needs most.
 
+ghost use Rattle.std.specs.Prelude.{◌≡◌};
+
 use grammar::Name;
 
 /// A function that calls the next one.
@@ -23,7 +25,10 @@ pub struct Chain {
 
 impl Chain {
     /// Makes a chain of functions, of which the last one calls the one after a given number of them, if it calls one.
-    pub fn new(links: Vec<Link>, again: Option<usize>) -> Chain {
+    pub fn new(links: Vec<Link>, again: Option<usize>) -> Chain
+        ensures links { result.links ≡ links }
+        ensures again { result.again ≡ again }
+    {
         Chain { links, again }
     }
 

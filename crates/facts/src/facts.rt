@@ -1,9 +1,10 @@
 //! What is known of a robot: the room that it needs at most, and what its functions and the turns of its loops take.
 
-ghost use Rattle.std.specs.Prelude.{◌≡◌, ◌++◌, ◌<◌, ◌∷◌, [], IfErr, IfOk, Ok, Some, length, map};
-ghost use Rattle.room.specs.Bounds.{IsRefusedSource};
+ghost use Rattle.std.specs.Prelude.{◌≡◌, ◌≢◌, ◌++◌, ◌<◌, ◌∷◌, [], ℕ, IfErr, IfOk, IfSome, None, Ok, Some, length, map, slice_get};
+ghost use Rattle.grammar.specs.Resolved.{IsAmong};
+ghost use Rattle.room.specs.Bounds.{IsChainOf, IsRefusedSource};
 ghost use Rattle.cycles.specs.Files.{AreSpansOf};
-ghost use Rattle.facts.specs.Facts.{AreFactsOf, AreNamesOf, HasParts, cycles_of, cycles_of_run, cycles_of_turn, cycles_told, name_at};
+ghost use Rattle.facts.specs.Facts.{AreFactsOf, AreNamesOf, HasChain, HasParts, cycles_of, cycles_of_run, cycles_of_turn, cycles_told, name_at, questions_of_run, questions_of_turn, questions_told};
 
 use crate::chains::{Chain, Link};
 use crate::places::Places;
@@ -60,7 +61,9 @@ impl Part {
     /// Returns it with its questions of one kind.
     fn noted(self, kind: usize, questions: Option<Span>) -> Part
         requires { kind < KINDS }
-        ensures { cycles_told result ≡ cycles_told self }
+        ensures cycles { cycles_told result ≡ cycles_told self }
+        ensures noted { questions_told kind result ≡ Some questions }
+        ensures others { (other : ℕ) → other ≢ kind → questions_told other result ≡ questions_told other self }
     {
         let mut part = self;
         part.questions[kind] = questions;
@@ -203,13 +206,16 @@ impl Finder<'_> {
     }
 
     /// Lists the functions of these numbers, of which the last may stand there twice.
-    fn chain(&self, numbers: &[u8]) -> Result<Chain, AllocError> {
+    #[tactic(auto, using(crate::proofs::ChainLaws::ends_again, crate::proofs::ChainLaws::ends_alone, crate::proofs::ChainLaws::linked_more, crate::proofs::ChainLaws::once_more))]
+    fn chain(&self, numbers: &[u8]) -> Result<Chain, AllocError>
+        ensures { AreNamesOf self.now.profile self.now.source.now self.now.names.now
+            → IsChainOf self.now.profile (Some self.now.source.now) numbers.now
+            → IfOk result (HasChain self.now.profile self.now.source.now) }
+    {
         let mut links = Vec::new(self.alloc);
         for (index, number) in numbers.iter().enumerate() {
-            for (before, other) in numbers.iter().enumerate() {
-                if before < index && other == number {
-                    return Ok(Chain::new(links, Some(before)));
-                }
+            if let Some(before) = place_of(*number, &numbers[..index]) {
+                return Ok(Chain::new(links, Some(before)));
             }
             links.push(self.link(*number))?;
         }
@@ -217,7 +223,9 @@ impl Finder<'_> {
     }
 
     /// Makes a link of the function of this number.
-    fn link(&self, number: u8) -> Link {
+    fn link(&self, number: u8) -> Link
+        ensures { result.name ≡ name_at self.now.names.now number }
+    {
         let mut link = Link {
             name: self.name(number),
             line: 0,
@@ -244,10 +252,28 @@ impl Finder<'_> {
     }
 }
 
+/// Finds the first place of a number among some; none if it isn't there.
+#[tactic(auto, using(crate::proofs::ChainLaws::among_more))]
+fn place_of(number: u8, among: &[u8]) -> Option<usize>
+    ensures place { IfSome result (λ place. slice_get among.now place ≡ Some number) }
+    ensures none { result ≡ None → IsAmong number among.now → ⊥ }
+{
+    for (place, other) in among.iter().enumerate() {
+        if *other == number {
+            return Some(place);
+        }
+    }
+    None
+}
+
 /// Notes the questions of one kind that functions ask.
 fn note_runs(parts: &mut [Part], kind: usize, runs: &[Run])
     requires { kind < KINDS }
-    ensures { map cycles_told parts.new ≡ map cycles_told parts.old }
+    ensures cycles { map cycles_told parts.new ≡ map cycles_told parts.old }
+    ensures noted { length parts.old ≡ length runs.now
+        → map (questions_told kind) parts.new ≡ map questions_of_run runs.now }
+    ensures others { (other : ℕ) → other ≢ kind
+        → map (questions_told other) parts.new ≡ map (questions_told other) parts.old }
 {
     for index in 0..parts.len() {
         if let Some(run) = runs.get(index) {
@@ -259,7 +285,11 @@ fn note_runs(parts: &mut [Part], kind: usize, runs: &[Run])
 /// Notes the questions of one kind that the turns of loops ask.
 fn note_turns(parts: &mut [Part], kind: usize, turns: &[Turn])
     requires { kind < KINDS }
-    ensures { map cycles_told parts.new ≡ map cycles_told parts.old }
+    ensures cycles { map cycles_told parts.new ≡ map cycles_told parts.old }
+    ensures noted { length parts.old ≡ length turns.now
+        → map (questions_told kind) parts.new ≡ map questions_of_turn turns.now }
+    ensures others { (other : ℕ) → other ≢ kind
+        → map (questions_told other) parts.new ≡ map (questions_told other) parts.old }
 {
     for index in 0..parts.len() {
         if let Some(turn) = turns.get(index) {
