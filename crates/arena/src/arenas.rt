@@ -152,6 +152,12 @@ impl Arena {
         if !self.missiles.may_fire(robot) {
             return 0;
         }
+        self.fire(robot, degree, range)
+    }
+
+    /// Fires.
+    #[inline(never)]
+    fn fire(&mut self, robot: usize, degree: i32, range: i32) -> i32 {
         let range = clamped_argument(range, MOST_RANGE);
         let from = self.robot(robot).place();
         let missile = Missile::new(self.updates, from, norm_degree(degree), range);

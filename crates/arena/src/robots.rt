@@ -25,6 +25,7 @@ use std::marker::Model;
 pub struct Robot {
     motion: Motion,
     damage: u8,
+    fill: u32,
 }
 
 impl Model for Robot {
@@ -56,6 +57,7 @@ impl Robot {
         Robot {
             motion: Motion::at_rest(place),
             damage: 0,
+            fill: 0,
         }
     }
 
@@ -208,7 +210,7 @@ impl Robot {
         requires { damage ≤ DEADLY }
         ensures { result ≡ record { motion = motion; damage = damage } }
     {
-        Robot { motion, damage }
+        Robot { motion, damage, fill: 0 }
     }
 
     /// Returns the place.

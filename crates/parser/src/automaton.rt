@@ -5,7 +5,8 @@ ghost use Rattle.parser.specs.Automata.{Falls, HasMore, IsAt, IsTooDeep, KeepsBu
 
 use crate::frames::{Frame, Frames, Front};
 use crate::scoped_cursor::ScopedCursor;
-use grammar::{Build, Code, MOST_NESTED, ParseFault};
+use crate::scoped_cursor::Stop;
+use grammar::{Build, Code, MOST_NESTED};
 use tokens::Feed;
 
 /// Reads a file by its grammar: what is in front is derived next, and the frames are what is still to derive behind it.
@@ -25,7 +26,7 @@ pub struct Automaton<'s, 'a, 'b, F: Feed, B: Build> {
 
 impl<F: Feed, B: Build> Automaton<'_, '_, '_, F, B> {
     /// Derives the file: each step moves the dot of a production, and reports what that emits.
-    pub fn run(&mut self) -> Result<(), ParseFault>
+    pub fn run(&mut self) -> Result<(), Stop>
         requires at { IsAt B.stands Front.Source self.old }
         ensures runs { Runs result B.denied B.stands self.old self.new }
         ensures builder { KeepsBuilder self.old self.new }
@@ -44,7 +45,7 @@ impl<F: Feed, B: Build> Automaton<'_, '_, '_, F, B> {
     /// What is called at one place has no hint of inlining: it is inlined anyway, and the compiler takes no notice of the hint
     /// at a function that would grow very large.
     #[inline(always)]
-    fn step(&mut self, front: Front) -> Result<Front, ParseFault>
+    fn step(&mut self, front: Front) -> Result<Front, Stop>
         requires at { IsAt B.stands front self.old }
         requires more { HasMore front }
         ensures moves { Moves result B.denied B.stands front self.old self.new }
@@ -67,7 +68,7 @@ impl<F: Feed, B: Build> Automaton<'_, '_, '_, F, B> {
 
     /// Goes on behind the dot of the frame on top.
     #[inline(always)]
-    pub fn enclosing(&mut self) -> Result<Front, ParseFault>
+    pub fn enclosing(&mut self) -> Result<Front, Stop>
         requires at { IsAt B.stands Front.Enclosing self.old }
         ensures moves { Moves result B.denied B.stands Front.Enclosing self.old self.new }
         ensures falls { Falls result Front.Enclosing self.old self.new }
@@ -81,7 +82,7 @@ impl<F: Feed, B: Build> Automaton<'_, '_, '_, F, B> {
 
     /// Goes on in the production of a frame, whose inner part was derived.
     #[inline(always)]
-    fn behind(&mut self, frame: Frame) -> Result<Front, ParseFault>
+    fn behind(&mut self, frame: Frame) -> Result<Front, Stop>
         requires at { IsAt B.stands Front.Enclosing (with_frame frame self.old) }
         ensures moves { Moves result B.denied B.stands Front.Enclosing (with_frame frame self.old) self.new }
         ensures falls { Falls result Front.Enclosing (with_frame frame self.old) self.new }
@@ -107,7 +108,7 @@ impl<F: Feed, B: Build> Automaton<'_, '_, '_, F, B> {
 
     /// Refuses the next token if the most constructs are open: it would open one more.
     #[inline(always)]
-    pub fn check_nesting(&self) -> Result<(), ParseFault>
+    pub fn check_nesting(&mut self) -> Result<(), Stop>
         ensures ok { OnOk result (self.now.depth < MOST_NESTED) }
         ensures refused { IfErr result (λ fault. IsTooDeep self.now fault) }
     {

@@ -9,8 +9,9 @@ ghost use Rattle.parser.specs.Starts.{StartsAssignment, StartsNoAssignment};
 use crate::automaton::Automaton;
 use crate::frames::{Frame, Front};
 use crate::scoped_cursor::ScopedCursor;
+use crate::scoped_cursor::Stop;
 use grammar::{
-    Action, Build, BuildFault, Op, ParseFault, StoreOp, Var, operator_from, store_operator,
+    Action, Build, BuildFault, Op, StoreOp, Var, operator_from, store_operator,
 };
 use tokens::{Feed, Token};
 
@@ -19,7 +20,7 @@ impl<F: Feed, B: Build> Automaton<'_, '_, '_, F, B> {
 
     /// `expr → • name asg expr` and `expr → • level1`
     #[inline(always)]
-    pub fn expression(&mut self) -> Result<Front, ParseFault>
+    pub fn expression(&mut self) -> Result<Front, Stop>
         requires at { IsAt B.stands Front.Expression self.old }
         ensures moves { Moves result B.denied B.stands Front.Expression self.old self.new }
         ensures falls { Falls result Front.Expression self.old self.new }
@@ -32,7 +33,7 @@ impl<F: Feed, B: Build> Automaton<'_, '_, '_, F, B> {
     }
 
     /// `expr → • name asg expr`
-    fn assignment(&mut self, op: StoreOp) -> Result<Front, ParseFault>
+    fn assignment(&mut self, op: StoreOp) -> Result<Front, Stop>
         requires at { IsAt B.stands Front.Expression self.old }
         requires starts { StartsAssignment op self.old.tokens }
         ensures moves { Moves result B.denied B.stands Front.Expression self.old self.new }
@@ -48,7 +49,7 @@ impl<F: Feed, B: Build> Automaton<'_, '_, '_, F, B> {
     }
 
     /// `expr → name asg expr •`
-    pub fn store(&mut self, var: Var, op: StoreOp) -> Result<Front, ParseFault>
+    pub fn store(&mut self, var: Var, op: StoreOp) -> Result<Front, Stop>
         requires at { IsAt B.stands Front.Enclosing (with_frame (Frame.Store var op) self.old) }
         ensures moves { Moves result B.denied B.stands Front.Enclosing (with_frame (Frame.Store var op) self.old) self.new }
         ensures falls { Falls result Front.Enclosing (with_frame (Frame.Store var op) self.old) self.new }
@@ -64,7 +65,7 @@ impl<F: Feed, B: Build> Automaton<'_, '_, '_, F, B> {
 
     /// `tailN → • operator level(N+1) tailN`, from the tightest level down to a floor
     #[inline(always)]
-    pub fn operators(&mut self, floor: u8) -> Result<Front, ParseFault>
+    pub fn operators(&mut self, floor: u8) -> Result<Front, Stop>
         requires at { IsAt B.stands (Front.Operators floor) self.old }
         ensures moves { Moves result B.denied B.stands (Front.Operators floor) self.old self.new }
         ensures falls { Falls result (Front.Operators floor) self.old self.new }
@@ -81,7 +82,7 @@ impl<F: Feed, B: Build> Automaton<'_, '_, '_, F, B> {
     }
 
     /// `tailN → operator level(N+1) • tailN`
-    pub fn operate(&mut self, op: Op, level: u8, floor: u8) -> Result<Front, ParseFault>
+    pub fn operate(&mut self, op: Op, level: u8, floor: u8) -> Result<Front, Stop>
         requires at { IsAt B.stands Front.Enclosing (with_frame (Frame.Operate op level floor) self.old) }
         ensures moves { Moves result B.denied B.stands Front.Enclosing (with_frame (Frame.Operate op level floor) self.old) self.new }
         ensures falls { Falls result Front.Enclosing (with_frame (Frame.Operate op level floor) self.old) self.new }

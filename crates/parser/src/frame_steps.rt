@@ -8,7 +8,8 @@ ghost use Rattle.parser.specs.FrameSteps.{BeginsNested, CanClose, IsInner, IsSte
 
 use crate::automaton::Automaton;
 use crate::frames::{Frame, Frames, Front, MOST_FRAMES, Next, Terminal};
-use grammar::{Action, Build, BuildFault, ParseFault};
+use crate::scoped_cursor::Stop;
+use grammar::{Action, Build, BuildFault};
 use tokens::{Feed, Keyword};
 
 impl<F: Feed, B: Build> Automaton<'_, '_, '_, F, B> {
@@ -21,7 +22,7 @@ impl<F: Feed, B: Build> Automaton<'_, '_, '_, F, B> {
         action: Option<Action>,
         token: Option<Terminal>,
         next: Next,
-    ) -> Result<Front, ParseFault>
+    ) -> Result<Front, Stop>
         requires at { IsAt B.stands Front.Statement self.old }
         requires starts { IsNextKeyword word self.old.tokens }
         requires begins { BeginsNested word action token next }
@@ -47,7 +48,7 @@ impl<F: Feed, B: Build> Automaton<'_, '_, '_, F, B> {
         second: Option<Terminal>,
         action: Option<Action>,
         next: Next,
-    ) -> Result<Front, ParseFault>
+    ) -> Result<Front, Stop>
         requires at { IsAt B.stands Front.Enclosing (with_frame frame self.old) }
         requires step { IsStep frame first second action next }
         ensures moves { Moves result B.denied B.stands Front.Enclosing (with_frame frame self.old) self.new }

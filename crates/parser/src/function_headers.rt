@@ -13,11 +13,12 @@ ghost use Rattle.parser.specs.Segment.{BeginsDefinition};
 use crate::name_lists::{declarations, more_names, names_to_semicolon};
 use crate::roles::Declared;
 use crate::scoped_cursor::ScopedCursor;
-use grammar::ParseFault;
+use crate::scoped_cursor::Stop;
+
 use tokens::{Feed, Punctuator, Token};
 
 /// `head → name more ;`
-pub fn external_declaration<F: Feed>(parser: &mut ScopedCursor<'_, '_, F>) -> Result<(), ParseFault>
+pub fn external_declaration<F: Feed>(parser: &mut ScopedCursor<'_, '_, F>) -> Result<(), Stop>
     requires ready { IsReady parser.old }
     ensures matches { Matches result (names_items Declared.Externals) (λ _. []) parser.old parser.new }
     ensures passes { OnOk result (Passes (names_items Declared.Externals) [] [] parser.old parser.new) }
@@ -30,7 +31,7 @@ pub fn external_declaration<F: Feed>(parser: &mut ScopedCursor<'_, '_, F>) -> Re
 /// `name ( params ) pdecls`, before a function's block
 ///
 /// Returns the function's number.
-pub fn function_header<F: Feed>(parser: &mut ScopedCursor<'_, '_, F>) -> Result<u8, ParseFault>
+pub fn function_header<F: Feed>(parser: &mut ScopedCursor<'_, '_, F>) -> Result<u8, Stop>
     requires ready { IsReady parser.old }
     ensures matches { Matches result header_items (λ _. []) parser.old parser.new }
     ensures passes { OnOk result (Passes header_items [] [] parser.old parser.new) }
@@ -47,7 +48,7 @@ pub fn function_header<F: Feed>(parser: &mut ScopedCursor<'_, '_, F>) -> Result<
 }
 
 /// `params → name more`, and empty if no name is next
-fn parameter_list<F: Feed>(parser: &mut ScopedCursor<'_, '_, F>) -> Result<(), ParseFault>
+fn parameter_list<F: Feed>(parser: &mut ScopedCursor<'_, '_, F>) -> Result<(), Stop>
     requires ready { IsReady parser.old }
     ensures matches { Matches result (Part Parameters ∷ []) (λ _. []) parser.old parser.new }
     ensures passes { OnOk result (Passes (Part Parameters ∷ []) [] [] parser.old parser.new) }

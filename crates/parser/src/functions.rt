@@ -13,14 +13,15 @@ use crate::function_headers::{external_declaration, function_header};
 use crate::name_lists::{declarations, type_words};
 use crate::roles::Declared;
 use crate::token_predicates::{is_keyword, is_punctuator};
-use grammar::{Action, Build, BuildFault, Code, ParseFault};
+use crate::scoped_cursor::Stop;
+use grammar::{Action, Build, BuildFault, Code};
 use tokens::{Feed, Keyword, Punctuator, Token};
 
 impl<F: Feed, B: Build> Automaton<'_, '_, '_, F, B> {
     // source → end, type types head source, and name ( params ) pdecls block source
 
     /// `source → • end`, `• type types head source` and `• name ( params ) pdecls block source`
-    pub fn source(&mut self) -> Result<Front, ParseFault>
+    pub fn source(&mut self) -> Result<Front, Stop>
         requires at { IsAt B.stands Front.Source self.old }
         ensures moves { Moves result B.denied B.stands Front.Source self.old self.new }
         ensures falls { Falls result Front.Source self.old self.new }
@@ -37,7 +38,7 @@ impl<F: Feed, B: Build> Automaton<'_, '_, '_, F, B> {
     }
 
     /// `source → • type types head source`
-    fn typed_part(&mut self) -> Result<Front, ParseFault>
+    fn typed_part(&mut self) -> Result<Front, Stop>
         requires at { IsAt B.stands Front.Source self.old }
         requires starts { IsNextKeyword keyword.Type self.old.tokens }
         ensures moves { Moves result B.denied B.stands Front.Source self.old self.new }
@@ -52,7 +53,7 @@ impl<F: Feed, B: Build> Automaton<'_, '_, '_, F, B> {
     // head → name ( params ) pdecls block, and name more ;
 
     /// `head → • name ( params ) pdecls block` and `head → • name more ;`
-    pub fn head(&mut self) -> Result<Front, ParseFault>
+    pub fn head(&mut self) -> Result<Front, Stop>
         requires at { IsAt B.stands Front.Head self.old }
         ensures moves { Moves result B.denied B.stands Front.Head self.old self.new }
         ensures falls { Falls result Front.Head self.old self.new }
@@ -74,7 +75,7 @@ impl<F: Feed, B: Build> Automaton<'_, '_, '_, F, B> {
     // block → { decls stmts }
 
     /// `• name ( params ) pdecls block`, up to the statements of the block
-    pub fn definition(&mut self) -> Result<Front, ParseFault>
+    pub fn definition(&mut self) -> Result<Front, Stop>
         requires at { IsAt B.stands Front.Definition self.old }
         ensures moves { Moves result B.denied B.stands Front.Definition self.old self.new }
         ensures falls { Falls result Front.Definition self.old self.new }
@@ -93,7 +94,7 @@ impl<F: Feed, B: Build> Automaton<'_, '_, '_, F, B> {
     }
 
     /// `block → { decls • stmts }`, of a function
-    pub fn function(&mut self) -> Result<Front, ParseFault>
+    pub fn function(&mut self) -> Result<Front, Stop>
         requires at { IsAt B.stands Front.Enclosing (with_frame Frame.Function self.old) }
         ensures moves { Moves result B.denied B.stands Front.Enclosing (with_frame Frame.Function self.old) self.new }
         ensures falls { Falls result Front.Enclosing (with_frame Frame.Function self.old) self.new }
@@ -107,7 +108,7 @@ impl<F: Feed, B: Build> Automaton<'_, '_, '_, F, B> {
     }
 
     /// `block → { decls stmts • }`, of a function: ends it with a return, and checks its length at the closing brace.
-    fn end_function(&mut self) -> Result<Front, ParseFault>
+    fn end_function(&mut self) -> Result<Front, Stop>
         requires at { IsAt B.stands Front.Enclosing (with_frame Frame.Function self.old) }
         requires starts { IsNextPunctuator punctuator.CloseCurly self.old.tokens }
         ensures moves { Moves result B.denied B.stands Front.Enclosing (with_frame Frame.Function self.old) self.new }
@@ -123,7 +124,7 @@ impl<F: Feed, B: Build> Automaton<'_, '_, '_, F, B> {
     }
 
     /// Reports the end of a function of this many variables, with its last return.
-    fn report_end(&mut self, variables: u8) -> Result<(), ParseFault>
+    fn report_end(&mut self, variables: u8) -> Result<(), Stop>
         requires follow { MayFollowAll (B.stands self.old.builder.now) (end_actions variables) }
         ensures ends { EndsFunction result B.denied B.stands variables self.old self.new }
         ensures kept { OnlyReports self.old self.new }
@@ -133,7 +134,7 @@ impl<F: Feed, B: Build> Automaton<'_, '_, '_, F, B> {
         match self.builder.act(Action::EndFunction(variables)) {
             Ok(()) => Ok(()),
             Err(BuildFault::Full) => Err(self.tokens.refusal(Code::TooMuchCode)),
-            Err(BuildFault::Memory) => Err(ParseFault::Memory),
+            Err(BuildFault::Memory) => Err(Stop::Memory),
         }
     }
 }

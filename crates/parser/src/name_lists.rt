@@ -13,7 +13,8 @@ ghost use Rattle.parser.specs.Declarations.{IsInFunction, declaration_items, dec
 use crate::roles::Declared;
 use crate::scoped_cursor::ScopedCursor;
 use crate::token_predicates::{is_keyword, is_punctuator};
-use grammar::ParseFault;
+use crate::scoped_cursor::Stop;
+
 use tokens::{Feed, Keyword, Punctuator};
 
 /// `decls → type types name more ; decls` with locals, and `pdecls` likewise with parameters
@@ -21,7 +22,7 @@ use tokens::{Feed, Keyword, Punctuator};
 pub fn declarations<F: Feed>(
     parser: &mut ScopedCursor<'_, '_, F>,
     declared: Declared,
-) -> Result<(), ParseFault>
+) -> Result<(), Stop>
     requires blocks { IsInFunction declared }
     requires ready { IsReady parser.old }
     ensures matches { Matches result (Part (declarations_of declared) ∷ []) (λ _. []) parser.old parser.new }
@@ -40,7 +41,7 @@ pub fn declarations<F: Feed>(
 fn declaration<F: Feed>(
     parser: &mut ScopedCursor<'_, '_, F>,
     declared: Declared,
-) -> Result<(), ParseFault>
+) -> Result<(), Stop>
     requires ready { IsReady parser.old }
     ensures matches { Matches result (declaration_items declared) (λ _. []) parser.old parser.new }
     ensures passes { OnOk result (Passes (declaration_items declared) [] [] parser.old parser.new) }
@@ -53,7 +54,7 @@ fn declaration<F: Feed>(
 }
 
 /// `types → type types`
-pub fn type_words<F: Feed>(parser: &mut ScopedCursor<'_, '_, F>) -> Result<(), ParseFault>
+pub fn type_words<F: Feed>(parser: &mut ScopedCursor<'_, '_, F>) -> Result<(), Stop>
     requires ready { IsReady parser.old }
     ensures matches { Matches result (Part Types ∷ []) (λ _. []) parser.old parser.new }
     ensures passes { OnOk result (Passes (Part Types ∷ []) [] [] parser.old parser.new) }
@@ -71,7 +72,7 @@ pub fn type_words<F: Feed>(parser: &mut ScopedCursor<'_, '_, F>) -> Result<(), P
 pub fn names_to_semicolon<F: Feed>(
     parser: &mut ScopedCursor<'_, '_, F>,
     declared: Declared,
-) -> Result<(), ParseFault>
+) -> Result<(), Stop>
     requires ready { IsReady parser.old }
     ensures matches { Matches result (names_items declared) (λ _. []) parser.old parser.new }
     ensures passes { OnOk result (Passes (names_items declared) [] [] parser.old parser.new) }
@@ -89,7 +90,7 @@ pub fn names_to_semicolon<F: Feed>(
 pub fn more_names<F: Feed>(
     parser: &mut ScopedCursor<'_, '_, F>,
     declared: Declared,
-) -> Result<(), ParseFault>
+) -> Result<(), Stop>
     requires ready { IsReady parser.old }
     ensures matches { Matches result (Part (More (role_of declared)) ∷ []) (λ _. []) parser.old parser.new }
     ensures passes { OnOk result (Passes (Part (More (role_of declared)) ∷ []) [] [] parser.old parser.new) }

@@ -10,7 +10,8 @@ use crate::automaton::Automaton;
 use crate::frames::{Frame, Front};
 use crate::token_predicates::is_punctuator;
 use crate::unary_ops::{IncrementOp, UnaryOp, increment_op_of, unary_op_of};
-use grammar::{Action, Build, Callee, ParseFault, UNARY_LEVEL};
+use crate::scoped_cursor::Stop;
+use grammar::{Action, Build, Callee, UNARY_LEVEL};
 use tokens::{Feed, Punctuator, Token};
 
 impl<F: Feed, B: Build> Automaton<'_, '_, '_, F, B> {
@@ -18,7 +19,7 @@ impl<F: Feed, B: Build> Automaton<'_, '_, '_, F, B> {
 
     /// `level11 → • operator level11`, `• operator name` and `• primary`
     #[inline(always)]
-    pub fn operand(&mut self, floor: u8) -> Result<Front, ParseFault>
+    pub fn operand(&mut self, floor: u8) -> Result<Front, Stop>
         requires at { IsAt B.stands (Front.Operand floor) self.old }
         ensures moves { Moves result B.denied B.stands (Front.Operand floor) self.old self.new }
         ensures falls { Falls result (Front.Operand floor) self.old self.new }
@@ -35,7 +36,7 @@ impl<F: Feed, B: Build> Automaton<'_, '_, '_, F, B> {
     /// `level11 → • operator level11`, `• operator name` and `• ( expr )`: apart from the names and constants that most
     /// operands are, so that the loop of all steps keeps its registers
     #[inline(never)]
-    fn operand_from_punctuator(&mut self, floor: u8) -> Result<Front, ParseFault>
+    fn operand_from_punctuator(&mut self, floor: u8) -> Result<Front, Stop>
         requires at { IsAt B.stands (Front.Operand floor) self.old }
         requires starts { StartsPunctuator self.old.tokens }
         ensures moves { Moves result B.denied B.stands (Front.Operand floor) self.old self.new }
@@ -56,7 +57,7 @@ impl<F: Feed, B: Build> Automaton<'_, '_, '_, F, B> {
 
     /// `level11 → • operator level11`
     #[inline(always)]
-    fn sign(&mut self, sign: UnaryOp, floor: u8) -> Result<Front, ParseFault>
+    fn sign(&mut self, sign: UnaryOp, floor: u8) -> Result<Front, Stop>
         requires at { IsAt B.stands (Front.Operand floor) self.old }
         requires starts { IsNextPunctuator (unary_punctuator sign) self.old.tokens }
         ensures moves { Moves result B.denied B.stands (Front.Operand floor) self.old self.new }
@@ -72,7 +73,7 @@ impl<F: Feed, B: Build> Automaton<'_, '_, '_, F, B> {
     }
 
     /// `level11 → operator level11 •`
-    pub fn end_sign(&mut self, sign: UnaryOp, floor: u8) -> Result<Front, ParseFault>
+    pub fn end_sign(&mut self, sign: UnaryOp, floor: u8) -> Result<Front, Stop>
         requires at { IsAt B.stands Front.Enclosing (with_frame (Frame.Sign sign floor) self.old) }
         ensures moves { Moves result B.denied B.stands Front.Enclosing (with_frame (Frame.Sign sign floor) self.old) self.new }
         ensures falls { Falls result Front.Enclosing (with_frame (Frame.Sign sign floor) self.old) self.new }
@@ -85,7 +86,7 @@ impl<F: Feed, B: Build> Automaton<'_, '_, '_, F, B> {
 
     /// `level11 → • operator name`
     #[inline(always)]
-    fn prefix_increment(&mut self, increment: IncrementOp, floor: u8) -> Result<Front, ParseFault>
+    fn prefix_increment(&mut self, increment: IncrementOp, floor: u8) -> Result<Front, Stop>
         requires at { IsAt B.stands (Front.Operand floor) self.old }
         requires starts { IsNextPunctuator (increment_punctuator increment) self.old.tokens }
         ensures moves { Moves result B.denied B.stands (Front.Operand floor) self.old self.new }
@@ -103,7 +104,7 @@ impl<F: Feed, B: Build> Automaton<'_, '_, '_, F, B> {
     // moreargs → , expr moreargs, and empty if no comma is next
 
     /// `primary → • constant`
-    fn constant(&mut self, value: u32, floor: u8) -> Result<Front, ParseFault>
+    fn constant(&mut self, value: u32, floor: u8) -> Result<Front, Stop>
         requires at { IsAt B.stands (Front.Operand floor) self.old }
         requires starts { StartsConstant value self.old.tokens }
         ensures moves { Moves result B.denied B.stands (Front.Operand floor) self.old self.new }
@@ -117,7 +118,7 @@ impl<F: Feed, B: Build> Automaton<'_, '_, '_, F, B> {
 
     /// `primary → • name ( args )`, `• name operator` and `• name`
     #[inline(always)]
-    fn named(&mut self, floor: u8) -> Result<Front, ParseFault>
+    fn named(&mut self, floor: u8) -> Result<Front, Stop>
         requires at { IsAt B.stands (Front.Operand floor) self.old }
         requires starts { StartsName self.old.tokens }
         ensures moves { Moves result B.denied B.stands (Front.Operand floor) self.old self.new }
@@ -135,7 +136,7 @@ impl<F: Feed, B: Build> Automaton<'_, '_, '_, F, B> {
 
     /// `primary → • name ( args )`, which is not the commonest operand
     #[inline(never)]
-    fn call(&mut self, floor: u8) -> Result<Front, ParseFault>
+    fn call(&mut self, floor: u8) -> Result<Front, Stop>
         requires at { IsAt B.stands (Front.Operand floor) self.old }
         requires starts { StartsCall self.old.tokens }
         ensures moves { Moves result B.denied B.stands (Front.Operand floor) self.old self.new }
@@ -155,7 +156,7 @@ impl<F: Feed, B: Build> Automaton<'_, '_, '_, F, B> {
     }
 
     /// `primary → name ( expr • moreargs )`
-    pub fn argument(&mut self, callee: Callee, floor: u8) -> Result<Front, ParseFault>
+    pub fn argument(&mut self, callee: Callee, floor: u8) -> Result<Front, Stop>
         requires at { IsAt B.stands Front.Enclosing (with_frame (Frame.Call callee floor) self.old) }
         ensures moves { Moves result B.denied B.stands Front.Enclosing (with_frame (Frame.Call callee floor) self.old) self.new }
         ensures falls { Falls result Front.Enclosing (with_frame (Frame.Call callee floor) self.old) self.new }
@@ -172,7 +173,7 @@ impl<F: Feed, B: Build> Automaton<'_, '_, '_, F, B> {
 
     /// `primary → name ( args • )`
     #[inline(always)]
-    pub fn end_call(&mut self, callee: Callee, floor: u8) -> Result<Front, ParseFault>
+    pub fn end_call(&mut self, callee: Callee, floor: u8) -> Result<Front, Stop>
         requires at { IsAt B.stands (Front.CallEnd callee floor) self.old }
         ensures moves { Moves result B.denied B.stands (Front.CallEnd callee floor) self.old self.new }
         ensures falls { Falls result (Front.CallEnd callee floor) self.old self.new }
@@ -185,7 +186,7 @@ impl<F: Feed, B: Build> Automaton<'_, '_, '_, F, B> {
 
     /// `primary → • name operator`, which is rare
     #[inline(never)]
-    fn postfix_increment(&mut self, increment: IncrementOp, floor: u8) -> Result<Front, ParseFault>
+    fn postfix_increment(&mut self, increment: IncrementOp, floor: u8) -> Result<Front, Stop>
         requires at { IsAt B.stands (Front.Operand floor) self.old }
         requires starts { StartsPostfix increment self.old.tokens }
         ensures moves { Moves result B.denied B.stands (Front.Operand floor) self.old self.new }
@@ -200,7 +201,7 @@ impl<F: Feed, B: Build> Automaton<'_, '_, '_, F, B> {
 
     /// `primary → • name`
     #[inline(always)]
-    fn variable(&mut self, floor: u8) -> Result<Front, ParseFault>
+    fn variable(&mut self, floor: u8) -> Result<Front, Stop>
         requires at { IsAt B.stands (Front.Operand floor) self.old }
         requires starts { StartsVariable self.old.tokens }
         ensures moves { Moves result B.denied B.stands (Front.Operand floor) self.old self.new }
@@ -214,7 +215,7 @@ impl<F: Feed, B: Build> Automaton<'_, '_, '_, F, B> {
 
     /// `primary → • ( expr )`
     #[inline(always)]
-    fn bracket(&mut self, floor: u8) -> Result<Front, ParseFault>
+    fn bracket(&mut self, floor: u8) -> Result<Front, Stop>
         requires at { IsAt B.stands (Front.Operand floor) self.old }
         requires starts { IsNextPunctuator punctuator.OpenRound self.old.tokens }
         ensures moves { Moves result B.denied B.stands (Front.Operand floor) self.old self.new }
@@ -229,7 +230,7 @@ impl<F: Feed, B: Build> Automaton<'_, '_, '_, F, B> {
     }
 
     /// `primary → ( expr • )`
-    pub fn end_bracket(&mut self, floor: u8) -> Result<Front, ParseFault>
+    pub fn end_bracket(&mut self, floor: u8) -> Result<Front, Stop>
         requires at { IsAt B.stands Front.Enclosing (with_frame (Frame.Bracket floor) self.old) }
         ensures moves { Moves result B.denied B.stands Front.Enclosing (with_frame (Frame.Bracket floor) self.old) self.new }
         ensures falls { Falls result Front.Enclosing (with_frame (Frame.Bracket floor) self.old) self.new }

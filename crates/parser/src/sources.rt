@@ -9,7 +9,7 @@ ghost use Rattle.parser.specs.Complete.{IsComplete, LacksDefinition};
 
 use crate::automaton::Automaton;
 use crate::frames::Frames;
-use crate::scoped_cursor::{ScopedCursor, open_cursor};
+use crate::scoped_cursor::{ScopedCursor, Stop, open_cursor};
 use grammar::{Build, Code, Diagnostic, ParseFault, Pools, Scope};
 use tokens::{Cursor, Feed};
 
@@ -79,6 +79,7 @@ pub fn parse_into<F: Feed, B: Build>(
         depth: 0,
     };
     let read = reader.run();
+    let fault = reader.tokens.fault();
     let checked = check_functions(&reader.tokens);
     let Automaton {
         tokens: parser,
@@ -90,7 +91,9 @@ pub fn parse_into<F: Feed, B: Build>(
     let _names = &*names;
     let _device = &*device;
     let _builder = &*build;
-    read?;
+    if let Err(stop) = read {
+        return Err(fault_of(stop, fault));
+    }
     checked?;
     Ok(())
 }
@@ -107,7 +110,16 @@ fn check_functions<F: Feed>(parser: &ScopedCursor<'_, '_, F>) -> Result<(), Pars
         }));
     }
     if !parser.has_main() {
-        return Err(parser.refusal(Code::NoMainFunction));
+        return Err(ParseFault::Source(parser.diagnostic(Code::NoMainFunction)));
     }
     Ok(())
+}
+
+/// Returns why a parse stopped.
+fn fault_of(stop: Stop, fault: Diagnostic) -> ParseFault {
+    match stop {
+        Stop::Source => ParseFault::Source(fault),
+        Stop::Device => ParseFault::Device,
+        Stop::Memory => ParseFault::Memory,
+    }
 }

@@ -11,7 +11,8 @@ use crate::frames::{Frame, Front, Next, Terminal};
 use crate::name_lists::declarations;
 use crate::roles::Declared;
 use crate::token_predicates::{is_keyword, is_punctuator};
-use grammar::{Action, Build, ParseFault};
+use crate::scoped_cursor::Stop;
+use grammar::{Action, Build};
 use tokens::{Feed, Keyword, Punctuator, Token};
 
 /// `(`
@@ -25,7 +26,7 @@ const SEMICOLON: Option<Terminal> = Some(Terminal::Punctuator(Punctuator::Semico
 
 impl<F: Feed, B: Build> Automaton<'_, '_, '_, F, B> {
     /// `stmt → • ;`, `• block`, `• if ( expr ) stmt elsepart`, `• while ( expr ) stmt`, `• return back ;` and `• expr ;`
-    pub fn statement(&mut self) -> Result<Front, ParseFault>
+    pub fn statement(&mut self) -> Result<Front, Stop>
         requires at { IsAt B.stands Front.Statement self.old }
         ensures moves { Moves result B.denied B.stands Front.Statement self.old self.new }
         ensures falls { Falls result Front.Statement self.old self.new }
@@ -44,7 +45,7 @@ impl<F: Feed, B: Build> Automaton<'_, '_, '_, F, B> {
     // stmt → ;
 
     /// `stmt → • ;`
-    fn empty_statement(&mut self) -> Result<Front, ParseFault>
+    fn empty_statement(&mut self) -> Result<Front, Stop>
         requires at { IsAt B.stands Front.Statement self.old }
         requires starts { IsNextPunctuator punctuator.Semicolon self.old.tokens }
         ensures moves { Moves result B.denied B.stands Front.Statement self.old self.new }
@@ -59,7 +60,7 @@ impl<F: Feed, B: Build> Automaton<'_, '_, '_, F, B> {
     // elsepart → else stmt, and empty if no `else` is next
 
     /// `stmt → • if ( expr ) stmt elsepart`
-    fn if_statement(&mut self) -> Result<Front, ParseFault>
+    fn if_statement(&mut self) -> Result<Front, Stop>
         requires at { IsAt B.stands Front.Statement self.old }
         requires starts { IsNextKeyword keyword.If self.old.tokens }
         ensures moves { Moves result B.denied B.stands Front.Statement self.old self.new }
@@ -70,7 +71,7 @@ impl<F: Feed, B: Build> Automaton<'_, '_, '_, F, B> {
     }
 
     /// `stmt → if ( expr • ) stmt elsepart`
-    pub fn if_test(&mut self) -> Result<Front, ParseFault>
+    pub fn if_test(&mut self) -> Result<Front, Stop>
         requires at { IsAt B.stands Front.Enclosing (with_frame Frame.If self.old) }
         ensures moves { Moves result B.denied B.stands Front.Enclosing (with_frame Frame.If self.old) self.new }
         ensures falls { Falls result Front.Enclosing (with_frame Frame.If self.old) self.new }
@@ -86,7 +87,7 @@ impl<F: Feed, B: Build> Automaton<'_, '_, '_, F, B> {
     }
 
     /// `stmt → if ( expr ) stmt • elsepart`
-    pub fn else_part(&mut self) -> Result<Front, ParseFault>
+    pub fn else_part(&mut self) -> Result<Front, Stop>
         requires at { IsAt B.stands Front.Enclosing (with_frame Frame.Then self.old) }
         ensures moves { Moves result B.denied B.stands Front.Enclosing (with_frame Frame.Then self.old) self.new }
         ensures falls { Falls result Front.Enclosing (with_frame Frame.Then self.old) self.new }
@@ -102,7 +103,7 @@ impl<F: Feed, B: Build> Automaton<'_, '_, '_, F, B> {
 
     /// `elsepart → • else stmt`
     #[tactic(auto, using(crate::proofs::AutomatonLaws::place))]
-    fn else_branch(&mut self) -> Result<Front, ParseFault>
+    fn else_branch(&mut self) -> Result<Front, Stop>
         requires at { IsAt B.stands Front.Enclosing (with_frame Frame.Then self.old) }
         requires starts { IsNextKeyword keyword.Else self.old.tokens }
         ensures moves { Moves result B.denied B.stands Front.Enclosing (with_frame Frame.Then self.old) self.new }
@@ -116,7 +117,7 @@ impl<F: Feed, B: Build> Automaton<'_, '_, '_, F, B> {
     }
 
     /// `elsepart → else stmt •`
-    pub fn end_if(&mut self) -> Result<Front, ParseFault>
+    pub fn end_if(&mut self) -> Result<Front, Stop>
         requires at { IsAt B.stands Front.Enclosing (with_frame Frame.Else self.old) }
         ensures moves { Moves result B.denied B.stands Front.Enclosing (with_frame Frame.Else self.old) self.new }
         ensures falls { Falls result Front.Enclosing (with_frame Frame.Else self.old) self.new }
@@ -128,7 +129,7 @@ impl<F: Feed, B: Build> Automaton<'_, '_, '_, F, B> {
     // stmt → while ( expr ) stmt
 
     /// `stmt → • while ( expr ) stmt`
-    fn while_statement(&mut self) -> Result<Front, ParseFault>
+    fn while_statement(&mut self) -> Result<Front, Stop>
         requires at { IsAt B.stands Front.Statement self.old }
         requires starts { IsNextKeyword keyword.While self.old.tokens }
         ensures moves { Moves result B.denied B.stands Front.Statement self.old self.new }
@@ -144,7 +145,7 @@ impl<F: Feed, B: Build> Automaton<'_, '_, '_, F, B> {
     }
 
     /// `stmt → while ( expr • ) stmt`
-    pub fn while_test(&mut self) -> Result<Front, ParseFault>
+    pub fn while_test(&mut self) -> Result<Front, Stop>
         requires at { IsAt B.stands Front.Enclosing (with_frame Frame.While self.old) }
         ensures moves { Moves result B.denied B.stands Front.Enclosing (with_frame Frame.While self.old) self.new }
         ensures falls { Falls result Front.Enclosing (with_frame Frame.While self.old) self.new }
@@ -160,7 +161,7 @@ impl<F: Feed, B: Build> Automaton<'_, '_, '_, F, B> {
     }
 
     /// `stmt → while ( expr ) stmt •`
-    pub fn end_while(&mut self) -> Result<Front, ParseFault>
+    pub fn end_while(&mut self) -> Result<Front, Stop>
         requires at { IsAt B.stands Front.Enclosing (with_frame Frame.Loop self.old) }
         ensures moves { Moves result B.denied B.stands Front.Enclosing (with_frame Frame.Loop self.old) self.new }
         ensures falls { Falls result Front.Enclosing (with_frame Frame.Loop self.old) self.new }
@@ -174,7 +175,7 @@ impl<F: Feed, B: Build> Automaton<'_, '_, '_, F, B> {
 
     /// `stmt → • return back ;`
     #[tactic(auto, using(crate::proofs::AutomatonLaws::place))]
-    fn return_statement(&mut self) -> Result<Front, ParseFault>
+    fn return_statement(&mut self) -> Result<Front, Stop>
         requires at { IsAt B.stands Front.Statement self.old }
         requires starts { IsNextKeyword keyword.Return self.old.tokens }
         ensures moves { Moves result B.denied B.stands Front.Statement self.old self.new }
@@ -191,7 +192,7 @@ impl<F: Feed, B: Build> Automaton<'_, '_, '_, F, B> {
     }
 
     /// `stmt → return back • ;`
-    pub fn end_return(&mut self) -> Result<Front, ParseFault>
+    pub fn end_return(&mut self) -> Result<Front, Stop>
         requires at { IsAt B.stands Front.Enclosing (with_frame Frame.Return self.old) }
         ensures moves { Moves result B.denied B.stands Front.Enclosing (with_frame Frame.Return self.old) self.new }
         ensures falls { Falls result Front.Enclosing (with_frame Frame.Return self.old) self.new }
@@ -210,7 +211,7 @@ impl<F: Feed, B: Build> Automaton<'_, '_, '_, F, B> {
 
     /// `stmt → • expr ;`
     #[tactic(auto, using(crate::proofs::AutomatonLaws::place))]
-    fn evaluation(&mut self) -> Result<Front, ParseFault>
+    fn evaluation(&mut self) -> Result<Front, Stop>
         requires at { IsAt B.stands Front.Statement self.old }
         requires starts { StartsEvaluation self.old.tokens }
         ensures moves { Moves result B.denied B.stands Front.Statement self.old self.new }
@@ -222,7 +223,7 @@ impl<F: Feed, B: Build> Automaton<'_, '_, '_, F, B> {
     }
 
     /// `stmt → expr • ;`
-    pub fn end_evaluation(&mut self) -> Result<Front, ParseFault>
+    pub fn end_evaluation(&mut self) -> Result<Front, Stop>
         requires at { IsAt B.stands Front.Enclosing (with_frame Frame.Evaluate self.old) }
         ensures moves { Moves result B.denied B.stands Front.Enclosing (with_frame Frame.Evaluate self.old) self.new }
         ensures falls { Falls result Front.Enclosing (with_frame Frame.Evaluate self.old) self.new }
@@ -242,7 +243,7 @@ impl<F: Feed, B: Build> Automaton<'_, '_, '_, F, B> {
 
     /// `block → • { decls stmts }`
     #[tactic(auto, using(crate::proofs::AutomatonLaws::place))]
-    fn begin_block(&mut self) -> Result<Front, ParseFault>
+    fn begin_block(&mut self) -> Result<Front, Stop>
         requires at { IsAt B.stands Front.Statement self.old }
         requires starts { IsNextPunctuator punctuator.OpenCurly self.old.tokens }
         ensures moves { Moves result B.denied B.stands Front.Statement self.old self.new }
@@ -259,7 +260,7 @@ impl<F: Feed, B: Build> Automaton<'_, '_, '_, F, B> {
 
     /// `block → { decls • stmts }`
     #[tactic(auto, using(crate::proofs::AutomatonLaws::place))]
-    pub fn block(&mut self) -> Result<Front, ParseFault>
+    pub fn block(&mut self) -> Result<Front, Stop>
         requires at { IsAt B.stands Front.Enclosing (with_frame Frame.Block self.old) }
         ensures moves { Moves result B.denied B.stands Front.Enclosing (with_frame Frame.Block self.old) self.new }
         ensures falls { Falls result Front.Enclosing (with_frame Frame.Block self.old) self.new }
