@@ -24,7 +24,7 @@ HERE = os.path.dirname(os.path.abspath(__file__))
 WEB = os.path.join(HERE, "..", "..", "web")
 STILL = ("still.r", b"main(){}")
 MOST_SEED = 2**64 - 1
-MOST_BYTES = 400_000
+MOST_BYTES = 415_000
 CALLS = 1000
 # Of a larger source crobots-stages shows nothing.
 MOST_SHOWN = 40_960

@@ -20,7 +20,7 @@ BOMB = 60_000_000
 LARGEST = (" " * 999 + "\n") * 1048 + " " * 577
 DISGUISED = "live.r\n  1) won 9 tied 0 lost 0 \u202egnp.evil\u2066\x07"
 # what a browser loads to play, and what else lies beside it to be read
-MOST_BYTES, MOST_PACKED = 850_000, 260_000
+MOST_BYTES, MOST_PACKED = 850_000, 265_000
 MOST_READ, MOST_READ_PACKED = 210_000, 70_000
 # pages to read that lie beside the page, and not in the folder of the others
 BESIDE = ("manual.html", "about.html")
